@@ -45,3 +45,7 @@ isListed code = ltb 0 (sizeOf code)
 -- the types that are read with a sign
 unfoldable pub isSigned : ℕ → Bool
 isSigned code = cond (eqb code D) true (cond (eqb code W) true (eqb code B))
+
+-- "high ud for UQ only": the one type of more than four bytes
+unfoldable pub hasHighWord : ℕ → Bool
+hasHighWord code = eqb (sizeOf code) 8

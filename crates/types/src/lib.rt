@@ -1,6 +1,6 @@
 // The element types: code, size and sign of each, in this one place.
 ghost use mathlib.Core.Path.{_≡_};
-ghost use Rattle.types.specs.Types.{sizeOf, isListed, isSigned};
+ghost use Rattle.types.specs.Types.{sizeOf, isListed, isSigned, hasHighWord};
 
 pub const UD: u8 = 0;
 
@@ -62,4 +62,11 @@ pub fn is_signed(code: u8) -> bool
         return true;
     }
     code == B
+}
+
+// Whether an immediate of this type stores a high word after its low one.
+pub fn has_high_word(code: u8) -> bool
+    ensures { λ r. ⌜ r ≡ hasHighWord code ⌝ }
+{
+    size_of(code) == 8
 }

@@ -1,0 +1,154 @@
+-- What the crates above may know of fields: forward, what a field gave stands there and is good; backward, where a good field's bytes
+-- stand, it is read. Lists of fields: bytes and refusals of two lists, one after the other.
+use mathlib.Core.Path.{_≡_, refl, sym, ap, _∙_, subst}
+use mathlib.Core.List.{List, [], _∷_, _++_, append-assoc, append-nil}
+use mathlib.Core.Bool.{Bool, true, false, cond, true≢false}
+use Prim.Native.Nat.{ℕ, _+_}
+use native.Mathlib.Omega.{arith}
+use lib.ListN.{length, drop, length-append}
+use lib.Dec.{eqb}
+use borrow.Author.Tests.{eqb-true, eq-eqb}
+use Rattle.little_endian.specs.LittleEndian.{bytesOf, Bytes}
+use Rattle.little_endian.proofs.Laws.{length-bytes}
+use Rattle.reader.specs.declared.Cursor.{Cursor}
+use Rattle.reader.specs.Reading.{cursor}
+use Rattle.reader.proofs.Laws.{Passed, passed-then, past, cond-then, byte-then, word-then, dword-then, byte-next, word-next, dword-next}
+use Rattle.fields.specs.declared.ByteRule.{ByteRule}
+use Rattle.fields.specs.declared.ByteRule.the-variants as rule
+use Rattle.fields.specs.declared.WordRule.{WordRule}
+use Rattle.fields.specs.declared.ByteField.{ByteField}
+use Rattle.fields.specs.declared.ByteField.the-variants as byte
+use Rattle.fields.specs.declared.WordField.{WordField}
+use Rattle.fields.specs.declared.WordField.the-variants as word
+use Rattle.fields.specs.declared.DwordField.{DwordField}
+use Rattle.fields.specs.declared.DwordField.the-variants as dword
+use Rattle.fields.specs.declared.Field.{Field}
+use Rattle.fields.specs.declared.Field.the-variants as field
+use Rattle.fields.specs.Rules.{byteRefusal, wordRefusal}
+use Rattle.fields.specs.Reading.{byteFieldAt, wordFieldAt, dwordFieldAt, onByteField, onWordField, onDwordField}
+use Rattle.fields.specs.Layout.{fieldBytes, fieldRefusal, layoutBytes, layoutRefusal}
+
+-- ---- lists of fields
+
+pub layout-append : (fs gs : List Field) → layoutBytes (fs ++ gs) ≡ layoutBytes fs ++ layoutBytes gs
+unfolding layoutBytes
+layout-append [] gs = refl
+layout-append (f ∷ fs) gs = ap (λ (l : List ℕ). fieldBytes f ++ l) (layout-append fs gs) ∙ sym (append-assoc (fieldBytes f) (layoutBytes fs) (layoutBytes gs))
+
+refusal-turn : (n m k both : ℕ) (b : Bool) → eqb n 0 ≡ b → both ≡ cond (eqb m 0) k m → cond b both n ≡ cond (eqb (cond b m n) 0) k (cond b m n)
+refusal-turn n m k both true e h = h
+refusal-turn n m k both false e h = rw e
+
+-- the first refusal of two lists: that of the first one, if it has any
+pub refusal-append : (fs gs : List Field) → layoutRefusal (fs ++ gs) ≡ cond (eqb (layoutRefusal fs) 0) (layoutRefusal gs) (layoutRefusal fs)
+unfolding layoutRefusal
+refusal-append [] gs = refl
+refusal-append (f ∷ fs) gs = refusal-turn (fieldRefusal f) (layoutRefusal fs) (layoutRefusal gs) (layoutRefusal (fs ++ gs)) (eqb (fieldRefusal f) 0) refl (refusal-append fs gs)
+
+-- both lists are good where the two together are
+pub good-append : (fs gs : List Field) → layoutRefusal (fs ++ gs) ≡ 0 → (layoutRefusal fs ≡ 0) × (layoutRefusal gs ≡ 0)
+good-append fs gs e = split (eqb (layoutRefusal fs) 0) refl (sym (refusal-append fs gs) ∙ e)
+  where
+    split : (b : Bool) → eqb (layoutRefusal fs) 0 ≡ b → cond b (layoutRefusal gs) (layoutRefusal fs) ≡ 0 → (layoutRefusal fs ≡ 0) × (layoutRefusal gs ≡ 0)
+    split true t h = (eqb-true (layoutRefusal fs) 0 t, h)
+    split false t h = absurd (true≢false (sym (eq-eqb (layoutRefusal fs) 0 h) ∙ t))
+
+pub append-good : (fs gs : List Field) → layoutRefusal fs ≡ 0 → layoutRefusal gs ≡ 0 → layoutRefusal (fs ++ gs) ≡ 0
+append-good fs gs e h = refusal-append fs gs ∙ rw (e, h)
+
+-- ---- forward
+
+-- from `at` to the cursor stand the bytes of these fields, and all are good
+pub record Parsed (s : List ℕ) (at : ℕ) (c : Cursor) (fs : List Field) : Type 0 where
+  pub passed : Passed s at c (layoutBytes fs)
+  pub good : layoutRefusal fs ≡ 0
+
+pub parsed-then : {s : List ℕ} {at : ℕ} {c d : Cursor} {fs gs : List Field} → Parsed s at c fs → Parsed s (c .at) d gs → Parsed s at d (fs ++ gs)
+parsed-then {s} {at} {c} {d} {fs} {gs} p q =
+    record {
+      passed = subst (λ (l : List ℕ). Passed s at d l) (sym (layout-append fs gs)) (passed-then (p .passed) (q .passed));
+      good = append-good fs gs (p .good) (q .good);
+    }
+
+-- one field
+one-bytes : (f : Field) → layoutBytes (f ∷ []) ≡ fieldBytes f
+unfolding layoutBytes
+one-bytes f = append-nil (fieldBytes f)
+
+one-good : (f : Field) → fieldRefusal f ≡ 0 → layoutRefusal (f ∷ []) ≡ 0
+unfolding layoutRefusal
+one-good f e = rw e
+
+good-one : (f : Field) → layoutRefusal (f ∷ []) ≡ 0 → fieldRefusal f ≡ 0
+unfolding layoutRefusal
+good-one f e = told (eqb (fieldRefusal f) 0) refl e
+  where
+    told : (b : Bool) → eqb (fieldRefusal f) 0 ≡ b → cond b 0 (fieldRefusal f) ≡ 0 → fieldRefusal f ≡ 0
+    told true t h = eqb-true (fieldRefusal f) 0 t
+    told false t h = h
+
+parsed-one : {s : List ℕ} {at : ℕ} {c : Cursor} (f : Field) → Passed s at c (fieldBytes f) → fieldRefusal f ≡ 0 → Parsed s at c (f ∷ [])
+parsed-one {s} {at} {c} f p e = record { passed = subst (λ (l : List ℕ). Passed s at c l) (sym (one-bytes f)) p; good = one-good f e }
+
+module _ {X : Type 0} (P : X → Type 0) (s : List ℕ) (b : Bytes s) (at : ℕ) {refused : ℕ → X} {got : ℕ → Cursor → X} (no : (n : ℕ) → P (refused n)) where
+  pub byte-field-then : (rule : ByteRule) → ((v : ℕ) (c : Cursor) → Parsed s at c (field.Byte rule v ∷ []) → P (got v c)) → P (onByteField (byteFieldAt rule s at) refused got)
+  unfolding byteFieldAt fieldBytes fieldRefusal
+  byte-field-then rule on =
+      byte-then (λ r. P (onByteField r refused got)) s at b (no 1) (λ v c p.
+      cond-then (λ r. P (onByteField r refused got)) (eqb (byteRefusal rule v) 0)
+      (λ e. on v c (parsed-one (field.Byte rule v) p (eqb-true (byteRefusal rule v) 0 e)))
+      (λ _. no (byteRefusal rule v)))
+
+  pub word-field-then : (rule : WordRule) → ((v : ℕ) (c : Cursor) → Parsed s at c (field.Word rule v ∷ []) → P (got v c)) → P (onWordField (wordFieldAt rule s at) refused got)
+  unfolding wordFieldAt fieldBytes fieldRefusal
+  word-field-then rule on =
+      word-then (λ r. P (onWordField r refused got)) s at b (no 1) (λ v c p.
+      cond-then (λ r. P (onWordField r refused got)) (eqb (wordRefusal rule v) 0)
+      (λ e. on v c (parsed-one (field.Word rule v) p (eqb-true (wordRefusal rule v) 0 e)))
+      (λ _. no (wordRefusal rule v)))
+
+  pub dword-field-then : ((v : ℕ) (c : Cursor) → Parsed s at c (field.Dword v ∷ []) → P (got v c)) → P (onDwordField (dwordFieldAt s at) refused got)
+  unfolding dwordFieldAt fieldBytes fieldRefusal
+  dword-field-then on = dword-then (λ r. P (onDwordField r refused got)) s at b (no 1) (λ v c p. on v c (parsed-one (field.Dword v) p refl))
+
+-- ---- backward
+
+-- the answer `r` of a read at `at`: `got` with the cursor past these bytes, where `t` stands
+pub record There {A : Type 0} (r : A) (got : Cursor → A) (s : List ℕ) (at : ℕ) (fs : List Field) (t : List ℕ) : Type 0 where
+  pub next : Cursor
+  pub is : r ≡ got next
+  pub end : next .at ≡ at + length (layoutBytes fs)
+  pub rest : drop (next .at) s ≡ t
+
+-- the bytes of two lists of fields, and what follows them
+pub layout-parts : (fs gs : List Field) (t : List ℕ) → layoutBytes (fs ++ gs) ++ t ≡ layoutBytes fs ++ (layoutBytes gs ++ t)
+layout-parts fs gs t = ap (λ (l : List ℕ). l ++ t) (layout-append fs gs) ∙ append-assoc (layoutBytes fs) (layoutBytes gs) t
+
+-- one field whose bytes stand there is whole and good
+module _ (s : List ℕ) (at : ℕ) (t : List ℕ) where
+  field-end : (n : ℕ) (f : Field) → length (fieldBytes f) ≡ n → at + n ≡ at + length (layoutBytes (f ∷ []))
+  field-end n f e = ap (λ (k : ℕ). at + k) (sym e ∙ ap length (sym (one-bytes f)))
+
+  field-there : (f : Field) → drop at s ≡ layoutBytes (f ∷ []) ++ t → drop at s ≡ fieldBytes f ++ t
+  field-there f e = e ∙ ap (λ (l : List ℕ). l ++ t) (one-bytes f)
+
+  pub byte-field-next : (rule : ByteRule) (v : ℕ) → layoutRefusal (field.Byte rule v ∷ []) ≡ 0 → drop at s ≡ layoutBytes (field.Byte rule v ∷ []) ++ t → There (byteFieldAt rule s at) (λ c. byte.Got v c) s at (field.Byte rule v ∷ []) t
+  unfolding byteFieldAt fieldBytes fieldRefusal
+  byte-field-next rule v g e =
+      let f = field.Byte rule v in
+      let r = byte-next s at v t (field-there f e) in
+      record { next = cursor (at + 1); is = rw (r .0, good-one f g); end = field-end 1 f (length-bytes 1 v); rest = r .1 }
+
+  pub word-field-next : (rule : WordRule) (v : ℕ) → layoutRefusal (field.Word rule v ∷ []) ≡ 0 → drop at s ≡ layoutBytes (field.Word rule v ∷ []) ++ t → There (wordFieldAt rule s at) (λ c. word.Got v c) s at (field.Word rule v ∷ []) t
+  unfolding wordFieldAt fieldBytes fieldRefusal
+  word-field-next rule v g e =
+      let f = field.Word rule v in
+      let r = word-next s at v t (field-there f e) in
+      record { next = cursor (at + 2); is = rw (r .0, good-one f g); end = field-end 2 f (length-bytes 2 v); rest = r .1 }
+
+  pub dword-field-next : (v : ℕ) → drop at s ≡ layoutBytes (field.Dword v ∷ []) ++ t → There (dwordFieldAt s at) (λ c. dword.Got v c) s at (field.Dword v ∷ []) t
+  unfolding dwordFieldAt fieldBytes fieldRefusal
+  dword-field-next v e =
+      let f = field.Dword v in
+      let r = dword-next s at v t (field-there f e) in
+      record { next = cursor (at + 4); is = rw (r .0); end = field-end 4 f (length-bytes 4 v); rest = r .1 }
