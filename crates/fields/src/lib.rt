@@ -1,8 +1,8 @@
 // A field is one stored number of an instruction: the rule that judges it, and reading it by that rule.
 use reader::Cursor;
 use reader::ReadByte;
-use reader::ReadWord;
 use reader::ReadDword;
+use reader::ReadWord;
 ghost use mathlib.Core.Path.{_≡_};
 ghost use Rattle.fields.specs.Rules.{judged, execGood, scatterExecGood, destinationTagGood, sourceTagGood, channelsGood, sourceCountGood, predicateGood, regionGood, tagRefusal, byteRefusal, wordRefusal};
 ghost use Rattle.fields.specs.Reading.{byteFieldAt, wordFieldAt, dwordFieldAt};
@@ -56,11 +56,7 @@ pub enum Field {
 pub fn judge(good: bool, number: u8) -> u8
     ensures { λ r. ⌜ r ≡ judged good number ⌝ }
 {
-    if good {
-        0
-    } else {
-        number
-    }
+    if good { 0 } else { number }
 }
 
 fn exec_good(v: u8) -> bool
@@ -110,11 +106,7 @@ fn source_tag_good(v: u8) -> bool
 fn tag_refusal(good: bool, v: u8) -> u8
     ensures { λ r. ⌜ r ≡ tagRefusal good v ⌝ }
 {
-    if v / 64 == 0 {
-        judge(good, 4)
-    } else {
-        3
-    }
+    if v / 64 == 0 { judge(good, 4) } else { 3 }
 }
 
 fn predicate_good(v: u16) -> bool
