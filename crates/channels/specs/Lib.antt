@@ -1,0 +1,5 @@
+pub mod Bits
+pub mod Exec
+pub mod Predicate
+pub mod Lanes
+pub mod Prepared

@@ -1,0 +1,38 @@
+-- What is worked out once for an instruction, and the lane test that is left. `proofs/Laws.antt` shows that the two together are `laneOn`.
+use Prim.Native.Nat.{ℕ, _+_}
+use mathlib.Core.Bool.{Bool, true, false, cond, _&&_, _||_}
+use lib.Dec.{ltb, eqb}
+use Rattle.channels.specs.Bits.{bit}
+use Rattle.channels.specs.Exec.{execOf}
+use Rattle.channels.specs.Predicate.{hasPredicate, predicateCombine, ANY, ALL, predicateInverse}
+use Rattle.channels.specs.Lanes.{anyBit, allBits, inverted}
+use Rattle.channels.specs.declared.Predicate.{Predicate}
+use Rattle.channels.specs.declared.Predicate.the-variants as predicate
+use Rattle.channels.specs.declared.Lanes.{Lanes}
+
+-- any and all, which are the same in every lane, are worked out; a predicate taken bit by bit is kept with its inverse
+unfoldable pub settledPredicate : ℕ → ℕ → ℕ → Predicate
+settledPredicate exec pred bits =
+    cond (hasPredicate pred)
+    (cond (eqb (predicateCombine pred) ANY) (predicate.Whole (inverted (predicateInverse pred) (anyBit exec bits)))
+    (cond (eqb (predicateCombine pred) ALL) (predicate.Whole (inverted (predicateInverse pred) (allBits exec bits)))
+    (predicate.Each bits (predicateInverse pred))))
+    (predicate.Whole true)
+
+unfoldable pub lanesOf : ℕ → ℕ → ℕ → ℕ → Lanes
+lanesOf exec pred mask bits =
+    record { exec = execOf exec; mask = mask; predicate = settledPredicate exec pred bits }
+
+abbrev pub onPredicate {ℓ} : {X : Type ℓ} → Predicate → (Bool → X) → (ℕ → Bool → X) → X
+onPredicate (predicate.Whole value) f g = f value
+onPredicate (predicate.Each bits inverse) f g = g bits inverse
+
+-- the predicate agrees at a place, which is a lane with the offset added
+unfoldable pub agreesAt : Predicate → ℕ → Bool
+agreesAt p place = onPredicate p (λ value. value) (λ bits inverse. inverted inverse (bit bits place))
+
+unfoldable pub isOn : Lanes → ℕ → Bool
+isOn lanes n =
+    cond (ltb n (lanes .exec .size))
+    ((lanes .exec .unmasked || bit (lanes .mask) (n + lanes .exec .offset)) && agreesAt (lanes .predicate) (n + lanes .exec .offset))
+    false
