@@ -8,18 +8,18 @@ use Rattle.channels.specs.Bits.{bit, someBelow, everyBelow}
 use Rattle.channels.specs.Exec.{execSize, execOffset, noMask}
 use Rattle.channels.specs.Predicate.{hasPredicate, predicateCombine, ANY, ALL, predicateInverse}
 
--- "any .. over the ExecSize bits": those from the offset on, as the predicate's first element is the one at the offset (page 003, "Predication")
-unfoldable pub anyBit : ℕ → ℕ → Bool
-anyBit exec bits = someBelow (execSize exec) (λ k. bit bits (k + execOffset exec))
+-- "any, or all, over the ExecSize bits": those from the offset on (page 003: PMask[n] = Pred[n + mask_control_offset])
+unfoldable pub anyBit : ℕ → ℕ → ℕ → Bool
+anyBit size offset bits = someBelow size (λ k. bit bits (k + offset))
 
-unfoldable pub allBits : ℕ → ℕ → Bool
-allBits exec bits = everyBelow (execSize exec) (λ k. bit bits (k + execOffset exec))
+unfoldable pub allBits : ℕ → ℕ → ℕ → Bool
+allBits size offset bits = everyBelow size (λ k. bit bits (k + offset))
 
 -- "bit n+offset; or any, or all": the reserved code, which decoding refuses, counts as none
 unfoldable pub combined : ℕ → ℕ → ℕ → ℕ → Bool
 combined exec pred bits n =
-    cond (eqb (predicateCombine pred) ANY) (anyBit exec bits)
-    (cond (eqb (predicateCombine pred) ALL) (allBits exec bits)
+    cond (eqb (predicateCombine pred) ANY) (anyBit (execSize exec) (execOffset exec) bits)
+    (cond (eqb (predicateCombine pred) ALL) (allBits (execSize exec) (execOffset exec) bits)
     (bit bits (n + execOffset exec)))
 
 unfoldable pub inverted : Bool → Bool → Bool

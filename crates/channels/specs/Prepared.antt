@@ -6,22 +6,28 @@ use Rattle.channels.specs.Bits.{bit}
 use Rattle.channels.specs.Exec.{execOf}
 use Rattle.channels.specs.Predicate.{hasPredicate, predicateCombine, ANY, ALL, predicateInverse}
 use Rattle.channels.specs.Lanes.{anyBit, allBits, inverted}
+use Rattle.channels.specs.declared.Exec.{Exec}
 use Rattle.channels.specs.declared.Predicate.{Predicate}
 use Rattle.channels.specs.declared.Predicate.the-variants as predicate
 use Rattle.channels.specs.declared.Lanes.{Lanes}
 
--- any and all, which are the same in every lane, are worked out; a predicate taken bit by bit is kept with its inverse
-unfoldable pub settledPredicate : ℕ → ℕ → ℕ → Predicate
+-- any and all are the same in every lane and are worked out; a predicate taken bit by bit is kept with its inverse
+unfoldable pub combinedPredicate : Exec → ℕ → Bool → ℕ → Predicate
+combinedPredicate exec code inverse bits =
+    cond (eqb code ANY) (predicate.Whole (inverted inverse (anyBit (exec .size) (exec .offset) bits)))
+    (cond (eqb code ALL) (predicate.Whole (inverted inverse (allBits (exec .size) (exec .offset) bits)))
+    (predicate.Each bits inverse))
+
+-- without a predicate every lane agrees
+unfoldable pub settledPredicate : Exec → ℕ → ℕ → Predicate
 settledPredicate exec pred bits =
     cond (hasPredicate pred)
-    (cond (eqb (predicateCombine pred) ANY) (predicate.Whole (inverted (predicateInverse pred) (anyBit exec bits)))
-    (cond (eqb (predicateCombine pred) ALL) (predicate.Whole (inverted (predicateInverse pred) (allBits exec bits)))
-    (predicate.Each bits (predicateInverse pred))))
+    (combinedPredicate exec (predicateCombine pred) (predicateInverse pred) bits)
     (predicate.Whole true)
 
 unfoldable pub lanesOf : ℕ → ℕ → ℕ → ℕ → Lanes
 lanesOf exec pred mask bits =
-    record { exec = execOf exec; mask = mask; predicate = settledPredicate exec pred bits }
+    record { exec = execOf exec; mask = mask; predicate = settledPredicate (execOf exec) pred bits }
 
 abbrev pub onPredicate {ℓ} : {X : Type ℓ} → Predicate → (Bool → X) → (ℕ → Bool → X) → X
 onPredicate (predicate.Whole value) f g = f value

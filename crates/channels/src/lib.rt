@@ -6,7 +6,7 @@ ghost use Rattle.channels.specs.Bits.{bit, someBelow};
 ghost use Rattle.channels.specs.Exec.{execOf};
 ghost use Rattle.channels.specs.Predicate.{hasPredicate, predicateId, predicateCombine, predicateInverse};
 ghost use Rattle.channels.specs.Lanes.{inverted};
-ghost use Rattle.channels.specs.Prepared.{settledPredicate, lanesOf, agreesAt, isOn};
+ghost use Rattle.channels.specs.Prepared.{combinedPredicate, settledPredicate, lanesOf, agreesAt, isOn};
 
 const ANY: u8 = 1;
 
@@ -73,11 +73,7 @@ pub fn predicate_inverse(pred: u16) -> bool
 fn bit_at(word: u32, n: usize) -> bool
     ensures { λ r. ⌜ r ≡ bit word n ⌝ }
 {
-    if n < 32 {
-        (word >> n) % 2 == 1
-    } else {
-        false
-    }
+    if n < 32 { (word >> n) % 2 == 1 } else { false }
 }
 
 // Whether one of the size bits from the offset on has this value.
@@ -101,33 +97,38 @@ fn invert(inverse: bool, value: bool) -> bool
     inverse != value
 }
 
-// The predicate with any and all worked out. Some bit is 1: any. No bit is 0: all.
-fn settle(exec: u8, pred: u16, bits: u32) -> Predicate
+// Any and all, worked out: some bit is 1, no bit is 0.
+fn combine(exec: Exec, code: u8, inverse: bool, bits: u32) -> Predicate
+    ensures { λ r. ⌜ r ≡ combinedPredicate exec code inverse bits ⌝ }
+{
+    if code == ANY {
+        return Predicate::Whole(invert(inverse, some_bit(bits, exec, true)));
+    }
+    if code == ALL {
+        return Predicate::Whole(invert(inverse, !some_bit(bits, exec, false)));
+    }
+    Predicate::Each(bits, inverse)
+}
+
+fn settle(exec: Exec, pred: u16, bits: u32) -> Predicate
     ensures { λ r. ⌜ r ≡ settledPredicate exec pred bits ⌝ }
 {
     if has_predicate(pred) {
-        let e = split(exec);
-        let inverse = predicate_inverse(pred);
-        let combine = predicate_combine(pred);
-        if combine == ANY {
-            return Predicate::Whole(invert(inverse, some_bit(bits, e, true)));
-        }
-        if combine == ALL {
-            return Predicate::Whole(invert(inverse, !some_bit(bits, e, false)));
-        }
-        Predicate::Each(bits, inverse)
+        combine(exec, predicate_combine(pred), predicate_inverse(pred), bits)
     } else {
         Predicate::Whole(true)
     }
 }
 
+// `bits` are those of the predicate that the pred word names; without one they do not matter.
 pub fn lanes_of(exec: u8, pred: u16, mask: u32, bits: u32) -> Lanes
     ensures { λ r. ⌜ r ≡ lanesOf exec pred mask bits ⌝ }
 {
+    let e = split(exec);
     Lanes {
-        exec: split(exec),
+        exec: e,
         mask: mask,
-        predicate: settle(exec, pred, bits),
+        predicate: settle(e, pred, bits),
     }
 }
 
