@@ -1,7 +1,6 @@
 -- The size and the offset of an exec byte: short forms and bounds.
-use Prim.Native.Nat.{ℕ, _+_, _*_, _/_, _%_, _^_, _≤_, _<_}
-use mathlib.Core.Path.{_≡_, refl, ap}
-use mathlib.Core.Bool.{Bool}
+use Prim.Native.Nat.{ℕ, _*_, _/_, _%_, _^_, _≤_, _<_}
+use mathlib.Core.Path.{_≡_}
 use native.Mathlib.Nat.{pow-le-pow-right, div-one}
 use native.Mathlib.Omega.{arith}
 use lib.Dec.{leb, lit<}

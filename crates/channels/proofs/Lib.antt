@@ -1,2 +1,5 @@
 pub mod BitLaws
+pub mod BelowLaws
 pub mod ExecLaws
+pub mod Laws
+pub mod Worked

@@ -26,5 +26,5 @@ execOffset exec = 4 * (maskNumber exec - 1)
 unfoldable pub noMask : ℕ → Bool
 noMask exec = leb 8 (maskControl exec)
 
-unfoldable pub execOf : ℕ → Exec
+abbrev pub execOf : ℕ → Exec
 execOf exec = record { size = execSize exec; offset = execOffset exec; unmasked = noMask exec }

@@ -4,7 +4,8 @@
 use Prim.Native.Nat.{ℕ, _+_}
 use mathlib.Core.Bool.{Bool, true, cond, not, _&&_, _||_}
 use lib.Dec.{ltb, eqb}
-use Rattle.channels.specs.Bits.{bit, someBelow, everyBelow}
+use Rattle.channels.specs.Bits.{bit}
+use Rattle.channels.specs.Below.{someBelow, everyBelow}
 use Rattle.channels.specs.Exec.{execSize, execOffset, noMask}
 use Rattle.channels.specs.Predicate.{hasPredicate, predicateCombine, ANY, ALL, predicateInverse}
 

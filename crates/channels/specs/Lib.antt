@@ -1,4 +1,5 @@
 pub mod Bits
+pub mod Below
 pub mod Exec
 pub mod Predicate
 pub mod Lanes

@@ -1,6 +1,6 @@
 -- What is worked out once for an instruction, and the lane test that is left. `proofs/Laws.antt` shows that the two together are `laneOn`.
 use Prim.Native.Nat.{ℕ, _+_}
-use mathlib.Core.Bool.{Bool, true, false, cond, _&&_, _||_}
+use mathlib.Core.Bool.{Bool, true, cond, _&&_, _||_}
 use lib.Dec.{ltb, eqb}
 use Rattle.channels.specs.Bits.{bit}
 use Rattle.channels.specs.Exec.{execOf}
@@ -39,6 +39,5 @@ agreesAt p place = onPredicate p (λ value. value) (λ bits inverse. inverted in
 
 unfoldable pub isOn : Lanes → ℕ → Bool
 isOn lanes n =
-    cond (ltb n (lanes .exec .size))
-    ((lanes .exec .unmasked || bit (lanes .mask) (n + lanes .exec .offset)) && agreesAt (lanes .predicate) (n + lanes .exec .offset))
-    false
+    ltb n (lanes .exec .size)
+    && ((lanes .exec .unmasked || bit (lanes .mask) (n + lanes .exec .offset)) && agreesAt (lanes .predicate) (n + lanes .exec .offset))

@@ -1,8 +1,9 @@
 // Which lanes of an instruction are on: by its exec byte, its pred word, the execution mask and the predicate's bits.
 ghost use mathlib.Core.Path.{_≡_};
-ghost use mathlib.Core.Bool.{_||_, Bool·beq};
+ghost use mathlib.Core.Bool.{Bool·beq};
 ghost use Prim.Native.Nat.{ℕ, _+_};
-ghost use Rattle.channels.specs.Bits.{bit, someBelow};
+ghost use Rattle.channels.specs.Bits.{bit};
+ghost use Rattle.channels.specs.Below.{someBelow};
 ghost use Rattle.channels.specs.Exec.{execOf};
 ghost use Rattle.channels.specs.Predicate.{hasPredicate, predicateId, predicateCombine, predicateInverse};
 ghost use Rattle.channels.specs.Lanes.{inverted};
@@ -35,6 +36,7 @@ pub struct Lanes {
 pub fn split(exec: u8) -> Exec
     ensures { λ r. ⌜ r ≡ execOf exec ⌝ }
 {
+    // M1..M8, then M1_NM..M8_NM
     let control = exec / 16;
     let k = control % 8 + 1;
     Exec {
@@ -154,10 +156,7 @@ impl Lanes {
             if self.exec.unmasked {
                 return agrees_at(predicate, place);
             }
-            if bit_at(self.mask, place) {
-                return agrees_at(predicate, place);
-            }
-            false
+            bit_at(self.mask, place) & agrees_at(predicate, place)
         } else {
             false
         }

@@ -2,7 +2,7 @@
 use borrow.Author.Needs.{needs}
 use borrow.Author.Tests.{eq-eqb, ne-eqb}
 use Rattle.channels.specs.Prepared.{combinedPredicate}
-use Rattle.channels.proofs.BitLaws.{some-true, none-false}
+use Rattle.channels.proofs.BelowLaws.{some-true, none-false}
 use Rattle.channels.proofs.combine.Statement.{statement}
 use Rattle.channels.proofs.combine.Tie as tie
 

@@ -18,21 +18,12 @@ returns-2 c =
     let a = c .before in
     let b = a .before in
     let d = b .before in
-    let e = d .before in
-    rw (lt-ltb _ _ (e .if1 .taken), d .if2 .left, ← b .bit-at .ensures, a .if3 .taken, ← c .agrees-at2 .ensures)
+    rw (lt-ltb _ _ (d .if1 .taken), b .if2 .left, ← a .bit-at .ensures, ← c .agrees-at2 .ensures)
 
 returns-3 : tie.Need-returns-3
 unfolding isOn
 returns-3 c =
-    let a = c .before in
-    let b = a .before in
-    let d = b .before in
-    rw (lt-ltb _ _ (d .if1 .taken), b .if2 .left, ← a .bit-at .ensures, c .if3 .left)
-
-returns-4 : tie.Need-returns-4
-unfolding isOn
-returns-4 c =
     rw (le-ltb _ _ (c .if1 .left))
 
 pub on-spec : {M : Type 1} → statement M
-on-spec = tie.close (tie.spec (λ c. search needs) (λ c. search needs) (λ c. search needs) (λ c κs. search needs) returns (λ c κs. search needs) (λ c κs. search needs) returns-2 returns-3 returns-4)
+on-spec = tie.close (tie.spec (λ c. search needs) (λ c. search needs) (λ c. search needs) (λ c κs. search needs) returns (λ c κs. search needs) (λ c κs. search needs) returns-2 returns-3)
