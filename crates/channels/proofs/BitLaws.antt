@@ -1,4 +1,4 @@
--- A law of bits.
+-- The bits past the end of a word.
 use Prim.Native.Nat.{ℕ, _^_, _≤_, _<_}
 use mathlib.Core.Path.{_≡_}
 use mathlib.Core.Bool.{false}
@@ -7,7 +7,6 @@ use native.Mathlib.Omega.{arith}
 use lib.Dec.{lit<}
 use Rattle.channels.specs.Bits.{bit}
 
--- past the 32 bits of a word there are zeros
 pub bit-past : (word n : ℕ) → word < 2 ^ 32 → 32 ≤ n → bit word n ≡ false
 unfolding bit
 bit-past word n h p =

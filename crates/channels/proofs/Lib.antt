@@ -1,5 +1,5 @@
 pub mod BitLaws
 pub mod BelowLaws
 pub mod ExecLaws
-pub mod Laws
+pub mod LaneLaws
 pub mod Worked

@@ -11,12 +11,12 @@ use Rattle.channels.specs.Exec.{execSize, maskControl, maskNumber, execO
 use Rattle.channels.specs.Predicate.{hasPredicate, predicateId, predicateCombine, predicateInverse}
 use Rattle.channels.specs.Lanes.{anyBit, allBits, combined, inverted, predicateAgrees, maskAllows, laneOn}
 
-abbrev Each : {A : Type 0} → (A → Type 0) → List A → Type 0
+unfoldable pub Each : {A : Type 0} → (A → Type 0) → List A → Type 0
 Each P [] = Unit
 Each P (row ∷ rows) = P row × Each P rows
 
 -- the numbers below n that pass a test, the highest first
-abbrev passing : (ℕ → Bool) → ℕ → List ℕ
+unfoldable pub passing : (ℕ → Bool) → ℕ → List ℕ
 passing test zero = []
 passing test (suc n) = cond (test n) (n ∷ passing test n) (passing test n)
 
@@ -74,7 +74,7 @@ abbrev LaneHolds : LaneRow → Type 0
 LaneHolds row = passing (laneOn (row .exec) (row .pred) (row .mask) (row .bits)) 32 ≡ row .on
 
 pub worked : Each ExecHolds execs × (Each PredHolds preds × Each LaneHolds lanes)
-unfolding bit bitField someBelow everyBelow execSize maskControl maskNumber execOffset noMask hasPredicate predicateId predicateCombine predicateInverse anyBit allBits combined inverted predicateAgrees maskAllows laneOn
+unfolding Each passing bit bitField someBelow everyBelow execSize maskControl maskNumber execOffset noMask hasPredicate predicateId predicateCombine predicateInverse anyBit allBits combined inverted predicateAgrees maskAllows laneOn
 worked = (
   ((refl, refl), ((refl, refl), ((refl, refl), tt))),
   (

@@ -1,4 +1,4 @@
--- What is worked out once for an instruction, and the lane test that is left. `proofs/Laws.antt` shows that the two together are `laneOn`.
+-- What is worked out once for an instruction, and the lane test that is left. `proofs/LaneLaws.antt` shows that the two together are `laneOn`.
 use Prim.Native.Nat.{ℕ, _+_}
 use mathlib.Core.Bool.{Bool, true, cond, _&&_, _||_}
 use lib.Dec.{ltb, eqb}
@@ -14,24 +14,24 @@ use Rattle.channels.specs.declared.Lanes.{Lanes}
 -- any and all are the same in every lane and are worked out; a predicate taken bit by bit is kept with its inverse
 unfoldable pub combinedPredicate : Exec → ℕ → Bool → ℕ → Predicate
 combinedPredicate exec code inverse bits =
-    cond (eqb code ANY) (predicate.Whole (inverted inverse (anyBit (exec .size) (exec .offset) bits)))
-    (cond (eqb code ALL) (predicate.Whole (inverted inverse (allBits (exec .size) (exec .offset) bits)))
-    (predicate.Each bits inverse))
+    cond (eqb code ANY) (predicate.Uniform (inverted inverse (anyBit (exec .size) (exec .offset) bits)))
+    (cond (eqb code ALL) (predicate.Uniform (inverted inverse (allBits (exec .size) (exec .offset) bits)))
+    (predicate.PerLane bits inverse))
 
 -- without a predicate every lane agrees
-unfoldable pub settledPredicate : Exec → ℕ → ℕ → Predicate
-settledPredicate exec pred bits =
+unfoldable pub predicateOf : Exec → ℕ → ℕ → Predicate
+predicateOf exec pred bits =
     cond (hasPredicate pred)
     (combinedPredicate exec (predicateCombine pred) (predicateInverse pred) bits)
-    (predicate.Whole true)
+    (predicate.Uniform true)
 
 unfoldable pub lanesOf : ℕ → ℕ → ℕ → ℕ → Lanes
 lanesOf exec pred mask bits =
-    record { exec = execOf exec; mask = mask; predicate = settledPredicate (execOf exec) pred bits }
+    record { exec = execOf exec; mask = mask; predicate = predicateOf (execOf exec) pred bits }
 
 abbrev pub onPredicate {ℓ} : {X : Type ℓ} → Predicate → (Bool → X) → (ℕ → Bool → X) → X
-onPredicate (predicate.Whole value) f g = f value
-onPredicate (predicate.Each bits inverse) f g = g bits inverse
+onPredicate (predicate.Uniform value) f g = f value
+onPredicate (predicate.PerLane bits inverse) f g = g bits inverse
 
 -- the predicate agrees at a place, which is a lane with the offset added
 unfoldable pub agreesAt : Predicate → ℕ → Bool

@@ -7,22 +7,23 @@ ghost use Rattle.channels.specs.Below.{someBelow};
 ghost use Rattle.channels.specs.Exec.{execOf};
 ghost use Rattle.channels.specs.Predicate.{hasPredicate, predicateId, predicateCombine, predicateInverse};
 ghost use Rattle.channels.specs.Lanes.{inverted};
-ghost use Rattle.channels.specs.Prepared.{combinedPredicate, settledPredicate, lanesOf, agreesAt, isOn};
+ghost use Rattle.channels.specs.Prepared.{combinedPredicate, predicateOf, lanesOf, agreesAt, isOn};
 
 const ANY: u8 = 1;
 
 const ALL: u8 = 2;
 
+// The parts of an exec byte: ExecSize, the offset, and whether NM is chosen.
 pub struct Exec {
     pub size: u8,
     pub offset: u8,
     pub unmasked: bool,
 }
 
-// What the predicate says: the same in every lane, or a bit for each lane, inverted or not.
+// What the predicate says: the same in every lane, or a bit of the word for each lane, inverted or not.
 pub enum Predicate {
-    Whole(bool),
-    Each(u32, bool),
+    Uniform(bool),
+    PerLane(u32, bool),
 }
 
 // What is worked out once for an instruction.
@@ -87,7 +88,7 @@ fn some_bit(bits: u32, exec: Exec, value: bool) -> bool
     let mut found = false;
     let mut k: usize = 0;
     while k < size {
-        found = found | (bit_at(bits, k + offset) == value);
+        found |= bit_at(bits, k + offset) == value;
         k += 1;
     }
     found
@@ -104,21 +105,21 @@ fn combine(exec: Exec, code: u8, inverse: bool, bits: u32) -> Predicate
     ensures { λ r. ⌜ r ≡ combinedPredicate exec code inverse bits ⌝ }
 {
     if code == ANY {
-        return Predicate::Whole(invert(inverse, some_bit(bits, exec, true)));
+        return Predicate::Uniform(invert(inverse, some_bit(bits, exec, true)));
     }
     if code == ALL {
-        return Predicate::Whole(invert(inverse, !some_bit(bits, exec, false)));
+        return Predicate::Uniform(invert(inverse, !some_bit(bits, exec, false)));
     }
-    Predicate::Each(bits, inverse)
+    Predicate::PerLane(bits, inverse)
 }
 
-fn settle(exec: Exec, pred: u16, bits: u32) -> Predicate
-    ensures { λ r. ⌜ r ≡ settledPredicate exec pred bits ⌝ }
+fn predicate_of(exec: Exec, pred: u16, bits: u32) -> Predicate
+    ensures { λ r. ⌜ r ≡ predicateOf exec pred bits ⌝ }
 {
     if has_predicate(pred) {
         combine(exec, predicate_combine(pred), predicate_inverse(pred), bits)
     } else {
-        Predicate::Whole(true)
+        Predicate::Uniform(true)
     }
 }
 
@@ -129,8 +130,8 @@ pub fn lanes_of(exec: u8, pred: u16, mask: u32, bits: u32) -> Lanes
     let e = split(exec);
     Lanes {
         exec: e,
-        mask: mask,
-        predicate: settle(e, pred, bits),
+        mask,
+        predicate: predicate_of(e, pred, bits),
     }
 }
 
@@ -138,8 +139,8 @@ fn agrees_at(predicate: Predicate, place: usize) -> bool
     ensures { λ r. ⌜ r ≡ agreesAt predicate place ⌝ }
 {
     match predicate {
-        Predicate::Whole(value) => value,
-        Predicate::Each(bits, inverse) => invert(inverse, bit_at(bits, place)),
+        Predicate::Uniform(value) => value,
+        Predicate::PerLane(bits, inverse) => invert(inverse, bit_at(bits, place)),
     }
 }
 

@@ -8,7 +8,7 @@ returns : tie.Need-returns
 unfolding lanesOf
 returns c =
     let a = c .before in
-    rw (← a .split .ensures, ← c .settle .ensures)
+    rw (← a .split .ensures, ← c .predicate-of .ensures)
 
 pub lanes-of-spec : {M : Type 1} → statement M
 lanes-of-spec = tie.close (tie.spec (λ c κs. search needs) (λ c κs. search needs) returns)

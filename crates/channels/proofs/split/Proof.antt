@@ -14,6 +14,7 @@ use Rattle.channels.proofs.split.Tie as tie
 exact : (power : ℕ) → power ≤ 128 → 1 * power % 256 ≡ power
 exact power h = omega arith
 
+-- one added and taken away
 back : (k : ℕ) → 4 * (k + 1 - 1) ≡ 4 * k
 back k = omega arith
 
