@@ -3,7 +3,7 @@
 use mathlib.Core.Path.{_≡_, refl, sym, ap, _∙_, subst}
 use mathlib.Core.List.{List, [], _∷_, _++_, append-assoc, append-nil}
 use mathlib.Core.Bool.{Bool, true, false, cond, true≢false}
-use Prim.Native.Nat.{ℕ, _+_}
+use Prim.Native.Nat.{ℕ, suc, _+_}
 use native.Mathlib.Omega.{arith}
 use lib.ListN.{length, drop, length-append}
 use lib.Dec.{eqb}
@@ -24,7 +24,7 @@ use Rattle.fields.specs.declared.DwordField.{DwordField}
 use Rattle.fields.specs.declared.DwordField.the-variants as dword
 use Rattle.fields.specs.declared.Field.{Field}
 use Rattle.fields.specs.declared.Field.the-variants as field
-use Rattle.fields.specs.Rules.{byteRefusal, wordRefusal}
+use Rattle.fields.specs.Rules.{judged, byteRefusal, wordRefusal}
 use Rattle.fields.specs.Reading.{byteFieldAt, wordFieldAt, dwordFieldAt, onByteField, onWordField, onDwordField}
 use Rattle.fields.specs.Layout.{fieldBytes, fieldRefusal, layoutBytes, layoutRefusal}
 
@@ -111,6 +111,16 @@ module _ {X : Type 0} (P : X → Type 0) (s : List ℕ) (b : Bytes s) (at : ℕ)
   unfolding dwordFieldAt fieldBytes fieldRefusal
   dword-field-then on = dword-then (λ r. P (onDwordField r refused got)) s at b (no 1) (λ v c p. on v c (parsed-one (field.Dword v) p refl))
 
+-- a high word that the type lacks takes no byte
+pub parsed-lacking : {s : List ℕ} {at : ℕ} {c : Cursor} {fs : List Field} → Parsed s at c fs → Parsed s (c .at) c (field.Lacking 0 ∷ [])
+unfolding fieldBytes fieldRefusal
+parsed-lacking {s} {at} {c} p = parsed-one (field.Lacking 0) (record { end = omega arith; inside = p .passed .inside; bytes = refl }) refl
+
+-- what begins with a byte has a byte
+pub byte-first : (rule : ByteRule) (v : ℕ) (fs : List Field) → length (layoutBytes (field.Byte rule v ∷ fs)) ≡ suc (length (layoutBytes fs))
+unfolding layoutBytes fieldBytes
+byte-first rule v fs = length-append (bytesOf 1 v) (layoutBytes fs) ∙ ap (λ (n : ℕ). n + length (layoutBytes fs)) (length-bytes 1 v) ∙ omega arith
+
 -- ---- backward
 
 -- the answer `r` of a read at `at`: `got` with the cursor past these bytes, where `t` stands
@@ -123,6 +133,22 @@ pub record There {A : Type 0} (r : A) (got : Cursor → A) (s : List ℕ) (at : 
 -- the bytes of two lists of fields, and what follows them
 pub layout-parts : (fs gs : List Field) (t : List ℕ) → layoutBytes (fs ++ gs) ++ t ≡ layoutBytes fs ++ (layoutBytes gs ++ t)
 layout-parts fs gs t = ap (λ (l : List ℕ). l ++ t) (layout-append fs gs) ∙ append-assoc (layoutBytes fs) (layoutBytes gs) t
+
+pub ends : (fs gs : List Field) {at : ℕ} (c d : Cursor) → c .at ≡ at + length (layoutBytes fs) → d .at ≡ c .at + length (layoutBytes gs) → d .at ≡ at + length (layoutBytes (fs ++ gs))
+ends fs gs c d p q = rw (layout-append fs gs, length-append (layoutBytes fs) (layoutBytes gs)) (omega arith)
+
+-- the high word of an immediate whose type lacks it is 0
+pub lacking-zero : (v : ℕ) → layoutRefusal (field.Lacking v ∷ []) ≡ 0 → v ≡ 0
+unfolding fieldRefusal judged
+lacking-zero v g = told (eqb v 0) refl (good-one (field.Lacking v) g)
+  where
+    told : (b : Bool) → eqb v 0 ≡ b → cond b 0 3 ≡ 0 → v ≡ 0
+    told true t h = eqb-true v 0 t
+    told false t h = absurd (omega (arith, h))
+
+pub lacking-rest : (v : ℕ) (t : List ℕ) → layoutBytes (field.Lacking v ∷ []) ++ t ≡ t
+unfolding layoutBytes fieldBytes
+lacking-rest v t = refl
 
 -- one field whose bytes stand there is whole and good
 module _ (s : List ℕ) (at : ℕ) (t : List ℕ) where

@@ -1,0 +1,38 @@
+-- The size and the offset of an exec byte: short forms and bounds.
+use Prim.Native.Nat.{ℕ, _*_, _/_, _%_, _^_, _≤_, _<_}
+use mathlib.Core.Path.{_≡_}
+use native.Mathlib.Nat.{pow-le-pow-right, div-one}
+use native.Mathlib.Omega.{arith}
+use lib.Dec.{leb, lit<}
+use Rattle.channels.specs.Bits.{bitField}
+use Rattle.channels.specs.Exec.{execSize, maskControl, maskNumber, execOffset, noMask}
+
+two-to : (k n : ℕ) → k ≤ n → 2 ^ k ≤ 2 ^ n
+two-to k n h = pow-le-pow-right {n = 2} (lit< tt) h
+
+pub exec-size : (exec : ℕ) → execSize exec ≡ 2 ^ (exec % 8)
+unfolding execSize bitField
+exec-size exec = rw (div-one exec)
+
+pub exec-offset : (exec : ℕ) → execOffset exec ≡ 4 * (exec / 16 % 8)
+unfolding execOffset maskNumber maskControl bitField
+exec-offset exec = omega arith
+
+pub no-mask : (exec : ℕ) → exec < 256 → noMask exec ≡ leb 8 (exec / 16)
+unfolding noMask maskControl bitField
+no-mask exec h =
+    let e : exec / 16 % 16 ≡ exec / 16 = omega arith in
+    rw e
+
+-- every size is at least 1 and at most 128, and that of a code which decoding lets pass at most 32
+pub size-at-least : (exec : ℕ) → 1 ≤ execSize exec
+size-at-least exec = rw (exec-size exec) (two-to 0 (exec % 8) (omega arith))
+
+pub size-at-most : (exec : ℕ) → execSize exec ≤ 128
+size-at-most exec = rw (exec-size exec) (two-to (exec % 8) 7 (omega arith))
+
+pub good-size-at-most : (exec : ℕ) → exec % 8 < 6 → execSize exec ≤ 32
+good-size-at-most exec h = rw (exec-size exec) (two-to (exec % 8) 5 (omega arith))
+
+pub offset-at-most : (exec : ℕ) → execOffset exec ≤ 28
+offset-at-most exec = omega (arith, exec-offset exec)

@@ -1,0 +1,5 @@
+pub mod BitLaws
+pub mod BelowLaws
+pub mod ExecLaws
+pub mod LaneLaws
+pub mod Worked

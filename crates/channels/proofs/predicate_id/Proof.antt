@@ -1,0 +1,13 @@
+-- `channels::predicate_id` meets its contract: bits 0-11 are the remainder by 2^12.
+use native.Mathlib.Omega.{arith}
+use Rattle.channels.specs.Bits.{bitField}
+use Rattle.channels.specs.Predicate.{predicateId}
+use Rattle.channels.proofs.predicate_id.Statement.{statement}
+use Rattle.channels.proofs.predicate_id.Tie as tie
+
+returns : tie.Need-returns
+unfolding predicateId bitField
+returns c = omega arith
+
+pub predicate-id-spec : {M : Type 1} → statement M
+predicate-id-spec = tie.close (tie.spec returns)

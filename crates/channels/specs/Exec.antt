@@ -1,0 +1,30 @@
+-- The exec byte. Document 01, "Bytes of an instruction": "Exec byte: bits 0-2 sizes 1, 2, 4, 8, 16, 32 (codes 6, 7 reserved ..);
+-- bits 4-7 M1..M8, then M1_NM..M8_NM. Mk and Mk_NM have offset 4(k-1)."
+use Prim.Native.Nat.{ℕ, _+_, _-_, _*_, _%_, _^_}
+use mathlib.Core.Bool.{Bool}
+use lib.Dec.{leb}
+use Rattle.channels.specs.Bits.{bitField}
+use Rattle.channels.specs.declared.Exec.{Exec}
+
+-- "bits 0-2 sizes 1, 2, 4, 8, 16, 32". Decoding refuses codes 6 and 7. Here they give 64 and 128, which a run would refuse by 8.
+unfoldable pub execSize : ℕ → ℕ
+execSize exec = 2 ^ bitField exec 0 2
+
+-- "bits 4-7 M1..M8, then M1_NM..M8_NM", counted from 0
+unfoldable pub maskControl : ℕ → ℕ
+maskControl exec = bitField exec 4 7
+
+-- k of Mk and Mk_NM
+unfoldable pub maskNumber : ℕ → ℕ
+maskNumber exec = maskControl exec % 8 + 1
+
+-- "Mk and Mk_NM have offset 4(k-1)"
+unfoldable pub execOffset : ℕ → ℕ
+execOffset exec = 4 * (maskNumber exec - 1)
+
+-- one of M1_NM..M8_NM is chosen
+unfoldable pub noMask : ℕ → Bool
+noMask exec = leb 8 (maskControl exec)
+
+abbrev pub execOf : ℕ → Exec
+execOf exec = record { size = execSize exec; offset = execOffset exec; unmasked = noMask exec }

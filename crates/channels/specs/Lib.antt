@@ -1,0 +1,6 @@
+pub mod Bits
+pub mod Below
+pub mod Exec
+pub mod Predicate
+pub mod Lanes
+pub mod Prepared
