@@ -194,22 +194,26 @@ impl Draft {
 fn draft_shl(x: Shl) -> Draft
     ensures { λ r. ⌜ r ≡ withFields (shlFields x) emptyDraft ⌝ }
 {
+    let destination = x.destination;
+    let source = x.source;
+    let count = x.count;
     Draft::empty()
         .with_field(Field::Byte(ByteRule::Free, 0x24))
         .with_control(ByteRule::Exec, x.control)
-        .with_operand(ByteRule::DestinationTag, x.destination)
-        .with_operand(ByteRule::SourceTag, x.source)
-        .with_operand(ByteRule::SourceTag, x.count)
+        .with_operand(ByteRule::DestinationTag, destination)
+        .with_operand(ByteRule::SourceTag, source)
+        .with_operand(ByteRule::SourceTag, count)
 }
 
 fn draft_gather(x: Gather) -> Draft
     ensures { λ r. ⌜ r ≡ withFields (gatherFields x) emptyDraft ⌝ }
 {
+    let offset = x.offset;
     Draft::empty()
         .with_field(Field::Byte(ByteRule::Free, 0x78))
         .with_control(ByteRule::Exec, x.control)
         .with_access(x.access)
-        .with_operand(ByteRule::SourceTag, x.offset)
+        .with_operand(ByteRule::SourceTag, offset)
         .with_raw(x.element_offset)
         .with_raw(x.destination)
 }
@@ -217,13 +221,14 @@ fn draft_gather(x: Gather) -> Draft
 fn draft_scatter(x: Scatter) -> Draft
     ensures { λ r. ⌜ r ≡ withFields (scatterFields x) emptyDraft ⌝ }
 {
+    let address = x.address;
     Draft::empty()
         .with_field(Field::Byte(ByteRule::Free, 0x4e))
         .with_field(Field::Byte(ByteRule::Free, 0x07))
         .with_control(ByteRule::ScatterExec, x.control)
         .with_field(Field::Byte(ByteRule::Channels, x.channels))
         .with_field(Field::Word(WordRule::Free, x.scale))
-        .with_operand(ByteRule::SourceTag, x.address)
+        .with_operand(ByteRule::SourceTag, address)
         .with_raw(x.element_offset)
         .with_raw(x.source)
 }
@@ -231,17 +236,18 @@ fn draft_scatter(x: Scatter) -> Draft
 fn draft_raw_send(x: RawSend) -> Draft
     ensures { λ r. ⌜ r ≡ withFields (rawSendFields x) emptyDraft ⌝ }
 {
+    let descriptor = x.descriptor;
     Draft::empty()
         .with_field(Field::Byte(ByteRule::Free, 0x5d))
         .with_field(Field::Byte(ByteRule::Modifiers, x.modifiers))
         .with_control(ByteRule::Exec, x.control)
         .with_message(x.message)
-        .with_operand(ByteRule::SourceTag, x.descriptor)
+        .with_operand(ByteRule::SourceTag, descriptor)
         .with_raw(x.source)
         .with_raw(x.destination)
 }
 
-fn draft(instruction: Instruction) -> Draft
+fn drafted(instruction: Instruction) -> Draft
     ensures { λ r. ⌜ r ≡ withFields (instructionFields instruction) emptyDraft ⌝ }
 {
     match instruction {
@@ -255,7 +261,7 @@ fn draft(instruction: Instruction) -> Draft
 // Puts the first `count` bytes at the buffer's start.
 fn copy(bytes: [u8; 64], count: usize, buffer: &mut [u8])
     requires { ⌜ (count ≤ 64) × (count ≤ length (now buffer)) ⌝ }
-    ensures { ⌜ now (buffer .exit) ≡ take count bytes ++ drop count (now (buffer .entry)) ⌝ }
+    ensures { λ _. ⌜ now (buffer .exit) ≡ take count bytes ++ drop count (now (buffer .entry)) ⌝ }
 {
     let mut i = 0;
     while i < count {
@@ -268,7 +274,7 @@ fn copy(bytes: [u8; 64], count: usize, buffer: &mut [u8])
 pub fn encode(instruction: Instruction, buffer: &mut [u8]) -> Encoded
     ensures { λ r. ⌜ (r ≡ encodedIn (length (now (buffer .entry))) instruction) × (now (buffer .exit) ≡ encodedInto (now (buffer .entry)) instruction) ⌝ }
 {
-    let draft = draft(instruction);
+    let draft = drafted(instruction);
     let number = draft.number;
     let count = draft.length;
     let bytes = draft.bytes;
