@@ -260,7 +260,7 @@ fn drafted(instruction: Instruction) -> Draft
 
 // Puts the first `count` bytes at the buffer's start.
 fn copy(bytes: [u8; 64], count: usize, buffer: &mut [u8])
-    requires { ⌜ (count ≤ 64) × (count ≤ length (now buffer)) ⌝ }
+    requires { ⌜ (count ≤ length bytes) × (count ≤ length (now buffer)) ⌝ }
     ensures { λ _. ⌜ now (buffer .exit) ≡ take count bytes ++ drop count (now (buffer .entry)) ⌝ }
 {
     let mut i = 0;
