@@ -1,0 +1,4 @@
+pub mod Tables
+pub mod Surfaces
+pub mod Variables
+pub mod Lengths
