@@ -1,4 +1,5 @@
-pub mod Tables
-pub mod Surfaces
-pub mod Variables
 pub mod Lengths
+pub mod Every
+pub mod Variables
+pub mod Surfaces
+pub mod Tables

@@ -2,10 +2,11 @@
 ghost use mathlib.Core.Path.{_≡_};
 ghost use Prim.Native.Nat.{_+_, _<_, _≤_};
 ghost use lib.ListN.{length};
-ghost use Rattle.tables.specs.Lengths.{registersGood, memoryGood, taintGood, lengthsGood};
-ghost use Rattle.tables.specs.Variables.{lineGood, variableGood};
-ghost use Rattle.tables.specs.Surfaces.{surfaceLength, surfaceStart};
-ghost use Rattle.tables.specs.Tables.{tables, every, variableAt, variablesGood, surfaceGood, surfacesGood, tablesGood};
+ghost use Rattle.tables.specs.Lengths.{registersGood, addressesGood, taintGood, lengthsGood};
+ghost use Rattle.tables.specs.Every.{every};
+ghost use Rattle.tables.specs.Variables.{lineGood, variableGood, variableGoodAt, variablesGood};
+ghost use Rattle.tables.specs.Surfaces.{surfaceLength, surfaceStart, surfaceGoodAt, surfacesGood};
+ghost use Rattle.tables.specs.Tables.{tables, tablesGood};
 
 pub const REGISTER_SIZE: usize = 32;
 
@@ -31,17 +32,17 @@ pub struct Lengths {
 fn registers_good(bytes: usize) -> bool
     ensures { λ r. ⌜ r ≡ registersGood bytes ⌝ }
 {
-    if bytes % REGISTER_SIZE == 0 { bytes <= 4096 } else { false }
+    bytes % REGISTER_SIZE == 0 && bytes <= 4096
 }
 
 // The last byte of memory, if there is one, has an address.
-fn memory_good(base: u64, bytes: usize) -> bool
-    ensures { λ r. ⌜ r ≡ memoryGood base bytes ⌝ }
+fn addresses_good(base: u64, bytes: usize) -> bool
+    ensures { λ r. ⌜ r ≡ addressesGood base bytes ⌝ }
 {
     if bytes == 0 {
         return true;
     }
-    if bytes <= 4096 { (bytes - 1) as u64 <= LAST_ADDRESS - base } else { false }
+    (bytes - 1) as u64 <= LAST_ADDRESS - base
 }
 
 fn taint_good(lengths: Lengths) -> bool
@@ -65,7 +66,10 @@ fn lengths_good(lengths: Lengths) -> bool
     if 4096 < lengths.kernel {
         return false;
     }
-    if !memory_good(lengths.base, lengths.memory) {
+    if 4096 < lengths.memory {
+        return false;
+    }
+    if !addresses_good(lengths.base, lengths.memory) {
         return false;
     }
     taint_good(lengths)
@@ -105,7 +109,7 @@ fn variable_good(registers: usize, code: u8, start: u16, count: u16) -> bool
 
 fn every_variable_good(registers: usize, types: &[u8], starts: &[u16], counts: &[u16]) -> bool
     requires { ⌜ (length (now starts) ≡ length (now types)) × (length (now counts) ≡ length (now types)) ⌝ }
-    ensures { λ r. ⌜ r ≡ every (variableAt registers (now (types .entry)) (now (starts .entry)) (now (counts .entry))) (length (now (types .entry))) ⌝ }
+    ensures { λ r. ⌜ r ≡ every (variableGoodAt registers (now (types .entry)) (now (starts .entry)) (now (counts .entry))) (length (now (types .entry))) ⌝ }
 {
     let mut i = 0;
     while i < types.len() {
@@ -154,7 +158,7 @@ pub fn surface_start(surfaces: &[u16], index: u8) -> usize
 }
 
 fn every_surface_good(surfaces: &[u16]) -> bool
-    ensures { λ r. ⌜ r ≡ every (surfaceGood (now (surfaces .entry))) (length (now (surfaces .entry))) ⌝ }
+    ensures { λ r. ⌜ r ≡ every (surfaceGoodAt (now (surfaces .entry))) (length (now (surfaces .entry))) ⌝ }
 {
     let mut i = 0;
     while i < surfaces.len() {

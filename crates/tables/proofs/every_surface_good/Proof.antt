@@ -9,23 +9,24 @@ use lib.ListN.{length, getD}
 use borrow.Author.Needs.{needs}
 use borrow.Author.Tests.{le-leb, lt-leb}
 use Rattle.tables.specs.Surfaces.{surfaceLength}
-use Rattle.tables.specs.Tables.{every, surfaceGood}
+use Rattle.tables.specs.Every.{every}
+use Rattle.tables.specs.Surfaces.{surfaceGoodAt}
 use Rattle.tables.proofs.Every.{every-none, every-next, every-fails}
 use Rattle.tables.proofs.every_surface_good.Statement.{statement}
 use Rattle.tables.proofs.every_surface_good.Tie as tie
 
 abbrev Inv-loop : tie.InvT-loop
-Inv-loop surfaces i₀ i = (i ≤ length surfaces) × (every (surfaceGood surfaces) i ≡ true)
+Inv-loop surfaces i₀ i = (i ≤ length surfaces) × (every (surfaceGoodAt surfaces) i ≡ true)
 
 abbrev μ-loop : tie.MeasureT-loop
 μ-loop surfaces i₀ i = length surfaces - i
 
-good : (surfaces : List ℕ) (k : ℕ) → getD surfaces k 0 ≤ 1024 → surfaceGood surfaces k ≡ true
-unfolding surfaceGood surfaceLength
+good : (surfaces : List ℕ) (k : ℕ) → getD surfaces k 0 ≤ 1024 → surfaceGoodAt surfaces k ≡ true
+unfolding surfaceGoodAt surfaceLength
 good surfaces k h = le-leb _ _ h
 
-bad : (surfaces : List ℕ) (k : ℕ) → 1024 < getD surfaces k 0 → surfaceGood surfaces k ≡ false
-unfolding surfaceGood surfaceLength
+bad : (surfaces : List ℕ) (k : ℕ) → 1024 < getD surfaces k 0 → surfaceGoodAt surfaces k ≡ false
+unfolding surfaceGoodAt surfaceLength
 bad surfaces k h = lt-leb _ _ h
 
 loop-holds : tie.Need-loop-holds Inv-loop μ-loop

@@ -9,19 +9,20 @@ use lib.ListN.{length, getD}
 use borrow.Author.Needs.{needs}
 use borrow.Author.Tests.{not-true, not-false}
 use Rattle.tables.specs.Variables.{variableGood}
-use Rattle.tables.specs.Tables.{every, variableAt}
+use Rattle.tables.specs.Every.{every}
+use Rattle.tables.specs.Variables.{variableGoodAt}
 use Rattle.tables.proofs.Every.{every-none, every-next, every-fails}
 use Rattle.tables.proofs.every_variable_good.Statement.{statement}
 use Rattle.tables.proofs.every_variable_good.Tie as tie
 
 abbrev Inv-loop : tie.InvT-loop
-Inv-loop registers types starts counts i₀ i = (i ≤ length types) × (every (variableAt registers types starts counts) i ≡ true)
+Inv-loop registers types starts counts i₀ i = (i ≤ length types) × (every (variableGoodAt registers types starts counts) i ≡ true)
 
 abbrev μ-loop : tie.MeasureT-loop
 μ-loop registers types starts counts i₀ i = length types - i
 
-at : (registers : ℕ) (types starts counts : List ℕ) (k : ℕ) (answer truth : Bool) → answer ≡ variableGood registers (getD types k 0) (getD starts k 0) (getD counts k 0) → answer ≡ truth → variableAt registers types starts counts k ≡ truth
-unfolding variableAt
+at : (registers : ℕ) (types starts counts : List ℕ) (k : ℕ) (answer truth : Bool) → answer ≡ variableGood registers (getD types k 0) (getD starts k 0) (getD counts k 0) → answer ≡ truth → variableGoodAt registers types starts counts k ≡ truth
+unfolding variableGoodAt
 at registers types starts counts k answer truth e f = sym e ∙ f
 
 loop-holds : tie.Need-loop-holds Inv-loop μ-loop

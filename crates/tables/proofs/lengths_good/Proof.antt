@@ -21,21 +21,31 @@ returns-2 c =
 returns-3 : tie.Need-returns-3
 unfolding lengthsGood
 returns-3 c =
-    let a = c .before in
-    let b = a .before in
-    let d = b .before .before in
-    let e = d .before in
-    rw (← e .registers-good .ensures, not-false (e .registers-good .result) (d .if1 .left), le-leb _ _ (b .if2 .left), ← a .memory-good .ensures, not-true (a .memory-good .result) (c .if3 .taken))
+    let a = c .before .before in
+    let b = a .before .before in
+    let d = b .before in
+    rw (← d .registers-good .ensures, not-false (d .registers-good .result) (b .if1 .left), le-leb _ _ (a .if2 .left), lt-leb _ _ (c .if3 .taken))
 
 returns-4 : tie.Need-returns-4
 unfolding lengthsGood
 returns-4 c =
     let a = c .before in
     let b = a .before in
-    let d = b .before in
+    let d = b .before .before in
     let e = d .before .before in
     let f = e .before in
-    rw (← f .registers-good .ensures, not-false (f .registers-good .result) (e .if1 .left), le-leb _ _ (d .if2 .left), ← b .memory-good .ensures, not-false (b .memory-good .result) (a .if3 .left), ← c .taint-good .ensures)
+    rw (← f .registers-good .ensures, not-false (f .registers-good .result) (e .if1 .left), le-leb _ _ (d .if2 .left), le-leb _ _ (b .if3 .left), ← a .addresses-good .ensures, not-true (a .addresses-good .result) (c .if4 .taken))
+
+returns-5 : tie.Need-returns-5
+unfolding lengthsGood
+returns-5 c =
+    let a = c .before in
+    let b = a .before in
+    let d = b .before in
+    let e = d .before .before in
+    let f = e .before .before in
+    let g = f .before in
+    rw (← g .registers-good .ensures, not-false (g .registers-good .result) (f .if1 .left), le-leb _ _ (e .if2 .left), le-leb _ _ (d .if3 .left), ← b .addresses-good .ensures, not-false (b .addresses-good .result) (a .if4 .left), ← c .taint-good .ensures)
 
 pub lengths-good-spec : {M : Type 1} → statement M
-lengths-good-spec = tie.close (tie.spec (λ c κs. search needs) returns returns-2 (λ c κs. search needs) returns-3 (λ c κs. search needs) returns-4)
+lengths-good-spec = tie.close (tie.spec (λ c κs. search needs) returns returns-2 returns-3 (λ c κs. search needs) returns-4 (λ c κs. search needs) returns-5)

@@ -1,7 +1,7 @@
 -- `tables::surfaces_good` meets its contract: at each return, what the calls and tests on the way say picks the case of `Tables`.
 use borrow.Author.Needs.{needs}
 use borrow.Author.Tests.{le-leb, lt-leb, not-true, not-false}
-use Rattle.tables.specs.Tables.{surfacesGood}
+use Rattle.tables.specs.Surfaces.{surfacesGood}
 use Rattle.tables.proofs.surfaces_good.Statement.{statement}
 use Rattle.tables.proofs.surfaces_good.Tie as tie
 

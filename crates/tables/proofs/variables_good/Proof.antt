@@ -1,7 +1,7 @@
 -- `tables::variables_good` meets its contract: at each return, what the calls and tests on the way say picks the case of `Tables`.
 use borrow.Author.Needs.{needs}
 use borrow.Author.Tests.{le-leb, lt-leb, eq-eqb, ne-eqb}
-use Rattle.tables.specs.Tables.{variablesGood}
+use Rattle.tables.specs.Variables.{variablesGood}
 use Rattle.tables.proofs.variables_good.Statement.{statement}
 use Rattle.tables.proofs.variables_good.Tie as tie
 
