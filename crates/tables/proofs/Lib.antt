@@ -1,1 +1,6 @@
+pub mod All
 pub mod Every
+pub mod Limits
+pub mod Placement
+pub mod SurfacePlaces
+pub mod Laws

@@ -1,7 +1,7 @@
 -- What is known of every element size: it is 0, 1, 2, 4 or 8, and not 0 for a listed type.
 use mathlib.Core.Path.{_≡_, refl}
 use mathlib.Core.Bool.{Bool, true, false, cond}
-use Prim.Native.Nat.{ℕ, _*_, _/_, _≤_, _<_}
+use Prim.Native.Nat.{ℕ, _*_, _/_, _%_, _≤_, _<_}
 use native.Mathlib.Omega.{arith}
 use lib.Dec.{eqb}
 use borrow.Author.Tests.{ltb-true, lt-ltb}
@@ -41,6 +41,7 @@ listed-each P one two four eight code e =
     size-each (λ size. 0 < size → P size) (λ (h : 0 < 0). absurd (omega arith)) (λ _. one) (λ _. two) (λ _. four) (λ _. eight) code
     (listed-size code e)
 
--- a register of 32 bytes is a whole number of elements
-pub register-whole : (code : ℕ) → isListed code ≡ true → 32 / sizeOf code * sizeOf code ≡ 32
-register-whole = listed-each (λ size. 32 / size * size ≡ 32) refl refl refl refl
+-- a register, of 32 bytes or of any multiple of 8, is a whole number of elements
+pub register-whole : (register : ℕ) → register % 8 ≡ 0 → (code : ℕ) → isListed code ≡ true → register / sizeOf code * sizeOf code ≡ register
+register-whole register h =
+    listed-each (λ size. register / size * size ≡ register) (omega arith) (omega arith) (omega arith) (omega arith)
