@@ -2,9 +2,11 @@
 use mathlib.Core.Path.{_≡_, refl}
 use mathlib.Core.Bool.{Bool, true, false}
 use mathlib.Core.List.{List, [], _∷_}
-use Prim.Native.Nat.{ℕ, _-_, _^_}
+use Prim.Native.Nat.{ℕ, suc, _-_, _^_}
+use native.Mathlib.Omega.{arith}
 use lib.ListN.{replicate}
-use Rattle.types.specs.Types.{UD, D, UW, UB, F, UQ, sizeOf, isListed}
+use Rattle.types.specs.Types.{UD, UW, UB, F, UQ, sizeOf, isListed}
+use Rattle.types.proofs.Sizes.{sizes, size-listed, unlisted}
 use Rattle.tables.specs.declared.Lengths.{Lengths}
 use Rattle.tables.specs.Lengths.{registersGood, addressesGood, taintGood, lengthsGood}
 use Rattle.tables.specs.Every.{every}
@@ -59,6 +61,9 @@ predicates n = tablesGood (lengths 0 0 0 0 0) (tables [] [] [] (replicate n 0) [
 surfaces : ℕ → List ℕ → Bool
 surfaces bytes table = tablesGood (lengths 0 0 bytes 0 0) (tables [] [] [] [] table)
 
+listed : (code size : ℕ) → sizeOf code ≡ suc size → isListed code ≡ true
+listed code size e = size-listed code (omega arith)
+
 lengths-worked : (buffers 0 0 0 0 ≡ true)
     × (buffers 0 4096 0 0 ≡ true)
     × (buffers 0 4128 0 0 ≡ false)
@@ -80,6 +85,7 @@ variables-worked : (variable UD 32 8 ≡ true)
     × (variable UD 16 8 ≡ false)
     × (variable UD 32 9 ≡ false)
     × (variable UD 64 1 ≡ false)
+    × (variable UD 0 0 ≡ false)
     × (variable UB 1 31 ≡ true)
     × (variable UB 2 31 ≡ false)
     × (variable UB 31 1 ≡ true)
@@ -89,15 +95,28 @@ variables-worked : (variable UD 32 8 ≡ true)
     × (variable UQ 4 1 ≡ false)
     × (variable F 0 1 ≡ true)
     × (variable 6 0 1 ≡ false)
-    × (variable UD 0 0 ≡ false)
-    × (variables 256 256 256 ≡ true)
+unfolding lengths variable registersGood addressesGood taintGood lengthsGood every lineGood variableGood variableGoodAt variablesGood surfaceStart surfacesGood tablesGood
+variables-worked =
+    simp (
+      listed UD 3 (sizes .ud),
+      listed UB 0 (sizes .ub),
+      listed UW 1 (sizes .uw),
+      listed UQ 7 (sizes .uq),
+      listed F 3 (sizes .f),
+      unlisted 6 (sizes .six),
+      sizes .ud,
+      sizes .ub,
+      sizes .uw,
+      sizes .uq,
+      sizes .f,
+    )
+    (refl, refl, refl, refl, refl, refl, refl, refl, refl, refl, refl, refl, refl, refl)
+
+tables-worked : (variables 256 256 256 ≡ true)
     × (variables 257 257 257 ≡ false)
     × (variables 2 1 2 ≡ false)
     × (variables 2 2 3 ≡ false)
-unfolding lengths variable variables sizeOf isListed registersGood addressesGood taintGood lengthsGood every lineGood variableGood variableGoodAt variablesGood surfaceStart surfacesGood tablesGood
-variables-worked = (refl, refl, refl, refl, refl, refl, refl, refl, refl, refl, refl, refl, refl, refl, refl, refl, refl, refl)
-
-tables-worked : (predicates 64 ≡ true)
+    × (predicates 64 ≡ true)
     × (predicates 65 ≡ false)
     × (surfaces 1024 (1024 ∷ []) ≡ true)
     × (surfaces 1025 (1025 ∷ []) ≡ false)
@@ -106,5 +125,6 @@ tables-worked : (predicates 64 ≡ true)
     × (surfaces 17 (10 ∷ 0 ∷ 6 ∷ []) ≡ false)
     × (surfaces 8 (replicate 8 1) ≡ true)
     × (surfaces 9 (replicate 9 1) ≡ false)
-unfolding lengths predicates surfaces registersGood addressesGood taintGood lengthsGood every variablesGood surfaceLength surfaceStart surfaceGoodAt surfacesGood tablesGood
-tables-worked = (refl, refl, refl, refl, refl, refl, refl, refl, refl)
+unfolding lengths variables predicates surfaces registersGood addressesGood taintGood lengthsGood every lineGood variableGood variableGoodAt variablesGood surfaceLength surfaceStart surfaceGoodAt surfacesGood tablesGood
+tables-worked =
+    simp (listed UB 0 (sizes .ub), sizes .ub) (refl, refl, refl, refl, refl, refl, refl, refl, refl, refl, refl, refl, refl)

@@ -183,7 +183,14 @@ fn surfaces_good(bytes: usize, surfaces: &[u16]) -> bool
 }
 
 // Whether all tables and lengths keep the sizes; a run answers 13 if not.
-pub fn tables_good(lengths: Lengths, types: &[u8], starts: &[u16], counts: &[u16], predicates: &[u32], surfaces: &[u16]) -> bool
+pub fn tables_good(
+    lengths: Lengths,
+    types: &[u8],
+    starts: &[u16],
+    counts: &[u16],
+    predicates: &[u32],
+    surfaces: &[u16],
+) -> bool
     ensures { λ r. ⌜ r ≡ tablesGood lengths (tables (now (types .entry)) (now (starts .entry)) (now (counts .entry)) (now (predicates .entry)) (now (surfaces .entry))) ⌝ }
 {
     if !lengths_good(lengths) {

@@ -4,7 +4,7 @@ use mathlib.Core.Bool.{Bool, true, false, cond}
 use Prim.Native.Nat.{ℕ, _*_, _/_, _%_, _≤_, _<_}
 use native.Mathlib.Omega.{arith}
 use lib.Dec.{eqb}
-use borrow.Author.Tests.{ltb-true, lt-ltb}
+use borrow.Author.Tests.{ltb-true, lt-ltb, le-ltb}
 use Rattle.types.specs.Types.{UD, D, UW, W, UB, B, F, UQ, sizeOf, isListed}
 
 either : (P : ℕ → Type 0) (b : Bool) {x y : ℕ} → P x → P y → P (cond b x y)
@@ -35,6 +35,10 @@ pub size-listed : (code : ℕ) → 0 < sizeOf code → isListed code ≡ true
 unfolding isListed
 size-listed code h = lt-ltb 0 (sizeOf code) h
 
+pub unlisted : (code : ℕ) → sizeOf code ≡ 0 → isListed code ≡ false
+unfolding isListed
+unlisted code e = le-ltb 0 (sizeOf code) (omega arith)
+
 -- what holds of 1, 2, 4 and 8 holds of the size of a listed type
 pub listed-each : (P : ℕ → Type 0) → P 1 → P 2 → P 4 → P 8 → (code : ℕ) → isListed code ≡ true → P (sizeOf code)
 listed-each P one two four eight code e =
@@ -45,3 +49,19 @@ listed-each P one two four eight code e =
 pub register-whole : (register : ℕ) → register % 8 ≡ 0 → (code : ℕ) → isListed code ≡ true → register / sizeOf code * sizeOf code ≡ register
 register-whole register h =
     listed-each (λ size. register / size * size ≡ register) (omega arith) (omega arith) (omega arith) (omega arith)
+
+-- the size of each listed type; 6 is the lowest code that is not listed
+pub record Sizes : Type 0 where
+  pub ud : sizeOf UD ≡ 4
+  pub d : sizeOf D ≡ 4
+  pub f : sizeOf F ≡ 4
+  pub uw : sizeOf UW ≡ 2
+  pub w : sizeOf W ≡ 2
+  pub ub : sizeOf UB ≡ 1
+  pub b : sizeOf B ≡ 1
+  pub uq : sizeOf UQ ≡ 8
+  pub six : sizeOf 6 ≡ 0
+
+pub sizes : Sizes
+unfolding sizeOf
+sizes = record { ud = refl; d = refl; f = refl; uw = refl; w = refl; ub = refl; b = refl; uq = refl; six = refl }
