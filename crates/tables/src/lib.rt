@@ -42,7 +42,8 @@ fn addresses_good(base: u64, bytes: usize) -> bool
     if bytes == 0 {
         return true;
     }
-    (bytes - 1) as u64 <= LAST_ADDRESS - base
+    let last = (bytes - 1) as u64;
+    last <= LAST_ADDRESS - base
 }
 
 fn taint_good(lengths: Lengths) -> bool
