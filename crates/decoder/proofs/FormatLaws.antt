@@ -12,7 +12,7 @@ use Rattle.fields.specs.declared.WordRule.the-variants as word
 use Rattle.fields.specs.declared.Field.{Field}
 use Rattle.fields.specs.declared.Field.the-variants.{Byte, Word, Dword, Lacking}
 use Rattle.fields.specs.Layout.{layoutBytes, layoutRefusal}
-use Rattle.fields.proofs.FieldLaws.{Within, within-nil, within-byte, within-word, within-dword, within-lacking, within-append, ThreeOrFour, layout-refusals}
+use Rattle.fields.proofs.FieldLaws.{AtMost, at-most-nil, at-most-byte, at-most-word, at-most-dword, at-most-lacking, at-most-append, ZeroThreeOrFour, layout-refusals}
 use Rattle.decoder.specs.declared.Control.{Control}
 use Rattle.decoder.specs.declared.General.{General}
 use Rattle.decoder.specs.declared.Immediate.{Immediate}
@@ -100,56 +100,56 @@ unfolding instructionRefusal
 instruction-refusal i = refl
 
 -- the numbers by which an instruction is refused
-pub instruction-refusals : (i : Instruction) → ThreeOrFour (instructionRefusal i)
+pub instruction-refusals : (i : Instruction) → ZeroThreeOrFour (instructionRefusal i)
 instruction-refusals i = rw (instruction-refusal i) (layout-refusals (instructionFields i))
 
 -- ---- the number of bytes
 
-one-within : (rule : ByteRule) (v : ℕ) → Within 1 (Byte rule v ∷ [])
-one-within rule v = within-byte rule v [] 0 within-nil
+one-at-most : (rule : ByteRule) (v : ℕ) → AtMost 1 (Byte rule v ∷ [])
+one-at-most rule v = at-most-byte rule v [] 0 at-most-nil
 
-control-within : (rule : ByteRule) (x : Control) → Within 3 (controlFields rule x)
+control-at-most : (rule : ByteRule) (x : Control) → AtMost 3 (controlFields rule x)
 unfolding controlFields
-control-within rule x = within-byte _ _ _ 2 (within-word _ _ _ 0 within-nil)
+control-at-most rule x = at-most-byte _ _ _ 2 (at-most-word _ _ _ 0 at-most-nil)
 
-operand-within : (rule : ByteRule) (x : Operand) → Within 10 (operandFields rule x)
+operand-at-most : (rule : ByteRule) (x : Operand) → AtMost 10 (operandFields rule x)
 unfolding operandFields highField
-operand-within rule (operand.General g) =
-    let h : Within 7 (operandFields rule (operand.General g)) = within-byte _ _ _ 6 (within-word _ _ _ 4 (within-byte _ _ _ 3 (within-byte _ _ _ 2 (within-word _ _ _ 0 within-nil)))) in
+operand-at-most rule (operand.General g) =
+    let h : AtMost 7 (operandFields rule (operand.General g)) = at-most-byte _ _ _ 6 (at-most-word _ _ _ 4 (at-most-byte _ _ _ 3 (at-most-byte _ _ _ 2 (at-most-word _ _ _ 0 at-most-nil)))) in
     omega arith
-operand-within rule (operand.Immediate i) =
-    within-byte _ _ _ 9 (within-byte _ _ _ 8 (within-dword _ _ 4 (high (hasHighWord (i .code)))))
+operand-at-most rule (operand.Immediate i) =
+    at-most-byte _ _ _ 9 (at-most-byte _ _ _ 8 (at-most-dword _ _ 4 (high (hasHighWord (i .code)))))
   where
-    high : (b : Bool) → Within 4 (cond b (Dword (i .high)) (Lacking (i .high)) ∷ [])
-    high true = within-dword _ _ 0 within-nil
-    high false = let h : Within 0 (Lacking (i .high) ∷ []) = within-lacking _ _ 0 within-nil in omega arith
+    high : (b : Bool) → AtMost 4 (cond b (Dword (i .high)) (Lacking (i .high)) ∷ [])
+    high true = at-most-dword _ _ 0 at-most-nil
+    high false = let h : AtMost 0 (Lacking (i .high) ∷ []) = at-most-lacking _ _ 0 at-most-nil in omega arith
 
-raw-within : (x : Raw) → Within 4 (rawFields x)
+raw-at-most : (x : Raw) → AtMost 4 (rawFields x)
 unfolding rawFields
-raw-within x = within-word _ _ _ 2 (within-word _ _ _ 0 within-nil)
+raw-at-most x = at-most-word _ _ _ 2 (at-most-word _ _ _ 0 at-most-nil)
 
-access-within : (x : Access) → Within 5 (accessFields x)
+access-at-most : (x : Access) → AtMost 5 (accessFields x)
 unfolding accessFields
-access-within x = within-byte _ _ _ 4 (within-byte _ _ _ 3 (within-word _ _ _ 1 (one-within _ _)))
+access-at-most x = at-most-byte _ _ _ 4 (at-most-byte _ _ _ 3 (at-most-word _ _ _ 1 (one-at-most _ _)))
 
-message-within : (x : Message) → Within 6 (messageFields x)
+message-at-most : (x : Message) → AtMost 6 (messageFields x)
 unfolding messageFields
-message-within x = within-dword _ _ 2 (within-byte _ _ _ 1 (one-within _ _))
+message-at-most x = at-most-dword _ _ 2 (at-most-byte _ _ _ 1 (one-at-most _ _))
 
 -- SHL with three immediates of eight bytes is the longest
-fields-within : (i : Instruction) → Within 34 (instructionFields i)
+fields-at-most : (i : Instruction) → AtMost 34 (instructionFields i)
 unfolding instructionFields shlFields gatherFields scatterFields rawSendFields
-fields-within (instruction.Shl x) =
-    within-append _ _ 1 33 (one-within _ _) (within-append _ _ 3 30 (control-within _ _) (within-append _ _ 10 20 (operand-within _ _) (within-append _ _ 10 10 (operand-within _ _) (operand-within _ _))))
-fields-within (instruction.Gather x) =
-    let h : Within 27 (gatherFields x) = within-append _ _ 1 26 (one-within _ _) (within-append _ _ 3 23 (control-within _ _) (within-append _ _ 5 18 (access-within _) (within-append _ _ 10 8 (operand-within _ _) (within-append _ _ 4 4 (raw-within _) (raw-within _))))) in
+fields-at-most (instruction.Shl x) =
+    at-most-append _ _ 1 33 (one-at-most _ _) (at-most-append _ _ 3 30 (control-at-most _ _) (at-most-append _ _ 10 20 (operand-at-most _ _) (at-most-append _ _ 10 10 (operand-at-most _ _) (operand-at-most _ _))))
+fields-at-most (instruction.Gather x) =
+    let h : AtMost 27 (gatherFields x) = at-most-append _ _ 1 26 (one-at-most _ _) (at-most-append _ _ 3 23 (control-at-most _ _) (at-most-append _ _ 5 18 (access-at-most _) (at-most-append _ _ 10 8 (operand-at-most _ _) (at-most-append _ _ 4 4 (raw-at-most _) (raw-at-most _))))) in
     omega arith
-fields-within (instruction.Scatter x) =
-    let h : Within 26 (scatterFields x) = within-append _ _ 1 25 (one-within _ _) (within-append _ _ 1 24 (one-within _ _) (within-append _ _ 3 21 (control-within _ _) (within-append _ _ 1 20 (one-within _ _) (within-append _ _ 2 18 (within-word _ _ _ 0 within-nil) (within-append _ _ 10 8 (operand-within _ _) (within-append _ _ 4 4 (raw-within _) (raw-within _))))))) in
+fields-at-most (instruction.Scatter x) =
+    let h : AtMost 26 (scatterFields x) = at-most-append _ _ 1 25 (one-at-most _ _) (at-most-append _ _ 1 24 (one-at-most _ _) (at-most-append _ _ 3 21 (control-at-most _ _) (at-most-append _ _ 1 20 (one-at-most _ _) (at-most-append _ _ 2 18 (at-most-word _ _ _ 0 at-most-nil) (at-most-append _ _ 10 8 (operand-at-most _ _) (at-most-append _ _ 4 4 (raw-at-most _) (raw-at-most _))))))) in
     omega arith
-fields-within (instruction.RawSend x) =
-    let h : Within 29 (rawSendFields x) = within-append _ _ 1 28 (one-within _ _) (within-append _ _ 1 27 (one-within _ _) (within-append _ _ 3 24 (control-within _ _) (within-append _ _ 6 18 (message-within _) (within-append _ _ 10 8 (operand-within _ _) (within-append _ _ 4 4 (raw-within _) (raw-within _)))))) in
+fields-at-most (instruction.RawSend x) =
+    let h : AtMost 29 (rawSendFields x) = at-most-append _ _ 1 28 (one-at-most _ _) (at-most-append _ _ 1 27 (one-at-most _ _) (at-most-append _ _ 3 24 (control-at-most _ _) (at-most-append _ _ 6 18 (message-at-most _) (at-most-append _ _ 10 8 (operand-at-most _ _) (at-most-append _ _ 4 4 (raw-at-most _) (raw-at-most _)))))) in
     omega arith
 
-pub instruction-within : (i : Instruction) → length (instructionBytes i) ≤ 34
-instruction-within i = rw (instruction-bytes i) (fields-within i)
+pub instruction-at-most : (i : Instruction) → length (instructionBytes i) ≤ 34
+instruction-at-most i = rw (instruction-bytes i) (fields-at-most i)

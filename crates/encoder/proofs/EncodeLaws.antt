@@ -9,7 +9,7 @@ use lib.Dec.{ltb, eqb}
 use borrow.Author.Tests.{lt-ltb, le-ltb, eq-eqb, ne-eqb}
 use Rattle.decoder.specs.declared.Instruction.{Instruction}
 use Rattle.decoder.specs.Format.{instructionFields, instructionBytes, instructionRefusal}
-use Rattle.decoder.proofs.FormatLaws.{instruction-bytes, instruction-refusal, instruction-within}
+use Rattle.decoder.proofs.FormatLaws.{instruction-bytes, instruction-refusal, instruction-at-most}
 use Rattle.encoder.specs.declared.Draft.{Draft}
 use Rattle.encoder.specs.declared.Encoded.{Encoded}
 use Rattle.encoder.specs.declared.Encoded.the-variants as encoded
@@ -24,11 +24,11 @@ Meets i l r m = (r ≡ encodedIn (length l) i) × (m ≡ encodedInto l i)
 module _ (i : Instruction) (d : Draft) (e : d ≡ withFields (instructionFields i) emptyDraft) where
   whole : Holds d (instructionRefusal i) (instructionBytes i)
   whole =
-      let fits : length (instructionBytes i) ≤ 64 = omega (arith, instruction-within i) in
+      let fits : length (instructionBytes i) ≤ 64 = omega (arith, instruction-at-most i) in
       rw (e, instruction-bytes i, instruction-refusal i) (drafted-holds (instructionFields i) (rw instruction-bytes at fits))
 
   pub in-room : d .length ≤ length (d .bytes)
-  in-room = omega (arith, whole .count, whole .room, instruction-within i)
+  in-room = omega (arith, whole .count, whole .room, instruction-at-most i)
 
   module _ (l : List ℕ) where
     pub field-refused : (d .number ≡ 0 → ⊥) → Meets i l (encoded.Refused (d .number)) l
