@@ -1,5 +1,5 @@
 -- Decoding and encoding undo each other, for all four instructions.
-use mathlib.Core.Path.{_≡_, refl, sym, ap, _∙_}
+use mathlib.Core.Path.{_≡_, refl, sym, ap, _∙_, subst}
 use mathlib.Core.List.{List, [], _++_, append-nil}
 use mathlib.Core.Bool.{Bool, true, false, cond, true≢false}
 use mathlib.Core.Logic.{_⊎_, inl, inr, ⊎-elim}
@@ -10,9 +10,11 @@ use lib.Seq.{take-append-seam}
 use lib.Dec.{ltb, eqb}
 use borrow.Author.Tests.{le-ltb, ltb-false, eqb-true, eq-eqb}
 use Rattle.little_endian.specs.LittleEndian.{Bytes}
+use Rattle.little_endian.proofs.Parts.{bytes-before, bytes-drop}
 use Rattle.reader.specs.declared.Cursor.{Cursor}
 use Rattle.reader.specs.Reading.{cursor}
-use Rattle.fields.proofs.FieldLaws.{LayoutFits, layout-fits}
+use Rattle.fields.specs.Layout.{layoutBytes}
+use Rattle.fields.proofs.FieldLaws.{LayoutFits, layout-fits, fits-layout}
 use Rattle.decoder.specs.declared.Instruction.{Instruction}
 use Rattle.decoder.specs.declared.Decoded.the-variants as decoded
 use Rattle.decoder.specs.Decoding.{instructionAt}
@@ -85,8 +87,9 @@ encoded-decodes-there i l n w =
 
 -- ---- an instruction encodes exactly when some bytes decode to it
 
--- into some room
+-- `fits`: its numbers are not too large for their fields, as those of every instruction of the code are by their types
 pub record Encodes (i : Instruction) : Type 0 where
+  pub fits : LayoutFits (instructionFields i)
   pub room : ℕ
   pub count : ℕ
   pub answer : encodedIn room i ≡ encoded.Wrote count
@@ -98,16 +101,15 @@ pub record Decodes (i : Instruction) : Type 0 where
   pub past : Cursor
   pub answer : instructionAt kernel at ≡ decoded.Accepted i past
 
--- the numbers of `i` fit their fields, as those of every instruction of the code do by their types
-pub encodes-exactly : (i : Instruction) → LayoutFits (instructionFields i) → (Encodes i → Decodes i) × (Decodes i → Encodes i)
-encodes-exactly i fits = (there, back)
+pub encodes-exactly : (i : Instruction) → (Encodes i → Decodes i) × (Decodes i → Encodes i)
+encodes-exactly i = (there, back)
   where
     there : Encodes i → Decodes i
     there e =
         let g = wrote-good i (e .room) (e .count) (e .answer) in
         record {
           kernel = instructionBytes i;
-          bytes = rw (instruction-bytes i) (layout-fits (instructionFields i) fits);
+          bytes = rw (instruction-bytes i) (layout-fits (instructionFields i) (e .fits));
           at = 0;
           past = cursor (0 + length (instructionBytes i));
           answer = encode-decode (instructionBytes i) 0 i [] (g .good) (sym (append-nil (instructionBytes i)));
@@ -116,7 +118,9 @@ encodes-exactly i fits = (there, back)
     back : Decodes i → Encodes i
     back d =
         let p = decode-encode (d .kernel) (d .at) i (d .past) (d .bytes) (d .answer) in
+        let b : Bytes (layoutBytes (instructionFields i) ++ drop (d .past .at) (d .kernel)) = subst Bytes (p .passed .bytes) (bytes-drop (d .at) (d .kernel) (d .bytes)) in
         record {
+          fits = fits-layout (instructionFields i) (p .good) (bytes-before (layoutBytes (instructionFields i)) (drop (d .past .at) (d .kernel)) b);
           room = length (instructionBytes i);
           count = length (instructionBytes i);
           answer = good-encodes i (length (instructionBytes i)) (instruction-refusal i ∙ p .good) (omega arith);
