@@ -1,4 +1,4 @@
--- `encoder::draft_scatter` meets its contract: at each return, what the calls and tests on the way say picks the case of `Draft`.
+-- `encoder::draft_scatter` meets its contract: one call for each group of fields, in order.
 use Rattle.decoder.proofs.FormatLaws.{scatter-fields}
 use Rattle.encoder.proofs.DraftLaws.{with-append}
 use borrow.Author.Needs.{needs}

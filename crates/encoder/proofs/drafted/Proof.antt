@@ -1,4 +1,4 @@
--- `encoder::drafted` meets its contract: at each return, what the calls and tests on the way say picks the case of `Draft`.
+-- `encoder::drafted` meets its contract: each instruction has its own fields.
 use Rattle.decoder.proofs.FormatLaws.{fields-shl, fields-gather, fields-scatter, fields-raw-send}
 use borrow.Author.Needs.{needs}
 use Rattle.encoder.proofs.drafted.Statement.{statement}

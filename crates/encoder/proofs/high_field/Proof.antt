@@ -1,4 +1,4 @@
--- `encoder::high_field` meets its contract: at each return, what the calls and tests on the way say picks the case of `Draft`.
+-- `encoder::high_field` meets its contract: each branch is a case of `highField`.
 use Rattle.decoder.proofs.FormatLaws.{high-field}
 use borrow.Author.Needs.{needs}
 use Rattle.encoder.specs.Draft.{}

@@ -1,4 +1,4 @@
--- `encoder::Draft.empty` meets its contract: at each return, what the calls and tests on the way say picks the case of `Draft`.
+-- `encoder::Draft::empty` meets its contract: it is `emptyDraft` as it stands.
 use mathlib.Core.Path.{refl}
 use Rattle.encoder.specs.Draft.{emptyDraft}
 use Rattle.encoder.proofs.Draft.empty.Statement.{statement}

@@ -1,4 +1,4 @@
--- `encoder::Draft.with_byte` meets its contract: at each return, what the calls and tests on the way say picks the case of `Draft`.
+-- `encoder::Draft::with_byte` meets its contract: the test of room picks the case of `withByte`.
 use borrow.Author.Needs.{needs}
 use borrow.Author.Tests.{lt-ltb, le-ltb}
 use Rattle.encoder.specs.Draft.{withByte}

@@ -1,4 +1,4 @@
--- `encoder::Draft.with_dword` meets its contract: at each return, what the calls and tests on the way say picks the case of `Draft`.
+-- `encoder::Draft::with_dword` meets its contract: a dword is two words, the low one first.
 use Rattle.little_endian.proofs.Parts.{two-words}
 use Rattle.encoder.proofs.DraftLaws.{with-bytes-append}
 use borrow.Author.Needs.{needs}

@@ -1,4 +1,4 @@
--- `encoder::Draft.with_field` meets its contract: at each return, what the calls and tests on the way say picks the case of `Draft`.
+-- `encoder::Draft::with_field` meets its contract: each kind of field has its rule and its bytes.
 use Rattle.little_endian.proofs.Parts.{one-byte}
 use Rattle.fields.proofs.FieldLaws.{byte-field, word-field, dword-field, lacking-field}
 use borrow.Author.Needs.{needs}

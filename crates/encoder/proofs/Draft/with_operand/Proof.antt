@@ -1,4 +1,4 @@
--- `encoder::Draft.with_operand` meets its contract: at each return, what the calls and tests on the way say picks the case of `Draft`.
+-- `encoder::Draft::with_operand` meets its contract: each class of operand has its own fields.
 use borrow.Author.Needs.{needs}
 use Rattle.encoder.proofs.Draft.with_operand.Statement.{statement}
 use Rattle.encoder.proofs.Draft.with_operand.Tie as tie

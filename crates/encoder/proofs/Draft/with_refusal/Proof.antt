@@ -1,4 +1,4 @@
--- `encoder::Draft.with_refusal` meets its contract: at each return, what the calls and tests on the way say picks the case of `Draft`.
+-- `encoder::Draft::with_refusal` meets its contract: the test of the number picks the case of `withRefusal`.
 use borrow.Author.Tests.{eq-eqb, ne-eqb}
 use Rattle.encoder.specs.Draft.{withRefusal}
 use Rattle.encoder.proofs.Draft.with_refusal.Statement.{statement}

@@ -1,4 +1,4 @@
--- `encoder::Draft.with_word` meets its contract: at each return, what the calls and tests on the way say picks the case of `Draft`.
+-- `encoder::Draft::with_word` meets its contract: a word is two bytes, the low one first.
 use Rattle.little_endian.proofs.Parts.{two-bytes}
 use borrow.Author.Needs.{needs}
 use Rattle.encoder.specs.Draft.{withBytes}

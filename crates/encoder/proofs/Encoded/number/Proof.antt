@@ -1,4 +1,4 @@
--- `encoder::Encoded.number` meets its contract: at each return, what the calls and tests on the way say picks the case of `Encoding`.
+-- `encoder::Encoded::number` meets its contract: each variant is a case of `numberOf`.
 use borrow.Author.Needs.{needs}
 use Rattle.encoder.specs.Encoding.{numberOf}
 use Rattle.encoder.proofs.Encoded.number.Statement.{statement}
