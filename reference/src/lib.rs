@@ -8,6 +8,7 @@
 //! - "The numbers given back": `number`, `tests_of_run`, `run`
 //! - "The bench table" (the bench program): `case_file`, `case_writer`, `bench`, `batch`
 
+pub mod assemble;
 pub mod batch;
 pub mod bench;
 pub mod case;
