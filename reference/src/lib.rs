@@ -21,6 +21,7 @@ pub mod element_type;
 pub mod encode;
 pub mod fields;
 pub mod gather;
+pub mod generate;
 pub mod instruction;
 pub mod lanes;
 pub mod number;
