@@ -7,6 +7,9 @@
 //!   `scatter`, `show`
 //! - "The numbers given back": `number`, `tests_of_run`, `run`
 //! - "The bench table" (the bench program): `case_file`, `case_writer`, `bench`, `batch`
+//!
+//! Beside the interpreter stand the case generator (`assemble`, `generate`) and the comparison
+//! (`command`, `difference`).
 
 pub mod assemble;
 pub mod batch;
@@ -14,8 +17,10 @@ pub mod bench;
 pub mod case;
 pub mod case_file;
 pub mod case_writer;
+pub mod command;
 pub mod cursor;
 pub mod decode;
+pub mod difference;
 pub mod element;
 pub mod element_type;
 pub mod encode;

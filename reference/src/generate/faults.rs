@@ -23,7 +23,7 @@ pub enum Form {
     Immediate,
 }
 
-type Apply = Box<dyn Fn(&mut Random, &mut Scene, &mut Draft)>;
+type Apply = Box<dyn Fn(&mut Random, &mut Scene, &mut Draft) + Send + Sync>;
 
 pub struct Fault {
     pub name: String,
@@ -110,7 +110,7 @@ const RANK_8: usize = 100;
 const RANK_PREDICATE: usize = 101;
 const RANK_SURFACE: usize = 102;
 const RANK_9: usize = 150;
-const RANK_10: usize = 160;
+pub const RANK_10: usize = 160;
 const RANK_11: usize = 161;
 const RANK_12: usize = 162;
 
@@ -137,7 +137,7 @@ impl Faults {
         number: u8,
         slot: Slot,
         needs: Option<(usize, Form)>,
-        bytes: impl Fn(&mut Random, &[u8]) -> Vec<u8> + 'static,
+        bytes: impl Fn(&mut Random, &[u8]) -> Vec<u8> + Send + Sync + 'static,
     ) {
         self.list.push(Fault {
             name: name.to_string(),
@@ -161,7 +161,7 @@ impl Faults {
         rank: usize,
         needs: Option<(usize, Form)>,
         touches: Vec<Touch>,
-        apply: impl Fn(&mut Random, &mut Scene, &mut Draft) + 'static,
+        apply: impl Fn(&mut Random, &mut Scene, &mut Draft) + Send + Sync + 'static,
     ) {
         self.list.push(Fault {
             name: name.to_string(),
@@ -526,6 +526,7 @@ fn vector_operand(
         for type_code in ALL.iter().filter(|code| !types.contains(code)) {
             let name = named(&format!("immediate of type {type_code}"));
             let touches = vec![
+                Touch::Slot(at(Part::Tag)),
                 Touch::Slot(at(Part::Type)),
                 Touch::Slot(at(Part::Low)),
                 Touch::Slot(at(Part::High)),
@@ -737,6 +738,7 @@ fn scatter_addresses(faults: &mut Faults) {
     let general = Some((0, Form::General));
     let immediate = Some((0, Form::Immediate));
     let low = vec![
+        Touch::Slot(Slot::Operand(0, Part::Tag)),
         Touch::Slot(Slot::Operand(0, Part::Low)),
         Touch::Slot(Slot::Operand(0, Part::High)),
         Touch::Slot(Slot::Operand(0, Part::Type)),

@@ -2,7 +2,7 @@
 
 use super::accepted::Kind;
 use super::bad_lines::{bad_line, BAD_LINE_WAYS};
-use super::faults::{field_rank, Fault};
+use super::faults::{field_rank, Fault, RANK_10};
 use super::lines::{file_of, lines_of};
 use super::near_misses::{base_instruction, base_scene, give_form, prefix, suffix, Ways, KINDS};
 use super::random::Random;
@@ -30,9 +30,14 @@ impl Ways {
     /// Two faults of one instruction that do not change the same.
     fn in_one_instruction(&self, random: &mut Random) -> Generated {
         let kind = random.below(4) as usize;
+        // Half of the scatters have both faults among their addresses.
+        let addresses = KINDS[kind] == Kind::Scatter && random.chance(50);
         let (a, b) = loop {
             let a = self.any_fault(random, kind);
             let b = self.any_fault(random, kind);
+            if addresses && (a.rank < RANK_10 || b.rank < RANK_10) {
+                continue;
+            }
             let forms_differ = match (a.needs, b.needs) {
                 (Some((m, f)), Some((n, g))) => m == n && f != g,
                 _ => false,
