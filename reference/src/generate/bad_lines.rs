@@ -87,7 +87,8 @@ pub fn bad_line(random: &mut Random, mut lines: Vec<Vec<u8>>, way: u64) -> BadFi
         }
         11 => {
             let pair = random.pick(&[b"  ", b"\r\r", b" 0", b"0 ", b"0X"]);
-            lines[changed].splice(2..2, pair.iter().copied());
+            let at = lines[changed].len().min(2);
+            lines[changed].splice(at..at, pair.iter().copied());
             "two characters that are no digits"
         }
         12 => {

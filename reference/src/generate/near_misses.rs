@@ -12,6 +12,9 @@ use crate::assemble::{general, immediate, immediate_uq, Draft, Part, Slot, SCALA
 
 pub const KINDS: [Kind; 4] = [Kind::Shl, Kind::Gather, Kind::Scatter, Kind::Send];
 
+/// Cutting an instruction short counts as forty ways, ten for each kind.
+const CUTS: usize = 40;
+
 /// Every way of being wrong by one thing.
 pub struct Ways {
     /// The faults of each kind of instruction, in the order of `KINDS`.
@@ -29,23 +32,25 @@ impl Ways {
         }
     }
 
+    /// How many ways there are.
+    pub fn count(&self) -> usize {
+        let faults: usize = self.faults.iter().map(Vec::len).sum();
+        faults + CUTS + self.tables.len() + self.limits.len()
+    }
+
     /// The near miss of a running number; all ways come in turn.
     pub fn near_miss(&self, random: &mut Random, number: u64) -> Generated {
-        let fault_count: usize = self.faults.iter().map(Vec::len).sum();
-        // Cutting an instruction short counts as forty ways, ten for each kind.
-        let cuts = 40;
-        let all = fault_count + cuts + self.tables.len() + self.limits.len();
-        let mut way = (number % all as u64) as usize;
+        let mut way = (number % self.count() as u64) as usize;
         for (kind, faults) in KINDS.iter().zip(&self.faults) {
             if way < faults.len() {
                 return one_fault(random, *kind, &faults[way]);
             }
             way -= faults.len();
         }
-        if way < cuts {
+        if way < CUTS {
             return cut_short(random, KINDS[way % 4]);
         }
-        way -= cuts;
+        way -= CUTS;
         if way < self.tables.len() {
             let fault = &self.tables[way];
             let mut scene = base_scene(random);
