@@ -16,12 +16,14 @@ pub struct Variable {
 #[derive(Clone, Debug, Default, PartialEq, Eq)]
 pub struct Case {
     pub kernel: Vec<u8>,
+    /// The register file.
     pub registers: Vec<u8>,
     pub variables: Vec<Variable>,
     pub predicates: Vec<u32>,
     pub surfaces: Vec<Vec<u8>>,
     /// The base of the memory window.
     pub base: u64,
+    /// The bytes of the memory window.
     pub memory: Vec<u8>,
     /// EM.
     pub execution_mask: u32,

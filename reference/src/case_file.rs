@@ -1,4 +1,6 @@
 //! The case file reader: "lower-case hex, first byte the kind", and number 14.
+//!
+//! A line is document 01's bench line; the bytes that it spells are a frame, the kind being the first.
 
 use crate::case::{Case, Variable};
 

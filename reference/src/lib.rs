@@ -5,7 +5,7 @@
 //! - "Regions": `region`, `operands`
 //! - "Which channels, which results" and "How marks move": `lanes`, `element`, `shl`, `gather`,
 //!   `scatter`, `show`
-//! - "The numbers given back": `number`, `tests_of_run`, `run`
+//! - "The numbers given back": `number`, `run_checks`, `run`
 //! - "The bench table" (the bench program): `case_file`, `case_writer`, `bench`, `batch`
 //!
 //! Beside the interpreter stand the case generator (`assemble`, `generate`) and the comparison
@@ -33,8 +33,8 @@ pub mod number;
 pub mod operands;
 pub mod region;
 pub mod run;
+pub mod run_checks;
 pub mod scatter;
 pub mod shl;
 pub mod show;
 pub mod sizes;
-pub mod tests_of_run;

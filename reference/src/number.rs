@@ -1,4 +1,5 @@
-//! The refusal numbers, one constant for each line of document 01's table "The numbers given back".
+//! The numbers, one constant for each line of document 01's table "The numbers given back". A refusal is a
+//! number that is not 0.
 
 /// "done"
 pub const DONE: u8 = 0;

@@ -6,10 +6,10 @@ use crate::gather::gather;
 use crate::instruction::{Instruction, GATHER, SHL};
 use crate::lanes::lanes_on;
 use crate::number::{DONE, SIZES};
+use crate::run_checks;
 use crate::scatter::scatter;
 use crate::shl::shl;
 use crate::sizes;
-use crate::tests_of_run;
 
 /// "A run answers number, instructions completed and byte position of the refused instruction (or the
 /// end)."
@@ -63,7 +63,7 @@ fn step(case: &mut Case, position: usize) -> Result<usize, u8> {
     }
     let length = decoded.part.len();
     let instruction = decoded.instruction;
-    tests_of_run::test(case, &instruction)?;
+    run_checks::check(case, &instruction)?;
     effect(case, &instruction)?;
     Ok(length)
 }

@@ -377,6 +377,23 @@ fn number_8() {
     }
 }
 
+/// 8 of the other three: M8_NM of size 16 and M6 of size 16, before predicate and surface. M5 of size 16
+/// is exactly 32.
+#[test]
+fn number_8_of_messages() {
+    for (exec, over) in [(0xf4, true), (0x54, true), (0x44, false), (0xc4, false)] {
+        let sent = raw_send(exec, 0, 1, 1, &one(), &raw(UD, 0), &raw(UD, 0));
+        assert_eq!(number_of(&sent), if over { 8 } else { 9 });
+        let scattered = scatter(exec, 0, 1, &window(), &raw(UQ, 0), &raw(F, 0));
+        assert_eq!(number_of(&scattered), if over { 8 } else { 0 });
+        for (pred, surface) in [(0, 0), (0, 9), (9, 0)] {
+            let gathered = gather(exec, pred, 2, surface, &one(), &raw(UD, 0), &raw(F, 0));
+            let otherwise = if pred == 0 && surface == 0 { 0 } else { 5 };
+            assert_eq!(number_of(&gathered), if over { 8 } else { otherwise });
+        }
+    }
+}
+
 /// 9: not completed, and it ends the run; EM and predicate bits do not matter.
 #[test]
 fn number_9_ends_the_run() {

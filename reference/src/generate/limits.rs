@@ -1,7 +1,7 @@
 //! Cases exactly at a limit: the last value that is still good, or what only looks wrong.
 
 use super::accepted::Kind;
-use super::faults::Form;
+use super::fault::Form;
 use super::near_misses::{base_instruction, base_scene, give_form, prefix};
 use super::random::Random;
 use super::scene::{scene, variable, Scene, Size};

@@ -1,11 +1,14 @@
 //! The case generator: case files in five modes, each determined by a seed and an index.
 
 pub mod accepted;
+pub mod address_faults;
 pub mod bad_lines;
+pub mod fault;
 pub mod faults;
 pub mod limits;
 pub mod lines;
 pub mod near_misses;
+pub mod operand_faults;
 pub mod random;
 pub mod random_bytes;
 pub mod report;

@@ -1,7 +1,8 @@
 //! Near misses: one thing wrong in an otherwise good case, or one thing exactly at its limit.
 
 use super::accepted::Kind;
-use super::faults::{faults_of, Fault, Form};
+use super::fault::{Fault, Form};
+use super::faults::faults_of;
 use super::limits::{limits, Limit};
 use super::lines::{file_of, lines_of};
 use super::random::Random;

@@ -145,7 +145,7 @@ pub fn table_faults() -> Vec<TableFault> {
         }),
         ("variable of no elements", 13, |r, c| {
             let code = r.pick(&[0, 1, 2, 3, 4, 5, 7, 11]);
-            let start = r.pick(&[0, 32]);
+            let start = r.pick(&[0, 8, 24, 32, 40]);
             add_variable(r, c, code, start, 0)
         }),
         ("variable up to the file's end", 0, |r, c| {

@@ -2,7 +2,7 @@
 
 use super::accepted::Kind;
 use super::bad_lines::{bad_line, BAD_LINE_WAYS};
-use super::faults::{field_rank, Fault, RANK_10};
+use super::fault::{field_rank, Fault, RANK_10};
 use super::lines::{file_of, lines_of};
 use super::near_misses::{base_instruction, base_scene, give_form, prefix, suffix, Ways, KINDS};
 use super::random::Random;

@@ -8,7 +8,7 @@ use crate::instruction::{Instruction, GATHER, RAW_SEND, SHL};
 use crate::number;
 use crate::operands;
 
-pub fn test(case: &Case, instruction: &Instruction) -> Result<(), u8> {
+pub fn check(case: &Case, instruction: &Instruction) -> Result<(), u8> {
     let exec_size = instruction.exec_size();
 
     // 8: "offset + ExecSize over 32"
