@@ -56,8 +56,8 @@ fn near_misses_have_every_number() {
         names.insert(case.name);
     }
     assert_eq!(numbers, (0..=13).collect());
-    // Cuts may share a name, everything else has one of its own.
-    assert!(names.len() as u64 > ways - 40, "{} of {ways}", names.len());
+    // Cuts may share a name, and a scatter's faulty addresses come three times each.
+    assert!(names.len() as u64 > ways - 60, "{} of {ways}", names.len());
 }
 
 /// At least 40 % of the valid cases run all their instructions.

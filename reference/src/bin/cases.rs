@@ -64,9 +64,10 @@ fn main() -> io::Result<()> {
             Output::Print => stdout.write_all(&case.file)?,
         }
     }
+    let ways = format!("ways of a near miss: {}\n", generator.near_miss_ways());
     match output {
-        Output::Batch | Output::Print => eprint!("{report}"),
-        _ => write!(stdout, "{report}")?,
+        Output::Batch | Output::Print => eprint!("{report}{ways}"),
+        _ => write!(stdout, "{report}{ways}")?,
     }
     stdout.flush()
 }

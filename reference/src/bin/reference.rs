@@ -43,10 +43,10 @@ fn spoil(wrong: &str, output: Vec<u8>) -> Vec<u8> {
         "" => {}
         // Answers 0 always.
         "number" => lines[0][2..4].copy_from_slice(b"00"),
-        // Counts one instruction too many, when there is one.
+        // Invents the count of completed instructions, when there are any.
         "completed" => {
             if lines[0][4..8] != *b"0000" {
-                lines[0][5] ^= 1;
+                lines[0][4..8].copy_from_slice(b"ff7f");
             }
         }
         // Taints nothing.

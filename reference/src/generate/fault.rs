@@ -69,6 +69,8 @@ pub fn field_rank(slot: Slot) -> usize {
 pub const RANK_8: usize = 100;
 pub const RANK_PREDICATE: usize = 101;
 pub const RANK_SURFACE: usize = 102;
+/// Ten places for each operand.
+pub const RANK_OPERANDS: usize = 110;
 pub const RANK_9: usize = 150;
 pub const RANK_10: usize = 160;
 pub const RANK_11: usize = 161;
@@ -81,7 +83,7 @@ pub fn operand_rank(operand: usize, number: u8) -> usize {
         6 => 2,
         _ => 3,
     };
-    110 + 10 * operand + within
+    RANK_OPERANDS + 10 * operand + within
 }
 
 /// Collects the faults of one kind of instruction.

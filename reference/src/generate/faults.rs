@@ -21,7 +21,10 @@ pub fn faults_of(kind: Kind) -> Vec<Fault> {
         }
     }
     if kind == Kind::Scatter {
-        scatter_addresses(&mut faults);
+        // Three times, so that they come as often as they matter.
+        for _ in 0..3 {
+            scatter_addresses(&mut faults);
+        }
     }
     if kind == Kind::Send {
         let nothing = |_: &mut Random, _: &mut Scene, _: &mut Draft| {};

@@ -162,17 +162,14 @@ pub fn limits() -> Vec<Limit> {
             scene.case.variables.push(variable(3, 32, 24));
             let index = scene.case.variables.len() as u16 - 1;
             let dst = byte_destination(&mut scene);
-            // Row 1 is element 16: 16 + 7, or 17 + 4 + 2 with rows of two, or 23 alone.
-            let src = r.pick(&[(0, 16, 8, 1), (1, 2, 2, 1), (7, 0, 1, 0)]);
-            let (column, vertical, width, horizontal) = src;
-            let (rows, exec) = match width {
-                8 => (1, 0x83),
-                2 => (1, 0x82),
-                _ => (1, 0x85),
-            };
-            let region = source_region(vertical, width, horizontal);
-            let column = if width == 2 { 4 } else { column };
-            let draft = shl(exec, 0, &dst, &general(index, rows, column, region), &one());
+            // Row 1 starts at element 16, and 23 is the last: eight from 16, two rows of two from 20, or 23
+            // for all lanes.
+            let (exec, column, region) = r.pick(&[
+                (0x83, 0, source_region(16, 8, 1)),
+                (0x82, 4, source_region(2, 2, 1)),
+                (0x85, 7, source_region(0, 1, 0)),
+            ]);
+            let draft = shl(exec, 0, &dst, &general(index, 1, column, region), &one());
             with(r, scene, &draft)
         }),
         ("exactly two registers", 0, |r| {
@@ -200,20 +197,19 @@ pub fn limits() -> Vec<Limit> {
                 with(r, scene, &draft)
             },
         ),
-        ("the middle register not touched", 7, |r| {
+        ("three registers, the middle one touched or not", 7, |r| {
             let mut scene = base_scene(r);
-            scene.case.variables.push(variable(4, 0, 128));
-            let index = scene.case.variables.len() as u16 - 1;
             let dst = byte_destination(&mut scene);
-            // Bytes 0-1, 32-33, 64-65: with size 4 two registers, with size 8 more. UW rows of two
-            // elements 32 apart skip a register.
             scene.case.variables.push(variable(2, 0, 64));
-            let words = scene.case.variables.len() as u16 - 1;
+            scene.case.variables.push(variable(4, 0, 128));
+            let bytes = scene.case.variables.len() as u16 - 1;
+            let words = bytes - 1;
             let src = match r.below(2) {
+                // Elements 0, 1, 32, 33: bytes 0-3 and 64-67.
                 0 => general(words, 0, 0, source_region(32, 2, 1)),
-                _ => general(index, 0, 31, source_region(16, 1, 0)),
+                // Bytes 31, 47, 63, 79.
+                _ => general(bytes, 0, 31, source_region(16, 1, 0)),
             };
-            // UW: elements 0, 1, 32, 33. UB: 31, 47, 63, 79.
             let draft = shl(0x82, 0, &dst, &src, &one());
             with(r, scene, &draft)
         }),

@@ -78,7 +78,12 @@ impl Generator {
         }
     }
 
-    /// The case of an index. Of twenty cases eight are valid, seven near misses, two have two faults,
+    /// How many ways of a near miss there are; they come in turn.
+    pub fn near_miss_ways(&self) -> usize {
+        self.ways.count()
+    }
+
+    /// The case of an index. Of twenty cases eight are valid, six near misses, three have two faults,
     /// one has a bad line and two are random bytes.
     pub fn case(&self, index: u64) -> Generated {
         let mut random = Random::new(self.seed, index);
@@ -86,15 +91,15 @@ impl Generator {
         let (mode, number) = match (self.only, turn) {
             (Some(mode), _) => (mode, index),
             (None, 0..=7) => (Mode::Valid, 0),
-            (None, 8..=14) => (Mode::NearMiss, 7 * round + turn - 8),
-            (None, 15 | 16) => (Mode::TwoFaults, 0),
+            (None, 8..=13) => (Mode::NearMiss, 6 * round + turn - 8),
+            (None, 14..=16) => (Mode::TwoFaults, 3 * round + turn - 14),
             (None, 17) => (Mode::BadLines, round),
             (None, _) => (Mode::RandomBytes, 0),
         };
         match mode {
             Mode::Valid => valid::valid(&mut random),
             Mode::NearMiss => self.ways.near_miss(&mut random, number),
-            Mode::TwoFaults => self.ways.two_faults(&mut random),
+            Mode::TwoFaults => self.ways.two_faults(&mut random, number),
             Mode::BadLines => bad_lines::bad_lines(&mut random, number),
             Mode::RandomBytes => random_bytes::random_bytes(&mut random),
         }

@@ -7,6 +7,9 @@ use super::{Generated, Mode};
 use crate::assemble::Draft;
 
 pub fn valid(random: &mut Random) -> Generated {
+    if random.chance(1) {
+        return without_registers(random);
+    }
     let size = match random.below(100) {
         0..=14 => Size::Tiny,
         15..=96 => Size::Usual,
@@ -42,6 +45,21 @@ pub fn valid(random: &mut Random) -> Generated {
         mode: Mode::Valid,
         name: format!("{size:?} scene, {length} instructions"),
         intended: Some(intended),
+        file: file_of(random, &lines),
+    }
+}
+
+/// No registers and so no variables: every instruction has an operand in them, so the kernel is empty.
+fn without_registers(random: &mut Random) -> Generated {
+    let mut scene = scene(random, Size::Tiny, false);
+    scene.case.registers.clear();
+    scene.case.register_taint.clear();
+    scene.case.variables.clear();
+    let lines = lines_of(random, &scene.case);
+    Generated {
+        mode: Mode::Valid,
+        name: "no registers".to_string(),
+        intended: Some(0),
         file: file_of(random, &lines),
     }
 }
