@@ -58,6 +58,13 @@ fn set_offset(scene: &mut Scene, lane: usize, value: u64) {
     scene.case.registers[at..at + 8].copy_from_slice(&value.to_le_bytes());
 }
 
+/// Three different lanes of eight.
+fn three_lanes(random: &mut Random) -> [usize; 3] {
+    let mut lanes = [0, 1, 2, 3, 4, 5, 6, 7];
+    random.shuffle(&mut lanes);
+    [lanes[0], lanes[1], lanes[2]]
+}
+
 /// Turn all lanes off in one of several ways; gives exec byte and pred word for size 8.
 fn all_off(random: &mut Random, scene: &mut Scene) -> (u8, u16) {
     scene.case.predicates.truncate(63);
@@ -371,6 +378,42 @@ pub fn limits() -> Vec<Limit> {
             draft.set(Slot::Pred, &pred.to_le_bytes());
             with(r, scene, &draft)
         }),
+        (
+            "a tainted, an odd and an outside lane in any order",
+            10,
+            |r| {
+                let mut scene = base_scene(r);
+                let [tainted, odd, outside] = three_lanes(r);
+                let constant = scene.guarded.unwrap().constant;
+                let at = scene.guarded.unwrap().offsets_start + 8 * tainted;
+                scene.case.register_taint[at + r.below(8) as usize] = r.pick(&[1, 2, 0xff]);
+                set_offset(&mut scene, odd, constant.wrapping_add(r.range(1, 3)));
+                set_offset(&mut scene, outside, constant.wrapping_add(0x10000));
+                let draft = plain_scatter(&scene);
+                with(r, scene, &draft)
+            },
+        ),
+        ("an odd and an outside lane in any order", 11, |r| {
+            let mut scene = base_scene(r);
+            let [_, odd, outside] = three_lanes(r);
+            let constant = scene.guarded.unwrap().constant;
+            set_offset(&mut scene, odd, constant.wrapping_add(r.range(1, 3)));
+            set_offset(&mut scene, outside, constant.wrapping_add(0x10000));
+            let draft = plain_scatter(&scene);
+            with(r, scene, &draft)
+        }),
+        (
+            "offset + ExecSize over 32, predicate and variable not there",
+            8,
+            |r| {
+                let scene = base_scene(r);
+                let nowhere = general(0xffff, 0, 0, destination_region(1));
+                let exec = r.pick(&[0x15, 0x75, 0x54, 0xf4, 0x73, 0xf3]);
+                let pred = r.pick(&[0x0040, 0x2fff, 0x8fff]);
+                let draft = shl(exec, pred, &nowhere, &one(), &one());
+                with(r, scene, &draft)
+            },
+        ),
         ("kernel of 4,096 bytes, 178 instructions", 0, |r| {
             let mut scene = base_scene(r);
             let dst = byte_destination(&mut scene);
