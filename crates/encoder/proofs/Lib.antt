@@ -1,0 +1,3 @@
+pub mod DraftLaws
+pub mod CopyLaws
+pub mod EncodeLaws
