@@ -1,6 +1,6 @@
 -- Each group of fields, field by field, and the number of bytes that an instruction has at most.
 use mathlib.Core.Path.{_≡_, refl}
-use mathlib.Core.List.{List, [], _∷_, _++_}
+use mathlib.Core.List.{[], _∷_, _++_}
 use mathlib.Core.Bool.{Bool, true, false, cond}
 use Prim.Native.Nat.{ℕ, _+_, _≤_}
 use native.Mathlib.Omega.{arith}
@@ -9,7 +9,6 @@ use Rattle.types.specs.Types.{hasHighWord}
 use Rattle.fields.specs.declared.ByteRule.{ByteRule}
 use Rattle.fields.specs.declared.ByteRule.the-variants as byte
 use Rattle.fields.specs.declared.WordRule.the-variants as word
-use Rattle.fields.specs.declared.Field.{Field}
 use Rattle.fields.specs.declared.Field.the-variants.{Byte, Word, Dword, Lacking}
 use Rattle.fields.specs.Layout.{layoutBytes, layoutRefusal}
 use Rattle.fields.proofs.FieldLaws.{AtMost, at-most-nil, at-most-byte, at-most-word, at-most-dword, at-most-lacking, at-most-append, ZeroThreeOrFour, layout-refusals}

@@ -5,10 +5,10 @@ use mathlib.Core.Bool.{Bool, true, false, cond}
 use Prim.Native.Nat.{ℕ, suc, _+_, _≤_, _<_}
 use native.Mathlib.Numerals.{add-one}
 use native.Mathlib.Omega.{arith}
-use lib.ListN.{length, take, set, length-append, length-set}
+use lib.ListN.{length, take, length-append, length-set}
 use lib.Seq.{take-suc-set}
 use lib.Dec.{ltb, eqb}
-use borrow.Author.Tests.{lt-ltb, eqb-true, eq-eqb}
+use borrow.Author.Tests.{lt-ltb, eqb-true}
 use Rattle.fields.specs.declared.Field.{Field}
 use Rattle.fields.specs.Layout.{fieldBytes, fieldRefusal, layoutBytes, layoutRefusal}
 use Rattle.fields.proofs.FieldLaws.{layout-nil, layout-cons, refusal-cons}

@@ -1,5 +1,5 @@
 -- One field and the fields after it: bytes, number of bytes, the refusals that there are, and numbers that fit.
-use mathlib.Core.Path.{_≡_, refl, sym, ap, _∙_}
+use mathlib.Core.Path.{_≡_, refl, ap, _∙_}
 use mathlib.Core.List.{List, [], _∷_, _++_}
 use mathlib.Core.Bool.{Bool, true, false, cond}
 use mathlib.Core.Logic.{_⊎_, inl, inr}
@@ -9,16 +9,16 @@ use lib.ListN.{length, length-append}
 use lib.Dec.{eqb}
 use Rattle.little_endian.specs.LittleEndian.{bytesOf, Bytes}
 use Rattle.little_endian.proofs.Laws.{length-bytes}
-use Rattle.little_endian.proofs.Parts.{nil-bytes, bytes-append, bytes-small}
+use Rattle.little_endian.proofs.Parts.{nil-bytes, bytes-append, bytes-before, bytes-after, bytes-small, small-bytes}
 use Rattle.fields.specs.declared.ByteRule.{ByteRule}
 use Rattle.fields.specs.declared.ByteRule.the-variants as byte
 use Rattle.fields.specs.declared.WordRule.{WordRule}
 use Rattle.fields.specs.declared.WordRule.the-variants as word
 use Rattle.fields.specs.declared.Field.{Field}
 use Rattle.fields.specs.declared.Field.the-variants.{Byte, Word, Dword, Lacking}
-use Rattle.fields.specs.Rules.{judged, tagRefusal, byteRefusal, wordRefusal, execGood, scatterExecGood, channelsGood, sourceCountGood, destinationTagGood, sourceTagGood, predicateGood, regionGood}
+use Rattle.fields.specs.Rules.{judged, tagRefusal, byteRefusal, wordRefusal}
 use Rattle.fields.specs.Layout.{fieldBytes, fieldRefusal, layoutBytes, layoutRefusal}
-use Rattle.fields.proofs.Laws.{layout-append}
+use Rattle.fields.proofs.Laws.{layout-append, good-append, lacking-zero}
 
 -- ---- one field
 
@@ -156,3 +156,18 @@ pub layout-fits : (fs : List Field) → LayoutFits fs → Bytes (layoutBytes fs)
 unfolding layoutBytes
 layout-fits [] h = nil-bytes
 layout-fits (f ∷ fs) h = bytes-append (fieldBytes f) (layoutBytes fs) (field-fits f (h .0)) (layout-fits fs (h .1))
+
+fits-field : (f : Field) → layoutRefusal (f ∷ []) ≡ 0 → Bytes (fieldBytes f) → FieldFits f
+unfolding fieldBytes
+fits-field (Byte rule v) g p = small-bytes 0 v p
+fits-field (Word rule v) g p = small-bytes 1 v p
+fits-field (Dword v) g p = small-bytes 3 v p
+fits-field (Lacking v) g p = omega (arith, lacking-zero v g)
+
+-- good fields that have bytes alone
+pub fits-layout : (fs : List Field) → layoutRefusal fs ≡ 0 → Bytes (layoutBytes fs) → LayoutFits fs
+fits-layout [] g p = tt
+fits-layout (f ∷ fs) g p =
+    let goods = good-append (f ∷ []) fs g in
+    let b : Bytes (fieldBytes f ++ layoutBytes fs) = rw layout-cons at p in
+    (fits-field f (goods .0) (bytes-before (fieldBytes f) (layoutBytes fs) b), fits-layout fs (goods .1) (bytes-after (fieldBytes f) (layoutBytes fs) b))
