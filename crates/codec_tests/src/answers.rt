@@ -1,4 +1,5 @@
 // What decoder and encoder answer, written out.
+use crate::built;
 use crate::output;
 use decoder::Decoded;
 use decoder::Instruction;
@@ -8,11 +9,11 @@ use encoder::Encoded;
 fn encode_into(instruction: Instruction, buffer: &mut [u8]) {
     match encoder::encode(instruction, buffer) {
         Encoded::Wrote(count) => {
-            output::text(b" wrote ");
+            output::text(b"wrote ");
             output::number(count);
         }
         Encoded::Refused(number) => {
-            output::text(b" refused ");
+            output::text(b"refused ");
             output::number(output::wide(number));
         }
     }
@@ -21,12 +22,12 @@ fn encode_into(instruction: Instruction, buffer: &mut [u8]) {
 }
 
 // The same for a buffer of `room` bytes, each 0xaa before.
-pub fn encode(instruction: Instruction, room: usize) {
+fn encode(instruction: Instruction, room: usize) {
     let mut buffer = [0xaau8; 64];
     if room <= 64 {
         encode_into(instruction, &mut buffer[..room]);
     } else {
-        output::text(b" too long");
+        output::text(b"too long");
     }
 }
 
@@ -40,11 +41,11 @@ fn encode_again(instruction: Instruction, size: usize) {
     }
     let less = size - 1;
     let more = size + 1;
-    output::text(b" |");
+    output::text(b" | ");
     encode(instruction, size);
-    output::text(b" |");
+    output::text(b" | ");
     encode(instruction, less);
-    output::text(b" |");
+    output::text(b" | ");
     encode(instruction, more);
 }
 
@@ -64,5 +65,12 @@ pub fn decode_and_encode(kernel: &[u8]) {
         }
         Decoded::Refused(_) => {}
     }
+    output::text(b"\n");
+}
+
+// Encoding the instruction of these numbers.
+pub fn encode_built(numbers: &[u8]) {
+    let room = output::wide(built::byte(numbers, 0));
+    encode(built::instruction(numbers), room);
     output::text(b"\n");
 }

@@ -50,9 +50,20 @@ fn answer_kernel(line: &[u8]) {
     }
 }
 
+fn answer_built(line: &[u8]) {
+    let numbers = kernel_of(line);
+    answers::encode_built(&numbers);
+}
+
 fn answer_line(line: &[u8]) {
-    if 0 < line.len() && line[0] == b'#' {
-        output::text(line);
+    if line.len() == 0 {
+        return;
+    }
+    if line[0] == b'#' {
+        return output::text(line);
+    }
+    if line[0] == b'=' {
+        answer_built(&line[1..]);
     } else {
         answer_kernel(line);
     }
@@ -84,5 +95,4 @@ fn main() {
     let count = io::read_full(0, &mut text);
     answer_lines(&text[..count]);
     places::decode_each();
-    built::encode_each();
 }
