@@ -9,15 +9,14 @@ use encoder::Encoded;
 fn encode_into(instruction: Instruction, buffer: &mut [u8]) {
     match encoder::encode(instruction, buffer) {
         Encoded::Wrote(count) => {
-            output::text(b"wrote ");
+            output::text(b" wrote ");
             output::number(count);
         }
         Encoded::Refused(number) => {
-            output::text(b"refused ");
+            output::text(b" refused ");
             output::number(output::wide(number));
         }
     }
-    output::text(b" ");
     output::bytes(buffer);
 }
 
@@ -27,7 +26,7 @@ fn encode(instruction: Instruction, room: usize) {
     if room <= 64 {
         encode_into(instruction, &mut buffer[..room]);
     } else {
-        output::text(b"too long");
+        output::text(b" too long");
     }
 }
 
@@ -41,18 +40,14 @@ fn encode_again(instruction: Instruction, size: usize) {
     }
     let less = size - 1;
     let more = size + 1;
-    output::text(b" | ");
     encode(instruction, size);
-    output::text(b" | ");
     encode(instruction, less);
-    output::text(b" | ");
     encode(instruction, more);
 }
 
 // The number of decoding at a place, and the instruction's own bytes.
 pub fn decode(kernel: &[u8], at: usize) {
     output::number(output::wide(decoder::decode_number(kernel, at)));
-    output::text(b" ");
     output::bytes(decoder::own_bytes(kernel, at));
 }
 
@@ -71,6 +66,7 @@ pub fn decode_and_encode(kernel: &[u8]) {
 // Encoding the instruction of these numbers.
 pub fn encode_built(numbers: &[u8]) {
     let room = output::wide(built::byte(numbers, 0));
+    output::text(b"=");
     encode(built::instruction(numbers), room);
     output::text(b"\n");
 }

@@ -8,8 +8,10 @@ pub fn text(s: &[u8]) {
     io::write_all(1, s);
 }
 
+// A number and a space.
 pub fn number(n: usize) {
     io::print_decimal(1, n as u64);
+    text(b" ");
 }
 
 fn byte(v: u8) {

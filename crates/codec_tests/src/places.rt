@@ -8,13 +8,11 @@ fn decode_at(at: usize) {
         b"\x24\x03\x00\x00\x00\x01\x00\x00\x00\x00\x02\x00\x00\x00\x00\x00\x55\x02\x05\x02\x01\x00\x00\x00\x24";
     output::text(b"place ");
     output::number(at);
-    output::text(b": ");
     answers::decode(kernel, at);
     output::text(b"\n");
 }
 
 pub fn decode_each() {
-    decode_at(0);
     decode_at(1);
     decode_at(24);
     decode_at(25);
