@@ -45,15 +45,15 @@ fn encode_again(instruction: Instruction, size: usize) {
     encode(instruction, more);
 }
 
-// The number of decoding at a place, and the instruction's own bytes.
-pub fn decode(kernel: &[u8], at: usize) {
-    output::number(output::wide(decoder::decode_number(kernel, at)));
-    output::bytes(decoder::own_bytes(kernel, at));
+// The number of decoding at the start, and the instruction's own bytes.
+fn decode(kernel: &[u8]) {
+    output::number(output::wide(decoder::decode_number(kernel, 0)));
+    output::bytes(decoder::own_bytes(kernel, 0));
 }
 
-// The same at the kernel's start, and encoding what was decoded.
+// The same, and encoding what was decoded.
 pub fn decode_and_encode(kernel: &[u8]) {
-    decode(kernel, 0);
+    decode(kernel);
     match decoder::decode(kernel, 0) {
         Decoded::Accepted(instruction, cursor) => {
             encode_again(instruction, cursor.at);

@@ -3,7 +3,6 @@
 mod answers;
 mod built;
 mod output;
-mod places;
 
 ghost use mathlib.Core.Path.{_≡_};
 ghost use Prim.Native.Nat.{_≤_, _<_};
@@ -94,5 +93,4 @@ fn main() {
     let mut text = [0u8; 131072];
     let count = io::read_full(0, &mut text);
     answer_lines(&text[..count]);
-    places::decode_each();
 }
