@@ -20,13 +20,11 @@ fn encode_into(instruction: Instruction, buffer: &mut [u8]) {
     output::bytes(buffer);
 }
 
-// The same for a buffer of `room` bytes, each 0xaa before.
+// The same for a buffer of `room` bytes, at most 64, each 0xaa before.
 fn encode(instruction: Instruction, room: usize) {
     let mut buffer = [0xaau8; 64];
     if room <= 64 {
         encode_into(instruction, &mut buffer[..room]);
-    } else {
-        output::text(b" too long");
     }
 }
 
@@ -45,15 +43,10 @@ fn encode_again(instruction: Instruction, size: usize) {
     encode(instruction, more);
 }
 
-// The number of decoding at the start, and the instruction's own bytes.
-fn decode(kernel: &[u8]) {
+// The number of decoding at the start, the instruction's own bytes, and encoding what was decoded.
+pub fn decode_and_encode(kernel: &[u8]) {
     output::number(output::wide(decoder::decode_number(kernel, 0)));
     output::bytes(decoder::own_bytes(kernel, 0));
-}
-
-// The same, and encoding what was decoded.
-pub fn decode_and_encode(kernel: &[u8]) {
-    decode(kernel);
     match decoder::decode(kernel, 0) {
         Decoded::Accepted(instruction, cursor) => {
             encode_again(instruction, cursor.at);

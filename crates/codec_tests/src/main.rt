@@ -38,14 +38,12 @@ fn kernel_of(line: &[u8]) -> [u8; 64]
     kernel
 }
 
-// A line of hex with its line end, so that half its length, rounded down, is the kernel's.
+// A line of hex with its line end, so that half its length, rounded down, is the kernel's: at most 64.
 fn answer_kernel(line: &[u8]) {
     let count = line.len() / 2;
     let kernel = kernel_of(line);
     if count <= 64 {
         answers::decode_and_encode(&kernel[..count]);
-    } else {
-        output::text(b"too long\n");
     }
 }
 

@@ -12,5 +12,4 @@ slice-aggregate-decode-and-encode c = sym (length-take-le _ _ (omega arith))
 pub answer-kernel-spec : {M : Type 1} → statement M
 answer-kernel-spec =
     tie.close
-    (tie.spec (λ c κs. search needs) (λ c. search needs) slice-aggregate-decode-and-encode (λ c κs. search needs) (λ c. search needs) (λ c κs. search needs)
-    (λ c. search needs) (λ c. search needs))
+    (tie.spec (λ c κs. search needs) (λ c. search needs) slice-aggregate-decode-and-encode (λ c κs. search needs) (λ c. search needs) (λ c. search needs))

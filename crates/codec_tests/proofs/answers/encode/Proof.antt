@@ -12,5 +12,4 @@ slice-aggregate-encode-into c = sym (length-take-le _ _ (omega arith))
 pub encode-spec : {M : Type 1} → statement M
 encode-spec =
     tie.close
-    (tie.spec (λ c. search needs) slice-aggregate-encode-into (λ c κs. search needs) (λ c. search needs) (λ c κs. search needs) (λ c. search needs)
-    (λ c. search needs))
+    (tie.spec (λ c. search needs) slice-aggregate-encode-into (λ c κs. search needs) (λ c. search needs) (λ c. search needs))
