@@ -1,0 +1,56 @@
+-- What good tables and lengths give the crates above.
+use mathlib.Core.Path.{_≡_}
+use mathlib.Core.Bool.{true}
+use Prim.Native.Nat.{ℕ, _+_, _≤_, _<_}
+use lib.Dec.{leb}
+use lib.ListN.{length, getD}
+use borrow.Author.Tests.{leb-true}
+use Rattle.tables.specs.declared.Lengths.{Lengths}
+use Rattle.tables.specs.Lengths.{lengthsGood}
+use Rattle.tables.specs.Variables.{variablesGood}
+use Rattle.tables.specs.Surfaces.{surfaceLength, surfaceStart, surfacesGood}
+use Rattle.tables.specs.Tables.{Tables, tablesGood}
+use Rattle.tables.proofs.All.{All4, all4}
+use Rattle.tables.proofs.Limits.{Limited, lengths-limited}
+use Rattle.tables.proofs.Placement as placement
+use Rattle.tables.proofs.Placement.{Placed}
+use Rattle.tables.proofs.SurfacePlaces as places
+
+pub record Counted (t : Tables) : Type 0 where
+  pub variables-few : length (t .types) ≤ 256
+  pub starts-length : length (t .starts) ≡ length (t .types)
+  pub counts-length : length (t .counts) ≡ length (t .types)
+  pub predicates-few : length (t .predicates) ≤ 64
+  pub surfaces-few : length (t .surfaces) ≤ 8
+
+module _ (l : Lengths) (t : Tables) (good : tablesGood l t ≡ true) where
+  tests : All4 (lengthsGood l) (variablesGood (l .registers) (t .types) (t .starts) (t .counts)) (leb (length (t .predicates)) 64)
+      (surfacesGood (l .surfaces) (t .surfaces))
+  unfolding tablesGood
+  tests = all4 _ _ _ _ good
+
+  pub limited : Limited l
+  limited = lengths-limited l (tests .before .first)
+
+  pub counted : Counted t
+  counted =
+      let v = tests .before .second in
+      record {
+        variables-few = placement.variables-few _ _ _ _ v;
+        starts-length = placement.starts-length _ _ _ _ v;
+        counts-length = placement.counts-length _ _ _ _ v;
+        predicates-few = leb-true _ _ (tests .before .third);
+        surfaces-few = places.surfaces-few _ _ (tests .fourth);
+      }
+
+  pub placed : (k : ℕ) → k < length (t .types) → Placed (l .registers) (getD (t .types) k 0) (getD (t .starts) k 0) (getD (t .counts) k 0)
+  placed = placement.variable-placed _ _ _ _ (tests .before .second)
+
+  pub surface-inside : (k : ℕ) → k < length (t .surfaces) → surfaceStart (t .surfaces) k + surfaceLength (t .surfaces) k ≤ l .surfaces
+  surface-inside = places.surface-inside _ _ (tests .fourth)
+
+  pub surface-small : (k : ℕ) → k < length (t .surfaces) → surfaceLength (t .surfaces) k ≤ 1024
+  surface-small = places.surface-small _ _ (tests .fourth)
+
+  pub surfaces-small : l .surfaces ≤ 8192
+  surfaces-small = places.surfaces-small _ _ (tests .fourth)

@@ -1,0 +1,7 @@
+pub mod All
+pub mod Every
+pub mod Limits
+pub mod Placement
+pub mod SurfacePlaces
+pub mod Laws
+pub mod Worked

@@ -1,0 +1,76 @@
+-- Where a good variable lies in the register file: each test of `variableGood` as a fact, for every variable of a good table.
+use mathlib.Core.Path.{_≡_}
+use mathlib.Core.Bool.{true, _&&_}
+use mathlib.Core.List.{List}
+use Prim.Native.Nat.{ℕ, _+_, _*_, _-_, _/_, _%_, _≤_, _<_}
+use lib.Dec.{leb, eqb}
+use lib.ListN.{length, getD}
+use borrow.Author.Tests.{leb-true, eqb-true, le-leb, lt-leb}
+use Rattle.types.specs.Types.{sizeOf, isListed}
+use Rattle.types.proofs.Sizes.{listed-size}
+use Rattle.tables.specs.Lengths.{registerSize}
+use Rattle.tables.specs.Every.{every}
+use Rattle.tables.specs.Variables.{lineGood, variableGood, variableGoodAt, variablesGood}
+use Rattle.tables.proofs.All.{All4, left, right, all4}
+use Rattle.tables.proofs.Every.{every-each}
+
+pub record Placed (registers code start count : ℕ) : Type 0 where
+  pub listed : isListed code ≡ true
+  pub sized : 0 < sizeOf code
+  pub some : 1 ≤ count
+  pub inside : start + count * sizeOf code ≤ registers
+  pub aligned : start % sizeOf code ≡ 0
+  pub long : registerSize ≤ count * sizeOf code → start % registerSize ≡ 0
+  pub short : count * sizeOf code < registerSize → start / registerSize ≡ (start + count * sizeOf code - 1) / registerSize
+
+line-long : (start bytes : ℕ) → lineGood start bytes ≡ true → registerSize ≤ bytes → start % registerSize ≡ 0
+unfolding lineGood
+line-long start bytes h g = eqb-true (start % registerSize) 0 (rw (le-leb registerSize bytes g) at h)
+
+line-short : (start bytes : ℕ) → lineGood start bytes ≡ true → bytes < registerSize → start / registerSize ≡ (start + bytes - 1) / registerSize
+unfolding lineGood
+line-short start bytes h g =
+    eqb-true (start / registerSize) ((start + bytes - 1) / registerSize) (rw (lt-leb registerSize bytes g) at h)
+
+good-placed : (registers code start count : ℕ) → variableGood registers code start count ≡ true → Placed registers code start count
+unfolding variableGood
+good-placed registers code start count h =
+    let bytes = count * sizeOf code in
+    let listed = isListed code in
+    let some = leb 1 count in
+    let inside = leb (start + bytes) registers in
+    let aligned = eqb (start % sizeOf code) 0 in
+    let others = listed && some && inside && aligned in
+    let a = all4 listed some inside aligned (left others (lineGood start bytes) h) in
+    let line = right others (lineGood start bytes) h in
+    record {
+      listed = a .before .first;
+      sized = listed-size code (a .before .first);
+      some = leb-true 1 count (a .before .second);
+      inside = leb-true (start + bytes) registers (a .before .third);
+      aligned = eqb-true (start % sizeOf code) 0 (a .fourth);
+      long = line-long start bytes line;
+      short = line-short start bytes line;
+    }
+
+-- a good table of variables
+module _ (registers : ℕ) (types starts counts : List ℕ) (good : variablesGood registers types starts counts ≡ true) where
+  tests : All4 (leb (length types) 256) (eqb (length starts) (length types)) (eqb (length counts) (length types))
+      (every (variableGoodAt registers types starts counts) (length types))
+  unfolding variablesGood
+  tests = all4 _ _ _ _ good
+
+  pub variables-few : length types ≤ 256
+  variables-few = leb-true (length types) 256 (tests .before .first)
+
+  pub starts-length : length starts ≡ length types
+  starts-length = eqb-true (length starts) (length types) (tests .before .second)
+
+  pub counts-length : length counts ≡ length types
+  counts-length = eqb-true (length counts) (length types) (tests .before .third)
+
+  pub variable-placed : (k : ℕ) → k < length types → Placed registers (getD types k 0) (getD starts k 0) (getD counts k 0)
+  unfolding variableGoodAt
+  variable-placed k h =
+      good-placed registers (getD types k 0) (getD starts k 0) (getD counts k 0)
+      (every-each (variableGoodAt registers types starts counts) (length types) (tests .fourth) k h)

@@ -1,0 +1,5 @@
+pub mod Lengths
+pub mod Every
+pub mod Variables
+pub mod Surfaces
+pub mod Tables

@@ -1,0 +1,207 @@
+// What the caller's tables and lengths must satisfy before a run begins (refusal 13), and where a surface lies.
+ghost use mathlib.Core.Path.{_≡_};
+ghost use Prim.Native.Nat.{_+_, _<_, _≤_};
+ghost use lib.ListN.{length};
+ghost use Rattle.tables.specs.Lengths.{registersGood, addressesGood, taintGood, lengthsGood};
+ghost use Rattle.tables.specs.Every.{every};
+ghost use Rattle.tables.specs.Variables.{lineGood, variableGood, variableGoodAt, variablesGood};
+ghost use Rattle.tables.specs.Surfaces.{surfaceLength, surfaceStart, surfaceGoodAt, surfacesGood};
+ghost use Rattle.tables.specs.Tables.{tables, tablesGood};
+
+pub const REGISTER_SIZE: usize = 32;
+
+const LAST_ADDRESS: u64 = 18446744073709551615;
+
+// The lengths of the three taint buffers.
+pub struct TaintLengths {
+    pub registers: usize,
+    pub surfaces: usize,
+    pub memory: usize,
+}
+
+// The lengths of the caller's buffers, and the address of the first byte of memory.
+pub struct Lengths {
+    pub kernel: usize,
+    pub registers: usize,
+    pub surfaces: usize,
+    pub memory: usize,
+    pub base: u64,
+    pub taint: TaintLengths,
+}
+
+fn registers_good(bytes: usize) -> bool
+    ensures { λ r. ⌜ r ≡ registersGood bytes ⌝ }
+{
+    bytes % REGISTER_SIZE == 0 && bytes <= 4096
+}
+
+// The last byte of memory, if there is one, has an address.
+fn addresses_good(base: u64, bytes: usize) -> bool
+    ensures { λ r. ⌜ r ≡ addressesGood base bytes ⌝ }
+{
+    if bytes == 0 {
+        return true;
+    }
+    let last = (bytes - 1) as u64;
+    last <= LAST_ADDRESS - base
+}
+
+fn taint_good(lengths: Lengths) -> bool
+    ensures { λ r. ⌜ r ≡ taintGood lengths ⌝ }
+{
+    if lengths.taint.registers != lengths.registers {
+        return false;
+    }
+    if lengths.taint.surfaces != lengths.surfaces {
+        return false;
+    }
+    lengths.taint.memory == lengths.memory
+}
+
+fn lengths_good(lengths: Lengths) -> bool
+    ensures { λ r. ⌜ r ≡ lengthsGood lengths ⌝ }
+{
+    if !registers_good(lengths.registers) {
+        return false;
+    }
+    if 4096 < lengths.kernel {
+        return false;
+    }
+    if 4096 < lengths.memory {
+        return false;
+    }
+    if !addresses_good(lengths.base, lengths.memory) {
+        return false;
+    }
+    taint_good(lengths)
+}
+
+// A long variable starts a register; the first and the last byte of a short one lie in the same register.
+fn line_good(start: usize, bytes: usize) -> bool
+    requires { ⌜ (0 < bytes) × (start + bytes ≤ 4294967296) ⌝ }
+    ensures { λ r. ⌜ r ≡ lineGood start bytes ⌝ }
+{
+    if REGISTER_SIZE <= bytes {
+        return start % REGISTER_SIZE == 0;
+    }
+    start / REGISTER_SIZE == (start + bytes - 1) / REGISTER_SIZE
+}
+
+fn variable_good(registers: usize, code: u8, start: u16, count: u16) -> bool
+    ensures { λ r. ⌜ r ≡ variableGood registers code start count ⌝ }
+{
+    if !types::is_listed(code) {
+        return false;
+    }
+    if count < 1 {
+        return false;
+    }
+    let first = start as usize;
+    let size = types::size_of(code) as usize;
+    let bytes = count as usize * size;
+    if registers < first + bytes {
+        return false;
+    }
+    if first % size != 0 {
+        return false;
+    }
+    line_good(first, bytes)
+}
+
+fn every_variable_good(registers: usize, types: &[u8], starts: &[u16], counts: &[u16]) -> bool
+    requires { ⌜ (length (now starts) ≡ length (now types)) × (length (now counts) ≡ length (now types)) ⌝ }
+    ensures { λ r. ⌜ r ≡ every (variableGoodAt registers (now (types .entry)) (now (starts .entry)) (now (counts .entry))) (length (now (types .entry))) ⌝ }
+{
+    let mut i = 0;
+    while i < types.len() {
+        if !variable_good(registers, types[i], starts[i], counts[i]) {
+            return false;
+        }
+        i += 1;
+    }
+    true
+}
+
+fn variables_good(registers: usize, types: &[u8], starts: &[u16], counts: &[u16]) -> bool
+    ensures { λ r. ⌜ r ≡ variablesGood registers (now (types .entry)) (now (starts .entry)) (now (counts .entry)) ⌝ }
+{
+    if 256 < types.len() {
+        return false;
+    }
+    if starts.len() != types.len() {
+        return false;
+    }
+    if counts.len() != types.len() {
+        return false;
+    }
+    every_variable_good(registers, types, starts, counts)
+}
+
+// The bytes of a surface, 0 for one that is not in the table.
+pub fn surface_length(surfaces: &[u16], index: u8) -> u16
+    ensures { λ r. ⌜ r ≡ surfaceLength (now (surfaces .entry)) index ⌝ }
+{
+    let i = index as usize;
+    if i < surfaces.len() { surfaces[i] } else { 0 }
+}
+
+// Where a surface begins in the surface buffer: the lengths before it, added up.
+pub fn surface_start(surfaces: &[u16], index: u8) -> usize
+    ensures { λ r. ⌜ r ≡ surfaceStart (now (surfaces .entry)) index ⌝ }
+{
+    let mut sum: usize = 0;
+    let mut i: u8 = 0;
+    while i < index {
+        sum += surface_length(surfaces, i) as usize;
+        i += 1;
+    }
+    sum
+}
+
+fn every_surface_good(surfaces: &[u16]) -> bool
+    ensures { λ r. ⌜ r ≡ every (surfaceGoodAt (now (surfaces .entry))) (length (now (surfaces .entry))) ⌝ }
+{
+    let mut i = 0;
+    while i < surfaces.len() {
+        if 1024 < surfaces[i] {
+            return false;
+        }
+        i += 1;
+    }
+    true
+}
+
+fn surfaces_good(bytes: usize, surfaces: &[u16]) -> bool
+    ensures { λ r. ⌜ r ≡ surfacesGood bytes (now (surfaces .entry)) ⌝ }
+{
+    if 8 < surfaces.len() {
+        return false;
+    }
+    if !every_surface_good(surfaces) {
+        return false;
+    }
+    surface_start(surfaces, surfaces.len() as u8) == bytes
+}
+
+// Whether all tables and lengths keep the sizes; a run answers 13 if not.
+pub fn tables_good(
+    lengths: Lengths,
+    types: &[u8],
+    starts: &[u16],
+    counts: &[u16],
+    predicates: &[u32],
+    surfaces: &[u16],
+) -> bool
+    ensures { λ r. ⌜ r ≡ tablesGood lengths (tables (now (types .entry)) (now (starts .entry)) (now (counts .entry)) (now (predicates .entry)) (now (surfaces .entry))) ⌝ }
+{
+    if !lengths_good(lengths) {
+        return false;
+    }
+    if !variables_good(lengths.registers, types, starts, counts) {
+        return false;
+    }
+    if 64 < predicates.len() {
+        return false;
+    }
+    surfaces_good(lengths.surfaces, surfaces)
+}
