@@ -113,7 +113,7 @@ module _ {X : Type 0} (P : X → Type 0) (s : List ℕ) (b : Bytes s) (at : ℕ)
 
 -- a high word that the type lacks takes no byte
 pub parsed-lacking : {s : List ℕ} {at : ℕ} {c : Cursor} {fs : List Field} → Parsed s at c fs → Parsed s (c .at) c (field.Lacking 0 ∷ [])
-unfolding fieldBytes fieldRefusal
+unfolding fieldBytes fieldRefusal judged
 parsed-lacking {s} {at} {c} p = parsed-one (field.Lacking 0) (record { end = omega arith; inside = p .passed .inside; bytes = refl }) refl
 
 -- what begins with a byte has a byte
@@ -134,17 +134,17 @@ pub record There {A : Type 0} (r : A) (got : Cursor → A) (s : List ℕ) (at : 
 pub layout-parts : (fs gs : List Field) (t : List ℕ) → layoutBytes (fs ++ gs) ++ t ≡ layoutBytes fs ++ (layoutBytes gs ++ t)
 layout-parts fs gs t = ap (λ (l : List ℕ). l ++ t) (layout-append fs gs) ∙ append-assoc (layoutBytes fs) (layoutBytes gs) t
 
-pub ends : (fs gs : List Field) {at : ℕ} (c d : Cursor) → c .at ≡ at + length (layoutBytes fs) → d .at ≡ c .at + length (layoutBytes gs) → d .at ≡ at + length (layoutBytes (fs ++ gs))
-ends fs gs c d p q = rw (layout-append fs gs, length-append (layoutBytes fs) (layoutBytes gs)) (omega arith)
+pub ends : (fs gs : List Field) (at : ℕ) (c d : Cursor) → c .at ≡ at + length (layoutBytes fs) → d .at ≡ c .at + length (layoutBytes gs) → d .at ≡ at + length (layoutBytes (fs ++ gs))
+ends fs gs at c d p q = rw (layout-append fs gs, length-append (layoutBytes fs) (layoutBytes gs)) (omega arith)
 
 -- the high word of an immediate whose type lacks it is 0
 pub lacking-zero : (v : ℕ) → layoutRefusal (field.Lacking v ∷ []) ≡ 0 → v ≡ 0
 unfolding fieldRefusal judged
 lacking-zero v g = told (eqb v 0) refl (good-one (field.Lacking v) g)
   where
-    told : (b : Bool) → eqb v 0 ≡ b → cond b 0 3 ≡ 0 → v ≡ 0
+    told : (b : Bool) → eqb v 0 ≡ b → _≡_ {A = ℕ} (cond b 0 3) 0 → v ≡ 0
     told true t h = eqb-true v 0 t
-    told false t h = absurd (omega (arith, h))
+    told false t h = absurd (omega arith)
 
 pub lacking-rest : (v : ℕ) (t : List ℕ) → layoutBytes (field.Lacking v ∷ []) ++ t ≡ t
 unfolding layoutBytes fieldBytes
