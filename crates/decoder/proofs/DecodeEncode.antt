@@ -1,7 +1,7 @@
 -- Decoding, then encoding: what decoding accepts is laid out in exactly the bytes that it was decoded from, and is good.
 use mathlib.Core.Path.{_≡_, subst}
 use mathlib.Core.List.{List, [], _∷_}
-use mathlib.Core.Bool.{true, false}
+use mathlib.Core.Bool.{Bool, true, false, cond}
 use Prim.Native.Nat.{ℕ}
 use lib.Dec.{eqb}
 use borrow.Author.Tests.{eqb-true}
@@ -11,6 +11,7 @@ use Rattle.reader.specs.declared.Cursor.{Cursor}
 use Rattle.fields.specs.declared.ByteRule.{ByteRule}
 use Rattle.fields.specs.declared.ByteRule.the-variants as byte
 use Rattle.fields.specs.declared.WordRule.the-variants as word
+use Rattle.fields.specs.declared.Field.{Field}
 use Rattle.fields.specs.declared.Field.the-variants.{Byte, Dword, Lacking}
 use Rattle.decoder.specs.declared.Control.{Control}
 use Rattle.decoder.specs.declared.ControlField.{ControlField}
@@ -27,10 +28,11 @@ use Rattle.decoder.specs.declared.Message.{Message}
 use Rattle.decoder.specs.declared.MessageField.{MessageField}
 use Rattle.decoder.specs.declared.MessageField.the-variants as message
 use Rattle.decoder.specs.declared.Operand.{Operand}
+use Rattle.decoder.specs.declared.Operand.the-variants.{Immediate}
 use Rattle.decoder.specs.declared.Instruction.{Instruction}
 use Rattle.decoder.specs.declared.Decoded.{Decoded}
 use Rattle.decoder.specs.declared.Decoded.the-variants as decoded
-use Rattle.decoder.specs.Decoding.{onControl, onOperand, onRaw, onAccess, onMessage, controlAt, generalAt, immediateAt, operandAt, rawAt, accessAt, messageAt, shlAt, gatherAt, scatterAt, svmAt, rawSendAt, instructionAt}
+use Rattle.decoder.specs.Decoding.{onControl, onOperand, onRaw, onAccess, onMessage, controlAt, generalAt, highAt, immediateAt, operandAt, rawAt, accessAt, messageAt, shlAt, gatherAt, scatterAt, svmAt, rawSendAt, instructionAt}
 use Rattle.decoder.specs.Format.{controlFields, highField, operandFields, rawFields, accessFields, messageFields, shlFields, gatherFields, scatterFields, rawSendFields, instructionFields}
 use Rattle.reader.proofs.Laws.{cond-then}
 use Rattle.fields.proofs.Laws.{Parsed, parsed-then, parsed-lacking, byte-field-then, word-field-then, dword-field-then}
@@ -104,24 +106,19 @@ module _ (s : List ℕ) (b : Bytes s) where
       parsed-then p (parsed-then p₁ (parsed-then p₂ (parsed-then p₃ p₄)))))))
 
   -- the high word, where the type has one and where it lacks it
-  high-there : (at : ℕ) (c : Cursor) (code high : ℕ) → hasHighWord code ≡ true → Parsed s at c (Dword high ∷ []) → Parsed s at c (highField code high ∷ [])
-  unfolding highField
-  high-there at c code high e p = rw e p
-
-  high-lacking : (at : ℕ) (c : Cursor) (code : ℕ) → hasHighWord code ≡ false → Parsed s at c (Lacking 0 ∷ []) → Parsed s at c (highField code 0 ∷ [])
-  unfolding highField
-  high-lacking at c code e p = rw e p
+  high-parsed : (P : OperandField → Type 0) (wide : Bool) (at : ℕ) (c : Cursor) (fs : List Field) (code low : ℕ) → Parsed s at c fs → ((n : ℕ) → P (operand.Refused n)) → ((high : ℕ) (d : Cursor) → Parsed s (c .at) d (cond wide (Dword high) (Lacking high) ∷ []) → P (operand.Got (Immediate (record { code = code; low = low; high = high })) d)) → P (highAt wide code low s c)
+  unfolding highAt
+  high-parsed P true at c fs code low p refusal on = dword-field-then P s b (c .at) refusal (λ high d q. on high d q)
+  high-parsed P false at c fs code low p refusal on = on 0 c (parsed-lacking p)
 
   immediate-parsed : (rule : ByteRule) (at : ℕ) (c : Cursor) → Parsed s at c (Byte rule 5 ∷ []) → OperandParsed rule s at (immediateAt s (c .at))
-  unfolding immediateAt operandFields
+  unfolding immediateAt operandFields highField
   immediate-parsed rule at c p =
       let P = OperandParsed rule s at in
       byte-field-then P s b (c .at) (λ n. tt) byte.ImmediateType (λ code c₁ p₁.
       dword-field-then P s b (c₁ .at) (λ n. tt) (λ low c₂ p₂.
-      cond-then P (hasHighWord code)
-      (λ e. dword-field-then P s b (c₂ .at) (λ n. tt) (λ high c₃ p₃.
-      parsed-then p (parsed-then p₁ (parsed-then p₂ (high-there (c₂ .at) c₃ code high e p₃)))))
-      (λ e. parsed-then p (parsed-then p₁ (parsed-then p₂ (high-lacking (c₂ .at) c₂ code e (parsed-lacking p₂)))))))
+      high-parsed P (hasHighWord code) (c₁ .at) c₂ (Dword low ∷ []) code low p₂ (λ n. tt) (λ high c₃ p₃.
+      parsed-then p (parsed-then p₁ (parsed-then p₂ p₃)))))
 
   tagged : (rule : ByteRule) (at tag t : ℕ) (c : Cursor) → eqb tag t ≡ true → Parsed s at c (Byte rule tag ∷ []) → Parsed s at c (Byte rule t ∷ [])
   tagged rule at tag t c e p = subst (λ (n : ℕ). Parsed s at c (Byte rule n ∷ [])) (eqb-true tag t e) p

@@ -1,1 +1,3 @@
 pub mod DecodeEncode
+pub mod EncodeDecode
+pub mod Laws

@@ -2,7 +2,7 @@
 -- by field: 1 for a field not whole, then 2 or 3, then 4 for class and modifier."
 use Prim.Native.Nat.{ℕ, _-_}
 use mathlib.Core.List.{List, []}
-use mathlib.Core.Bool.{cond}
+use mathlib.Core.Bool.{Bool, cond}
 use lib.ListN.{take, drop}
 use lib.Dec.{eqb}
 use Rattle.types.specs.Types.{hasHighWord}
@@ -73,15 +73,19 @@ generalAt s at =
     onWordField (wordFieldAt word.Region s (c₃ .at)) operand.Refused (λ region c₄.
     operand.Got (General (record { index = index; row = row; column = column; region = region })) c₄))))
 
+-- the high word of an immediate: "high ud for UQ only", 0 where the type has none
+unfoldable pub highAt : Bool → ℕ → ℕ → List ℕ → Cursor → OperandField
+highAt wide code low s c =
+    cond wide
+    (onDwordField (dwordFieldAt s (c .at)) operand.Refused (λ high d. operand.Got (Immediate (record { code = code; low = low; high = high })) d))
+    (operand.Got (Immediate (record { code = code; low = low; high = 0 })) c)
+
 -- "Immediate, class 5: type ub, low ud, and high ud for UQ only"
 unfoldable pub immediateAt : List ℕ → ℕ → OperandField
 immediateAt s at =
     onByteField (byteFieldAt byte.ImmediateType s at) operand.Refused (λ code c₁.
     onDwordField (dwordFieldAt s (c₁ .at)) operand.Refused (λ low c₂.
-    cond (hasHighWord code)
-    (onDwordField (dwordFieldAt s (c₂ .at)) operand.Refused (λ high c₃.
-    operand.Got (Immediate (record { code = code; low = low; high = high })) c₃))
-    (operand.Got (Immediate (record { code = code; low = low; high = 0 })) c₂)))
+    highAt (hasHighWord code) code low s c₂))
 
 -- "Vector operand: tag (bits 0-2 class, 3-5 modifier)"; the rule of a tag leaves no class but these two
 unfoldable pub operandAt : ByteRule → List ℕ → ℕ → OperandField

@@ -6,7 +6,8 @@ use fields::WordField;
 use fields::WordRule;
 use reader::Cursor;
 ghost use mathlib.Core.Path.{_≡_};
-ghost use Rattle.decoder.specs.Decoding.{controlAt, generalAt, immediateAt, operandAt, rawAt, accessAt, messageAt, shlAt, gatherAt, scatterAt, svmAt, rawSendAt, instructionAt, numberOf, ownBytes};
+ghost use Rattle.types.specs.Types.{hasHighWord};
+ghost use Rattle.decoder.specs.Decoding.{controlAt, generalAt, highAt, immediateAt, operandAt, rawAt, accessAt, messageAt, shlAt, gatherAt, scatterAt, svmAt, rawSendAt, instructionAt, numberOf, ownBytes};
 
 // What stands in front of every instruction: Exec_size and Pred.
 pub struct Control {
@@ -169,25 +170,30 @@ fn general_field(kernel: &[u8], cursor: Cursor) -> OperandField
     }
 }
 
+// The high word of an Immediate operand, where its type has one.
+fn high_field(kernel: &[u8], cursor: Cursor, code: u8, low: u32) -> OperandField
+    ensures { λ r. ⌜ r ≡ highAt (hasHighWord code) code low (now (kernel .entry)) cursor ⌝ }
+{
+    if types::has_high_word(code) {
+        match fields::dword_field(kernel, cursor) {
+            DwordField::Got(high, next) => OperandField::Got(
+                Operand::Immediate(Immediate { code, low, high }),
+                next,
+            ),
+            DwordField::Refused(number) => OperandField::Refused(number),
+        }
+    } else {
+        OperandField::Got(Operand::Immediate(Immediate { code, low, high: 0 }), cursor)
+    }
+}
+
 // An Immediate operand after its tag.
 fn immediate_field(kernel: &[u8], cursor: Cursor) -> OperandField
     ensures { λ r. ⌜ r ≡ immediateAt (now (kernel .entry)) (cursor .at) ⌝ }
 {
     match fields::byte_field(kernel, cursor, ByteRule::ImmediateType) {
         ByteField::Got(code, c1) => match fields::dword_field(kernel, c1) {
-            DwordField::Got(low, c2) => {
-                if types::has_high_word(code) {
-                    match fields::dword_field(kernel, c2) {
-                        DwordField::Got(high, c3) => OperandField::Got(
-                            Operand::Immediate(Immediate { code, low, high }),
-                            c3,
-                        ),
-                        DwordField::Refused(number) => OperandField::Refused(number),
-                    }
-                } else {
-                    OperandField::Got(Operand::Immediate(Immediate { code, low, high: 0 }), c2)
-                }
-            }
+            DwordField::Got(low, c2) => { high_field(kernel, c2, code, low) }
             DwordField::Refused(number) => OperandField::Refused(number),
         },
         ByteField::Refused(number) => OperandField::Refused(number),

@@ -3,7 +3,7 @@
 use mathlib.Core.Path.{_≡_, refl, sym, ap, _∙_, subst}
 use mathlib.Core.List.{List, [], _∷_, _++_, append-assoc, append-nil}
 use mathlib.Core.Bool.{Bool, true, false, cond, true≢false}
-use Prim.Native.Nat.{ℕ, suc, _+_}
+use Prim.Native.Nat.{ℕ, _+_, _<_}
 use native.Mathlib.Omega.{arith}
 use lib.ListN.{length, drop, length-append}
 use lib.Dec.{eqb}
@@ -117,9 +117,9 @@ unfolding fieldBytes fieldRefusal judged
 parsed-lacking {s} {at} {c} p = parsed-one (field.Lacking 0) (record { end = omega arith; inside = p .passed .inside; bytes = refl }) refl
 
 -- what begins with a byte has a byte
-pub byte-first : (rule : ByteRule) (v : ℕ) (fs : List Field) → length (layoutBytes (field.Byte rule v ∷ fs)) ≡ suc (length (layoutBytes fs))
+pub byte-some : (rule : ByteRule) (v : ℕ) (fs : List Field) → 0 < length (layoutBytes (field.Byte rule v ∷ fs))
 unfolding layoutBytes fieldBytes
-byte-first rule v fs = length-append (bytesOf 1 v) (layoutBytes fs) ∙ ap (λ (n : ℕ). n + length (layoutBytes fs)) (length-bytes 1 v) ∙ omega arith
+byte-some rule v fs = omega (arith, length-append (bytesOf 1 v) (layoutBytes fs), length-bytes 1 v)
 
 -- ---- backward
 
@@ -149,6 +149,10 @@ lacking-zero v g = told (eqb v 0) refl (good-one (field.Lacking v) g)
 pub lacking-rest : (v : ℕ) (t : List ℕ) → layoutBytes (field.Lacking v ∷ []) ++ t ≡ t
 unfolding layoutBytes fieldBytes
 lacking-rest v t = refl
+
+pub lacking-end : (v at : ℕ) → at ≡ at + length (layoutBytes (field.Lacking v ∷ []))
+unfolding layoutBytes fieldBytes
+lacking-end v at = omega arith
 
 -- one field whose bytes stand there is whole and good
 module _ (s : List ℕ) (at : ℕ) (t : List ℕ) where

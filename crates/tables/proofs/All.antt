@@ -18,10 +18,13 @@ pub record All3 (a b c : Bool) : Type 0 where
 pub all3 : (a b c : Bool) → (a && b && c) ≡ true → All3 a b c
 all3 a b c h = let g = left (a && b) c h in record { first = left a b g; second = right a b g; third = right (a && b) c h }
 
--- the first three, and one more
 pub record All4 (a b c d : Bool) : Type 0 where
-  pub before : All3 a b c
+  pub first : a ≡ true
+  pub second : b ≡ true
+  pub third : c ≡ true
   pub fourth : d ≡ true
 
 pub all4 : (a b c d : Bool) → (a && b && c && d) ≡ true → All4 a b c d
-all4 a b c d h = record { before = all3 a b c (left (a && b && c) d h); fourth = right (a && b && c) d h }
+all4 a b c d h =
+    let t = all3 a b c (left (a && b && c) d h) in
+    record { first = t .first; second = t .second; third = t .third; fourth = right (a && b && c) d h }

@@ -30,21 +30,21 @@ module _ (l : Lengths) (t : Tables) (good : tablesGood l t ≡ true) where
   tests = all4 _ _ _ _ good
 
   pub limited : Limited l
-  limited = lengths-limited l (tests .before .first)
+  limited = lengths-limited l (tests .first)
 
   pub counted : Counted t
   counted =
-      let v = tests .before .second in
+      let v = tests .second in
       record {
         variables-few = placement.variables-few _ _ _ _ v;
         starts-length = placement.starts-length _ _ _ _ v;
         counts-length = placement.counts-length _ _ _ _ v;
-        predicates-few = leb-true _ _ (tests .before .third);
+        predicates-few = leb-true _ _ (tests .third);
         surfaces-few = places.surfaces-few _ _ (tests .fourth);
       }
 
   pub placed : (k : ℕ) → k < length (t .types) → Placed (l .registers) (getD (t .types) k 0) (getD (t .starts) k 0) (getD (t .counts) k 0)
-  placed = placement.variable-placed _ _ _ _ (tests .before .second)
+  placed = placement.variable-placed _ _ _ _ (tests .second)
 
   pub surface-inside : (k : ℕ) → k < length (t .surfaces) → surfaceStart (t .surfaces) k + surfaceLength (t .surfaces) k ≤ l .surfaces
   surface-inside = places.surface-inside _ _ (tests .fourth)

@@ -31,10 +31,10 @@ lengths-limited l h =
     let s = all4 (whole && small) kernel memory address (left sizes taint h) in
     let t = all3 (eqb (l .taint .registers) (l .registers)) (eqb (l .taint .surfaces) (l .surfaces)) (eqb (l .taint .memory) (l .memory)) (right sizes taint h) in
     record {
-      registers-whole = eqb-true _ _ (left whole small (s .before .first));
-      registers-small = leb-true _ _ (right whole small (s .before .first));
-      kernel-small = leb-true _ _ (s .before .second);
-      memory-small = leb-true _ _ (s .before .third);
+      registers-whole = eqb-true _ _ (left whole small (s .first));
+      registers-small = leb-true _ _ (right whole small (s .first));
+      kernel-small = leb-true _ _ (s .second);
+      memory-small = leb-true _ _ (s .third);
       addresses = leb-true _ _ (s .fourth);
       registers-taint = eqb-true _ _ (t .first);
       surfaces-taint = eqb-true _ _ (t .second);

@@ -44,10 +44,10 @@ good-placed registers code start count h =
     let a = all4 listed some inside aligned (left others (lineGood start bytes) h) in
     let line = right others (lineGood start bytes) h in
     record {
-      listed = a .before .first;
-      sized = listed-size code (a .before .first);
-      some = leb-true 1 count (a .before .second);
-      inside = leb-true (start + bytes) registers (a .before .third);
+      listed = a .first;
+      sized = listed-size code (a .first);
+      some = leb-true 1 count (a .second);
+      inside = leb-true (start + bytes) registers (a .third);
       aligned = eqb-true (start % sizeOf code) 0 (a .fourth);
       long = line-long start bytes line;
       short = line-short start bytes line;
@@ -61,13 +61,13 @@ module _ (registers : ℕ) (types starts counts : List ℕ) (good : variablesGoo
   tests = all4 _ _ _ _ good
 
   pub variables-few : length types ≤ 256
-  variables-few = leb-true (length types) 256 (tests .before .first)
+  variables-few = leb-true (length types) 256 (tests .first)
 
   pub starts-length : length starts ≡ length types
-  starts-length = eqb-true (length starts) (length types) (tests .before .second)
+  starts-length = eqb-true (length starts) (length types) (tests .second)
 
   pub counts-length : length counts ≡ length types
-  counts-length = eqb-true (length counts) (length types) (tests .before .third)
+  counts-length = eqb-true (length counts) (length types) (tests .third)
 
   pub variable-placed : (k : ℕ) → k < length types → Placed registers (getD types k 0) (getD starts k 0) (getD counts k 0)
   unfolding variableGoodAt

@@ -19,7 +19,8 @@ pub record Tables : Type 0 where
   pub surfaces : List ℕ
 
 abbrev pub tables : List ℕ → List ℕ → List ℕ → List ℕ → List ℕ → Tables
-tables t s c p f = record { types = t; starts = s; counts = c; predicates = p; surfaces = f }
+tables types starts counts predicates surfaces =
+    record { types = types; starts = starts; counts = counts; predicates = predicates; surfaces = surfaces }
 
 -- 13 is given exactly where this is false; "At most .. 64 predicates"
 unfoldable pub tablesGood : Lengths → Tables → Bool

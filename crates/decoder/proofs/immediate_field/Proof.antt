@@ -7,54 +7,27 @@ use Rattle.decoder.proofs.immediate_field.Tie as tie
 returns : tie.Need-returns
 unfolding immediateAt
 returns c =
-    let a = c .before in
+    let a = c .before .before in
     let b = a .before .before in
-    let d = b .before in
-    let e = d .before in
-    let f = e .before .before in
-    let g = f .before .before in
-    let h = g .before .before in
-    let i = h .before .before in
-    rw (← i .byte-field .ensures, h .code .given .1, ← g .dword-field .ensures, f .low .given .1, ← e .has-high-word .ensures, d .if1 .taken, ← b .dword-field2 .ensures, a .high .given .1)
+    let d = b .before .before in
+    let e = d .before .before in
+    rw (← e .byte-field .ensures, d .code .given .1, ← b .dword-field .ensures, a .low .given .1, ← c .high-field .ensures)
 
 returns-2 : tie.Need-returns-2
 unfolding immediateAt
 returns-2 c =
     let a = c .before in
     let b = a .before .before in
-    let d = b .before in
-    let e = d .before in
-    let f = e .before .before in
-    let g = f .before .before in
-    let h = g .before .before in
-    let i = h .before .before in
-    rw (← i .byte-field .ensures, h .code .given .1, ← g .dword-field .ensures, f .low .given .1, ← e .has-high-word .ensures, d .if1 .taken, ← b .dword-field2 .ensures, a .number .given .1)
+    let d = b .before .before in
+    let e = d .before .before in
+    rw (← e .byte-field .ensures, d .code .given .1, ← b .dword-field .ensures, a .number .given .1)
 
 returns-3 : tie.Need-returns-3
 unfolding immediateAt
 returns-3 c =
     let a = c .before in
     let b = a .before .before in
-    let d = b .before .before in
-    let e = d .before .before in
-    let f = e .before .before in
-    rw (← f .byte-field .ensures, e .code .given .1, ← d .dword-field .ensures, b .low .given .1, ← a .has-high-word .ensures, c .if1 .left)
-
-returns-4 : tie.Need-returns-4
-unfolding immediateAt
-returns-4 c =
-    let a = c .before in
-    let b = a .before .before in
-    let d = b .before .before in
-    let e = d .before .before in
-    rw (← e .byte-field .ensures, d .code .given .1, ← b .dword-field .ensures, a .number2 .given .1)
-
-returns-5 : tie.Need-returns-5
-unfolding immediateAt
-returns-5 c =
-    let a = c .before in
-    let b = a .before .before in
-    rw (← b .byte-field .ensures, a .number3 .given .1)
+    rw (← b .byte-field .ensures, a .number2 .given .1)
 
 pub immediate-field-spec : {M : Type 1} → statement M
-immediate-field-spec = tie.close (tie.spec (λ c κs. search needs) (λ c. search needs) (λ c κs. search needs) (λ c. search needs) (λ c κs. search needs) (λ c κs. search needs) (λ c. search needs) (λ c. search needs) (λ c. search needs) (λ c. search needs) returns returns-2 returns-3 returns-4 returns-5)
+immediate-field-spec = tie.close (tie.spec (λ c κs. search needs) (λ c. search needs) (λ c κs. search needs) (λ c. search needs) (λ c κs. search needs) (λ c. search needs) (λ c. search needs) returns returns-2 returns-3)

@@ -1,4 +1,4 @@
--- `tables::surface_length` meets its contract: at each return, what the calls and tests on the way say picks the case of `Surfaces`.
+-- `tables::surface_length` meets its contract: past its end a list reads 0.
 use mathlib.Core.Path.{refl, sym}
 use lib.ListN.{List·getD-eq-default}
 use borrow.Author.Needs.{needs}
@@ -8,13 +8,11 @@ use Rattle.tables.proofs.surface_length.Tie as tie
 
 returns : tie.Need-returns
 unfolding surfaceLength
-returns c =
-    refl
+returns c = refl
 
 returns-2 : tie.Need-returns-2
 unfolding surfaceLength
-returns-2 c =
-    sym (List·getD-eq-default (c .before .args .surfaces .now) 0 (c .if1 .left))
+returns-2 c = sym (List·getD-eq-default (c .before .args .surfaces .now) 0 (c .if1 .left))
 
 pub surface-length-spec : {M : Type 1} → statement M
 surface-length-spec = tie.close (tie.spec (λ c. search needs) (λ c. search needs) returns returns-2)

@@ -1,4 +1,4 @@
--- `tables::surfaces_good` meets its contract: at each return, what the calls and tests on the way say picks the case of `Tables`.
+-- `tables::surfaces_good` meets its contract: at each return, what the calls and tests on the way say picks the case of `Surfaces`.
 use borrow.Author.Needs.{needs}
 use borrow.Author.Tests.{le-leb, lt-leb, not-true, not-false}
 use Rattle.tables.specs.Surfaces.{surfacesGood}

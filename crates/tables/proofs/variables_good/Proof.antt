@@ -1,4 +1,4 @@
--- `tables::variables_good` meets its contract: at each return, what the calls and tests on the way say picks the case of `Tables`.
+-- `tables::variables_good` meets its contract: at each return, what the calls and tests on the way say picks the case of `Variables`.
 use borrow.Author.Needs.{needs}
 use borrow.Author.Tests.{le-leb, lt-leb, eq-eqb, ne-eqb}
 use Rattle.tables.specs.Variables.{variablesGood}
