@@ -4,7 +4,6 @@ use mathlib.Core.Bool.{true, false}
 use mathlib.Core.List.{List}
 use lib.ListN.{set, replicate}
 use Rattle.types.specs.Types.{sizeOf, isSigned}
-use Rattle.operands.specs.declared.Elements.{Elements}
 use Rattle.operands.specs.declared.Located.{Located}
 
 -- a list with f 0, f 1, .. in its first n places
@@ -15,6 +14,10 @@ filled l f (suc n) = set (filled l f n) n (f n)
 -- f of each of the 32 lanes; those at and past ExecSize do not matter
 unfoldable pub lanePositions : (ℕ → ℕ) → List ℕ
 lanePositions f = filled (replicate 32 0) f 32
+
+-- the byte of lane k's element, where the lanes take these elements of this size, counted from a start byte
+unfoldable pub elementByte : ℕ → ℕ → (ℕ → ℕ) → ℕ → ℕ
+elementByte start size element k = start + element k * size
 
 -- elements of this type in the register file, each at its byte
 unfoldable pub registerElements : ℕ → (ℕ → ℕ) → Located

@@ -19,7 +19,7 @@ use Rattle.operands.specs.Allowed.{typeAllowed}
 use Rattle.operands.specs.Regions.{regionGood, elementOf}
 use Rattle.operands.specs.Reach.{insideVariable, reachGood}
 use Rattle.operands.specs.Variables.{Variables, inTable, variableAt}
-use Rattle.operands.specs.Elements.{registerElements, immediateElement, refusal}
+use Rattle.operands.specs.Elements.{elementByte, registerElements, immediateElement, refusal}
 
 -- "All ExecSize elements .. lie in the variable and touch at most two adjacent registers, lowest byte to highest."
 unfoldable pub elementsGood : Variable → (ℕ → ℕ) → ℕ → Bool
@@ -32,7 +32,7 @@ generalOf role rule lanes g v =
     cond (not (typeAllowed rule (v .code))) (refusal 4)
     (cond (not (regionGood role (g .region) lanes)) (refusal 6)
     (cond (not (elementsGood v (elementOf role g (sizeOf (v .code))) lanes)) (refusal 7)
-    (registerElements (v .code) (λ k. v .start + elementOf role g (sizeOf (v .code)) k * sizeOf (v .code)))))
+    (registerElements (v .code) (elementByte (v .start) (sizeOf (v .code)) (elementOf role g (sizeOf (v .code)))))))
 
 -- 5, then the others
 unfoldable pub generalAt : Variables → Role → TypeRule → ℕ → General → Located
@@ -66,7 +66,7 @@ unfoldable pub rawOf : TypeRule → ℕ → ℕ → Variable → Located
 rawOf rule bytes offset v =
     cond (not (typeAllowed rule (v .code))) (refusal 4)
     (cond (not (rawGood v offset bytes)) (refusal 7)
-    (registerElements (v .code) (λ k. v .start + offset + k * sizeOf (v .code))))
+    (registerElements (v .code) (elementByte (v .start + offset) (sizeOf (v .code)) (λ k. k))))
 
 -- a raw operand of which so many bytes are needed: 5, then the others
 unfoldable pub rawAt : Variables → TypeRule → ℕ → Raw → Located

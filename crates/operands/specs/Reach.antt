@@ -1,7 +1,7 @@
 -- How far the elements of an operand reach (refusal 7). Document 01, "Regions": "All ExecSize elements, enabled or not, lie in the variable
 -- and touch at most two adjacent registers, lowest byte to highest."
 use Prim.Native.Nat.{ℕ, zero, suc, _+_, _*_, _-_, _/_}
-use mathlib.Core.Bool.{Bool, cond, _&&_}
+use mathlib.Core.Bool.{Bool, cond}
 use lib.Dec.{ltb, leb}
 use Rattle.tables.specs.Lengths.{registerSize}
 use Rattle.tables.specs.Every.{every}

@@ -11,7 +11,7 @@ ghost use Rattle.operands.specs.Allowed.{shiftType, dwordType, typeAllow
 ghost use Rattle.operands.specs.Regions.{strideOf, sourceRegionGood, destinationRegionGood, regionGood, firstElement};
 ghost use Rattle.operands.specs.Reach.{smaller, larger, lowest, highest, twoRegisters};
 ghost use Rattle.operands.specs.Variables.{variables, variableAt};
-ghost use Rattle.operands.specs.Elements.{lanePositions, lowBytes, refusal};
+ghost use Rattle.operands.specs.Elements.{lanePositions, elementByte, lowBytes, refusal};
 ghost use Rattle.operands.specs.Operands.{elementsGood, generalOf, generalAt, immediateOf, immediateAt, vectorAt, rawGood, rawOf, rawAt};
 ghost use Rattle.operands.specs.Grid.{gridElement, gridOf};
 
@@ -127,7 +127,11 @@ fn source_region_good(region: u16, lanes: u8) -> bool
     let vertical = region % 16;
     let width = region / 16 % 16;
     let horizontal = region / 256 % 16;
-    (2 <= width) & (width <= 6) & (stride_of(width) <= lanes) & ((1 <= vertical) & (vertical <= 7)) & ((1 <= horizontal) & (horizontal <= 4))
+    (2 <= width)
+        & (width <= 6)
+        & (stride_of(width) <= lanes)
+        & ((1 <= vertical) & (vertical <= 7))
+        & ((1 <= horizontal) & (horizontal <= 4))
 }
 
 fn destination_region_good(region: u16) -> bool
@@ -170,8 +174,18 @@ fn grid_of(role: Role, general: General, size: u8) -> Grid
             width: stride_of(general.region / 16 % 16),
             horizontal,
         },
-        Role::Scalar => Grid { first, vertical: 0, width: 1, horizontal: 0 },
-        Role::Destination => Grid { first, vertical: horizontal, width: 1, horizontal: 0 },
+        Role::Scalar => Grid {
+            first,
+            vertical: 0,
+            width: 1,
+            horizontal: 0,
+        },
+        Role::Destination => Grid {
+            first,
+            vertical: horizontal,
+            width: 1,
+            horizontal: 0,
+        },
     }
 }
 
@@ -227,13 +241,14 @@ fn elements_good(variable: Variable, size: u8, grid: Grid, lanes: u8) -> bool
     let low = reach.low as u64;
     let high = reach.high as u64;
     let bytes = size as u64;
-    (high < (variable.count as u64)) & two_registers(start + low * bytes, start + high * bytes + bytes - 1)
+    (high < (variable.count as u64))
+        & two_registers(start + low * bytes, start + high * bytes + bytes - 1)
 }
 
 // The position of each lane's element, counted from a base.
 fn lane_positions(base: u32, grid: Grid, size: u8) -> [u32; 32]
     requires { ⌜ (0 < grid .width) × (base < 131072) ⌝ }
-    ensures { λ r. ⌜ r ≡ lanePositions (λ k. base + gridElement grid k * size) ⌝ }
+    ensures { λ r. ⌜ r ≡ lanePositions (elementByte base size (gridElement grid)) ⌝ }
 {
     let mut at = [0u32; 32];
     let mut lane: u8 = 0;
@@ -273,13 +288,27 @@ fn variable_at(types: &[u8], starts: &[u16], counts: &[u16], index: u16) -> Vari
     let start = entry(starts, index);
     let count = entry(counts, index);
     if i < types.len() {
-        return Variable { code: types[i], start, count };
+        return Variable {
+            code: types[i],
+            start,
+            count,
+        };
     }
-    Variable { code: 0, start, count }
+    Variable {
+        code: 0,
+        start,
+        count,
+    }
 }
 
 // 4, 6, 7 of a General operand, or its elements.
-fn locate_general(role: Role, rule: TypeRule, lanes: u8, general: General, variable: Variable) -> Located
+fn locate_general(
+    role: Role,
+    rule: TypeRule,
+    lanes: u8,
+    general: General,
+    variable: Variable,
+) -> Located
     requires { ⌜ 0 < lanes ⌝ }
     ensures { λ r. ⌜ r ≡ generalOf role rule lanes general variable ⌝ }
 {
@@ -302,13 +331,20 @@ fn locate_general(role: Role, rule: TypeRule, lanes: u8, general: General, varia
         value: 0,
         at: lane_positions(variable.start as u32, grid, size),
     };
-    Located { number: 0, elements }
+    Located {
+        number: 0,
+        elements,
+    }
 }
 
 fn low_bytes(value: u64, size: u8) -> u64
     ensures { λ r. ⌜ r ≡ lowBytes value size ⌝ }
 {
-    if size < 8 { value % (1u64 << (8 * size)) } else { value }
+    if size < 8 {
+        value % (1u64 << (8 * size))
+    } else {
+        value
+    }
 }
 
 // 4 of an Immediate source, or its number.
@@ -324,10 +360,16 @@ fn locate_immediate(rule: TypeRule, immediate: Immediate) -> Located
         size,
         signed: types::is_signed(code),
         immediate: true,
-        value: low_bytes((immediate.low as u64) + 4294967296 * (immediate.high as u64), size),
+        value: low_bytes(
+            (immediate.low as u64) + 4294967296 * (immediate.high as u64),
+            size,
+        ),
         at: [0; 32],
     };
-    Located { number: 0, elements }
+    Located {
+        number: 0,
+        elements,
+    }
 }
 
 fn immediate_in(role: Role, rule: TypeRule, immediate: Immediate) -> Located
@@ -340,7 +382,15 @@ fn immediate_in(role: Role, rule: TypeRule, immediate: Immediate) -> Located
     }
 }
 
-fn general_in(types: &[u8], starts: &[u16], counts: &[u16], role: Role, rule: TypeRule, exec: u8, general: General) -> Located
+fn general_in(
+    types: &[u8],
+    starts: &[u16],
+    counts: &[u16],
+    role: Role,
+    rule: TypeRule,
+    exec: u8,
+    general: General,
+) -> Located
     ensures { λ r. ⌜ r ≡ generalAt (variables (now (types .entry)) (now (starts .entry)) (now (counts .entry))) role rule exec general ⌝ }
 {
     if !((general.index as usize) < types.len()) {
@@ -352,7 +402,15 @@ fn general_in(types: &[u8], starts: &[u16], counts: &[u16], role: Role, rule: Ty
 }
 
 // A vector operand or a scalar of an instruction with this exec byte.
-pub fn locate_vector(types: &[u8], starts: &[u16], counts: &[u16], role: Role, rule: TypeRule, exec: u8, operand: Operand) -> Located
+pub fn locate_vector(
+    types: &[u8],
+    starts: &[u16],
+    counts: &[u16],
+    role: Role,
+    rule: TypeRule,
+    exec: u8,
+    operand: Operand,
+) -> Located
     ensures { λ r. ⌜ r ≡ vectorAt (variables (now (types .entry)) (now (starts .entry)) (now (counts .entry))) role rule exec operand ⌝ }
 {
     match operand {
@@ -365,7 +423,8 @@ fn raw_good(variable: Variable, size: u8, offset: u16, bytes: u32) -> bool
     requires { ⌜ (0 < size) × (size ≡ sizeOf (variable .code)) ⌝ }
     ensures { λ r. ⌜ r ≡ rawGood variable offset bytes ⌝ }
 {
-    (offset % (size as u16) == 0) & ((offset as u64) + (bytes as u64) <= (variable.count as u64) * (size as u64))
+    (offset % (size as u16) == 0)
+        & ((offset as u64) + (bytes as u64) <= (variable.count as u64) * (size as u64))
 }
 
 // 4, 7 of a raw operand, or its elements.
@@ -380,7 +439,12 @@ fn raw_of(rule: TypeRule, bytes: u32, offset: u16, variable: Variable) -> Locate
     if !raw_good(variable, size, offset, bytes) {
         return refused(7);
     }
-    let consecutive = Grid { first: 0, vertical: 1, width: 1, horizontal: 0 };
+    let consecutive = Grid {
+        first: 0,
+        vertical: 1,
+        width: 1,
+        horizontal: 0,
+    };
     let elements = Elements {
         size,
         signed: types::is_signed(code),
@@ -388,11 +452,21 @@ fn raw_of(rule: TypeRule, bytes: u32, offset: u16, variable: Variable) -> Locate
         value: 0,
         at: lane_positions((variable.start as u32) + (offset as u32), consecutive, size),
     };
-    Located { number: 0, elements }
+    Located {
+        number: 0,
+        elements,
+    }
 }
 
 // A raw operand of which so many bytes are needed.
-pub fn locate_raw(types: &[u8], starts: &[u16], counts: &[u16], rule: TypeRule, bytes: u32, raw: Raw) -> Located
+pub fn locate_raw(
+    types: &[u8],
+    starts: &[u16],
+    counts: &[u16],
+    rule: TypeRule,
+    bytes: u32,
+    raw: Raw,
+) -> Located
     ensures { λ r. ⌜ r ≡ rawAt (variables (now (types .entry)) (now (starts .entry)) (now (counts .entry))) rule bytes raw ⌝ }
 {
     if !((raw.index as usize) < types.len()) {
