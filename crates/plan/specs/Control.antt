@@ -1,6 +1,6 @@
 -- What stands in front of every instruction: its lanes fit the mask (refusal 8), and its predicate is in the table (refusal 5).
 use Prim.Native.Nat.{ℕ, _+_}
-use mathlib.Core.Bool.{cond, not, _&&_}
+use mathlib.Core.Bool.{cond, _&&_}
 use mathlib.Core.List.{List}
 use lib.Dec.{ltb, leb}
 use lib.ListN.{length, getD}

@@ -180,15 +180,39 @@ fn check_shl(types: &[u8], starts: &[u16], counts: &[u16], bits: u32, instructio
     let destination = instruction.destination;
     let source = instruction.source;
     let count = instruction.count;
-    let dst = operands::locate_vector(types, starts, counts, Role::Destination, TypeRule::Shift, exec, destination);
+    let dst = operands::locate_vector(
+        types,
+        starts,
+        counts,
+        Role::Destination,
+        TypeRule::Shift,
+        exec,
+        destination,
+    );
     if 0 < dst.number {
         return refused(dst.number);
     }
-    let src0 = operands::locate_vector(types, starts, counts, Role::Source, TypeRule::Shift, exec, source);
+    let src0 = operands::locate_vector(
+        types,
+        starts,
+        counts,
+        Role::Source,
+        TypeRule::Shift,
+        exec,
+        source,
+    );
     if 0 < src0.number {
         return refused(src0.number);
     }
-    let src1 = operands::locate_vector(types, starts, counts, Role::Source, TypeRule::Shift, exec, count);
+    let src1 = operands::locate_vector(
+        types,
+        starts,
+        counts,
+        Role::Source,
+        TypeRule::Shift,
+        exec,
+        count,
+    );
     if 0 < src1.number {
         return refused(src1.number);
     }
@@ -210,22 +234,51 @@ fn check_shl(types: &[u8], starts: &[u16], counts: &[u16], bits: u32, instructio
     }
 }
 
-fn check_gather(types: &[u8], starts: &[u16], counts: &[u16], bits: u32, part: Part, instruction: Gather) -> Plan
+fn check_gather(
+    types: &[u8],
+    starts: &[u16],
+    counts: &[u16],
+    bits: u32,
+    part: Part,
+    instruction: Gather,
+) -> Plan
     ensures { λ r. ⌜ r ≡ checkedGather (variables (now (types .entry)) (now (starts .entry)) (now (counts .entry))) bits part instruction ⌝ }
 {
     let control = instruction.control;
     let exec = control.exec;
     let address = instruction.offset;
     let needed = elements_needed(exec, types::UD);
-    let offset = operands::locate_vector(types, starts, counts, Role::Scalar, TypeRule::Offset, exec, address);
+    let offset = operands::locate_vector(
+        types,
+        starts,
+        counts,
+        Role::Scalar,
+        TypeRule::Offset,
+        exec,
+        address,
+    );
     if 0 < offset.number {
         return refused(offset.number);
     }
-    let element = operands::locate_raw(types, starts, counts, TypeRule::Offset, needed, instruction.element_offset);
+    let element = operands::locate_raw(
+        types,
+        starts,
+        counts,
+        TypeRule::Offset,
+        needed,
+        instruction.element_offset,
+    );
     if 0 < element.number {
         return refused(element.number);
     }
-    let dst = operands::locate_raw(types, starts, counts, TypeRule::Dword, needed, instruction.destination);
+    let dst = operands::locate_raw(
+        types,
+        starts,
+        counts,
+        TypeRule::Dword,
+        needed,
+        instruction.destination,
+    );
     if 0 < dst.number {
         return refused(dst.number);
     }
@@ -248,7 +301,14 @@ fn check_gather(types: &[u8], starts: &[u16], counts: &[u16], bits: u32, part: P
 }
 
 // The surface's 5, then the operands.
-fn check_surface(types: &[u8], starts: &[u16], counts: &[u16], surfaces: &[u16], bits: u32, instruction: Gather) -> Plan
+fn check_surface(
+    types: &[u8],
+    starts: &[u16],
+    counts: &[u16],
+    surfaces: &[u16],
+    bits: u32,
+    instruction: Gather,
+) -> Plan
     ensures { λ r. ⌜ r ≡ checkedSurface (variables (now (types .entry)) (now (starts .entry)) (now (counts .entry))) (now (surfaces .entry)) bits instruction ⌝ }
 {
     let surface = instruction.access.surface;
@@ -259,23 +319,51 @@ fn check_surface(types: &[u8], starts: &[u16], counts: &[u16], surfaces: &[u16],
     check_gather(types, starts, counts, bits, part, instruction)
 }
 
-fn check_scatter(types: &[u8], starts: &[u16], counts: &[u16], bits: u32, instruction: Scatter) -> Plan
+fn check_scatter(
+    types: &[u8],
+    starts: &[u16],
+    counts: &[u16],
+    bits: u32,
+    instruction: Scatter,
+) -> Plan
     ensures { λ r. ⌜ r ≡ checkedScatter (variables (now (types .entry)) (now (starts .entry)) (now (counts .entry))) bits instruction ⌝ }
 {
     let control = instruction.control;
     let exec = control.exec;
     let base = instruction.address;
-    let address = operands::locate_vector(types, starts, counts, Role::Scalar, TypeRule::Address, exec, base);
+    let address = operands::locate_vector(
+        types,
+        starts,
+        counts,
+        Role::Scalar,
+        TypeRule::Address,
+        exec,
+        base,
+    );
     if 0 < address.number {
         return refused(address.number);
     }
     let offsets = elements_needed(exec, types::UQ);
-    let element = operands::locate_raw(types, starts, counts, TypeRule::Address, offsets, instruction.element_offset);
+    let element = operands::locate_raw(
+        types,
+        starts,
+        counts,
+        TypeRule::Address,
+        offsets,
+        instruction.element_offset,
+    );
     if 0 < element.number {
         return refused(element.number);
     }
     let needed = scatter_needed(exec, instruction.channels);
-    let src = operands::locate_raw(types, starts, counts, TypeRule::Dword, needed, instruction.source);
+    let src = operands::locate_raw(
+        types,
+        starts,
+        counts,
+        TypeRule::Dword,
+        needed,
+        instruction.source,
+    );
     if 0 < src.number {
         return refused(src.number);
     }
@@ -303,17 +391,39 @@ fn check_send(types: &[u8], starts: &[u16], counts: &[u16], instruction: RawSend
 {
     let exec = instruction.control.exec;
     let descriptor = instruction.descriptor;
-    let desc = operands::locate_vector(types, starts, counts, Role::Scalar, TypeRule::Offset, exec, descriptor);
+    let desc = operands::locate_vector(
+        types,
+        starts,
+        counts,
+        Role::Scalar,
+        TypeRule::Offset,
+        exec,
+        descriptor,
+    );
     if 0 < desc.number {
         return refused(desc.number);
     }
     let sent = registers_needed(instruction.message.num_src);
-    let src = operands::locate_raw(types, starts, counts, TypeRule::Any, sent, instruction.source);
+    let src = operands::locate_raw(
+        types,
+        starts,
+        counts,
+        TypeRule::Any,
+        sent,
+        instruction.source,
+    );
     if 0 < src.number {
         return refused(src.number);
     }
     let received = registers_needed(instruction.message.num_dst);
-    let dst = operands::locate_raw(types, starts, counts, TypeRule::Any, received, instruction.destination);
+    let dst = operands::locate_raw(
+        types,
+        starts,
+        counts,
+        TypeRule::Any,
+        received,
+        instruction.destination,
+    );
     if 0 < dst.number {
         return refused(dst.number);
     }
