@@ -280,7 +280,7 @@ fn entry(table: &[u16], index: u16) -> u16
     if i < table.len() { table[i] } else { 0 }
 }
 
-// The variable, all of it 0 where it is not in the table.
+// Past the end of a slice its part is 0.
 fn variable_at(types: &[u8], starts: &[u16], counts: &[u16], index: u16) -> Variable
     ensures { λ r. ⌜ r ≡ variableAt (variables (now (types .entry)) (now (starts .entry)) (now (counts .entry))) index ⌝ }
 {
