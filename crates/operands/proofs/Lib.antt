@@ -3,3 +3,5 @@ pub mod ReachLaws
 pub mod PositionLaws
 pub mod GridLaws
 pub mod AllowedLaws
+pub mod LocatedLaws
+pub mod Worked
