@@ -1,5 +1,6 @@
 pub mod Bounds
 pub mod ReachLaws
+pub mod RegionLaws
 pub mod PositionLaws
 pub mod GridLaws
 pub mod AllowedLaws
