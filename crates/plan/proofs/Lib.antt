@@ -1,3 +1,4 @@
 pub mod TestLaws
+pub mod ScatterLaws
 pub mod PlanLaws
 pub mod Worked
