@@ -1,0 +1,4 @@
+pub mod Buffer
+pub mod Writes
+pub mod Over
+pub mod Effect
