@@ -44,5 +44,5 @@ module _ (all size : ℕ) (told : all ≡ span size) where
   pub told-some : 0 < all
   told-some = rw told (span-some size)
 
-  pub told-twice : (x : ℕ) → size ≤ 4 → 2 * (x % all) < 2 ^ 64
-  told-twice x h = omega (arith, mod-lt x told-some, span-small size h)
+  pub told-small : (x : ℕ) → size ≤ 4 → x % all < 2 ^ 32
+  told-small x h = omega (arith, mod-lt x told-some, span-small size h)

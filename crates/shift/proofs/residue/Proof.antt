@@ -3,7 +3,7 @@ use Prim.Native.Nat.{_^_, _<_}
 use mathlib.Core.Path.{refl}
 use native.Mathlib.Omega.{arith}
 use borrow.Author.Needs.{needs}
-use Rattle.shift.proofs.SpanLaws.{told-some, told-twice}
+use Rattle.shift.proofs.SpanLaws.{told-some, told-small}
 use Rattle.shift.proofs.ShiftLaws.{residue-plain, residue-negative}
 use Rattle.shift.proofs.residue.Statement.{statement}
 use Rattle.shift.proofs.residue.Tie as tie
@@ -12,7 +12,7 @@ rem-low : tie.Need-rem-low
 rem-low c = told-some _ _ (c .span-of .ensures)
 
 mul-if1 : tie.Need-mul-if1
-mul-if1 c = let h = told-twice _ _ (c .span-of .ensures) (c .before .args .value) (c .before .pre) in omega arith
+mul-if1 c = let h = told-small _ _ (c .span-of .ensures) (c .before .args .value) (c .before .pre) in omega arith
 
 returns : tie.Need-returns
 returns c =
