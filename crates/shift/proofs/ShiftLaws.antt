@@ -58,11 +58,11 @@ pub total-is : (signed : Bool) (size x count destination : ℕ) → size ≤ 4 �
 unfolding totalShift
 total-is signed size x count destination s d = rw (le-leb size 4 s, le-leb destination 4 d)
 
-pub both-small : (size destination : ℕ) → (leb size 4 && leb destination 4) ≡ true → (size ≤ 4) × (destination ≤ 4)
-both-small size destination e =
-    let each = both (leb size 4) (leb destination 4) e in
-    (leb-true size 4 (each .0), leb-true destination 4 (each .1))
+pub small-told : (size destination : ℕ) → (leb size 4 && leb destination 4) ≡ true → (size ≤ 4) × (destination ≤ 4)
+small-told size destination e =
+    let told = true-each (leb size 4) (leb destination 4) e in
+    (leb-true size 4 (told .0), leb-true destination 4 (told .1))
   where
-    both : (s t : Bool) → (s && t) ≡ true → (s ≡ true) × (t ≡ true)
-    both true t x = (refl, x)
-    both false t x = absurd (true≢false (sym x))
+    true-each : (s t : Bool) → (s && t) ≡ true → (s ≡ true) × (t ≡ true)
+    true-each true t x = (refl, x)
+    true-each false t x = absurd (true≢false (sym x))
