@@ -13,6 +13,19 @@ unfolding isTainted markOf
 tainted-mark true = refl
 tainted-mark false = refl
 
+pub zero-untainted : isTainted 0 ≡ false
+unfolding isTainted
+zero-untainted = refl
+
+-- marks are 0 or 1
+pub mark-true : markOf true ≡ 1
+unfolding markOf
+mark-true = refl
+
+pub mark-false : markOf false ≡ 0
+unfolding markOf
+mark-false = refl
+
 -- marks that are tainted alike, byte by byte, make elements that are
 pub tainted-local : (n : ℕ) (l m : List ℕ) (at from : ℕ) → ((k : ℕ) → k < n → isTainted (getD l (at + k) 0) ≡ isTainted (getD m (from + k) 0)) → anyTainted l at n ≡ anyTainted m from n
 unfolding anyTainted
