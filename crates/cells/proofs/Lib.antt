@@ -1,0 +1,10 @@
+pub mod BoolLaws
+pub mod PlaceLaws
+pub mod WriteLaws
+pub mod StayLaws
+pub mod NumberLaws
+pub mod TaintLaws
+pub mod CopyLaws
+pub mod AmongLaws
+pub mod LaneLaws
+pub mod SearchLaws
