@@ -1,0 +1,45 @@
+//! A case: everything lent for a marked run, as one case file (document 01's bench file) gives it.
+
+/// "A variable has type, start byte and element count (at least 1)."
+#[derive(Clone, Copy, Debug, Default, PartialEq, Eq)]
+pub struct Variable {
+    pub type_code: u8,
+    pub start: u16,
+    pub count: u16,
+}
+
+/// "Lent for a run: kernel bytes, register file, surface bytes, memory window with its 64-bit base,
+/// three tables, a 32-bit execution mask EM."
+///
+/// Taint is document 01's mark: "one mark byte for each register, surface and memory byte; non-zero
+/// is marked".
+#[derive(Clone, Debug, Default, PartialEq, Eq)]
+pub struct Case {
+    pub kernel: Vec<u8>,
+    /// The register file.
+    pub registers: Vec<u8>,
+    pub variables: Vec<Variable>,
+    pub predicates: Vec<u32>,
+    pub surfaces: Vec<Vec<u8>>,
+    /// The base of the memory window.
+    pub base: u64,
+    /// The bytes of the memory window.
+    pub memory: Vec<u8>,
+    /// EM.
+    pub execution_mask: u32,
+    pub register_taint: Vec<u8>,
+    /// One buffer over all surfaces in their order.
+    pub surface_taint: Vec<u8>,
+    pub memory_taint: Vec<u8>,
+}
+
+impl Case {
+    /// Where a surface's first byte stands in the taint of all surfaces.
+    pub fn surface_taint_start(&self, surface: usize) -> usize {
+        self.surfaces[..surface].iter().map(Vec::len).sum()
+    }
+
+    pub fn surface_bytes(&self) -> usize {
+        self.surfaces.iter().map(Vec::len).sum()
+    }
+}

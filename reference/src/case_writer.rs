@@ -1,0 +1,59 @@
+//! The case file writer: a case as lines, every frame present, in the order of the kinds.
+
+use crate::case::Case;
+
+/// A case file whose reading gives the case back.
+pub fn write_case(case: &Case) -> Vec<u8> {
+    let mut file = Vec::new();
+    for line in case_lines(case) {
+        file.extend(line);
+        file.push(0x0a);
+    }
+    file
+}
+
+/// The lines of a case file, without their 0x0a.
+pub fn case_lines(case: &Case) -> Vec<Vec<u8>> {
+    let mut lines = vec![line(0x01, &[&case.registers])];
+    for variable in &case.variables {
+        let start = variable.start.to_le_bytes();
+        let count = variable.count.to_le_bytes();
+        lines.push(line(0x02, &[&[variable.type_code], &start, &count]));
+    }
+    for predicate in &case.predicates {
+        lines.push(line(0x03, &[&predicate.to_le_bytes()]));
+    }
+    for surface in &case.surfaces {
+        lines.push(line(0x04, &[surface]));
+    }
+    lines.push(memory_line(case));
+    lines.push(line(0x06, &[&case.execution_mask.to_le_bytes()]));
+    lines.push(line(0x07, &[&case.kernel]));
+    lines.push(line(0x08, &[&case.register_taint]));
+    lines.push(line(0x09, &[&case.surface_taint]));
+    lines.push(line(0x0a, &[&case.memory_taint]));
+    lines
+}
+
+/// "05 base uq and memory"
+pub fn memory_line(case: &Case) -> Vec<u8> {
+    line(0x05, &[&case.base.to_le_bytes(), &case.memory])
+}
+
+/// One line: the kind, then the parts of the frame, in lower-case hex.
+pub fn line(kind: u8, parts: &[&[u8]]) -> Vec<u8> {
+    let mut text = Vec::new();
+    push_hex(&mut text, kind);
+    for part in parts {
+        for byte in *part {
+            push_hex(&mut text, *byte);
+        }
+    }
+    text
+}
+
+fn push_hex(text: &mut Vec<u8>, byte: u8) {
+    const DIGITS: &[u8; 16] = b"0123456789abcdef";
+    text.push(DIGITS[usize::from(byte >> 4)]);
+    text.push(DIGITS[usize::from(byte & 15)]);
+}

@@ -1,0 +1,189 @@
+//! Number 14: bad lines of every kind, put into the lines of a good case.
+
+use super::lines::lines_of;
+use super::near_misses::{base_scene, prefix};
+use super::random::Random;
+use super::{Generated, Mode};
+
+/// How many ways `bad_line` knows.
+pub const BAD_LINE_WAYS: u64 = 24;
+
+pub struct BadFile {
+    pub name: &'static str,
+    pub file: Vec<u8>,
+}
+
+pub fn bad_lines(random: &mut Random, number: u64) -> Generated {
+    let mut scene = base_scene(random);
+    scene.case.kernel = prefix(random, &scene);
+    let lines = lines_of(random, &scene.case);
+    let bad = bad_line(random, lines, number % BAD_LINE_WAYS);
+    Generated {
+        mode: Mode::BadLines,
+        name: bad.name.to_string(),
+        intended: Some(14),
+        file: bad.file,
+    }
+}
+
+/// A line of a kind with a body of so many bytes.
+fn frame(random: &mut Random, kind: u8, bytes: u64) -> Vec<u8> {
+    let body = random.bytes(bytes);
+    crate::case_writer::line(kind, &[&body])
+}
+
+/// Make one line bad, in the way of a number.
+pub fn bad_line(random: &mut Random, mut lines: Vec<Vec<u8>>, way: u64) -> BadFile {
+    let mut end = Vec::from(b"\n");
+    // The line that is changed, and the place where a new one comes.
+    let changed = random.below(lines.len() as u64) as usize;
+    let place = random.below(lines.len() as u64 + 1) as usize;
+    let name = match way {
+        0 => {
+            lines.insert(place, Vec::new());
+            "empty line"
+        }
+        1 => {
+            lines.push(Vec::new());
+            "empty line at the end"
+        }
+        2 => {
+            lines = vec![Vec::new()];
+            "nothing but one empty line"
+        }
+        3 => {
+            lines[changed].pop();
+            "one digit less"
+        }
+        4 => {
+            let digit = random.pick(b"0123456789abcdef");
+            lines[changed].push(digit);
+            "one digit more"
+        }
+        5 => {
+            spoil(random, &mut lines[changed], b"ABCDEF");
+            "upper-case digit"
+        }
+        6 => {
+            spoil(random, &mut lines[changed], b"gG/:@`xz-_.,#");
+            "character next to the digits"
+        }
+        7 => {
+            spoil(random, &mut lines[changed], b" \t\x0b\x0c");
+            "white space for a digit"
+        }
+        8 => {
+            lines[changed].push(b'\r');
+            "carriage return at a line's end"
+        }
+        9 => {
+            end = Vec::from(b"\r\n");
+            "carriage return at every line's end"
+        }
+        10 => {
+            let byte = random.pick(&[0x00, 0x01, 0x7f, 0x80, 0xb0, 0xe1, 0xff]);
+            spoil(random, &mut lines[changed], &[byte]);
+            "byte that is no character"
+        }
+        11 => {
+            let pair = random.pick(&[b"  ", b"\r\r", b" 0", b"0 ", b"0X"]);
+            let at = lines[changed].len().min(2);
+            lines[changed].splice(at..at, pair.iter().copied());
+            "two characters that are no digits"
+        }
+        12 => {
+            lines.insert(place, Vec::from(random.pick(&[b"0", b"1", b"a"])));
+            "a single digit"
+        }
+        13 => {
+            let kind = random.pick(&[0x00, 0x0b, 0x0c, 0x0f, 0x10, 0x11, 0x20, 0x40, 0x81, 0xff]);
+            let bytes = random.below(9);
+            lines.insert(place, frame(random, kind, bytes));
+            "kind not listed"
+        }
+        14 => {
+            let kind = random.range(0x0b, 0xff) as u8;
+            lines.insert(place, frame(random, kind, 4));
+            "kind over 0a"
+        }
+        15 => {
+            let kind = random.pick(&[0x01, 0x05, 0x07, 0x08, 0x09, 0x0a]);
+            // Whether the case has one or not, of two more the second is bad at the latest.
+            for _ in 0..2 {
+                let bytes = random.pick(&[8, 32]);
+                let place = random.below(lines.len() as u64 + 1) as usize;
+                lines.insert(place, frame(random, kind, bytes));
+            }
+            "frame that may come once, again"
+        }
+        16 => {
+            let place = random.below(lines.len() as u64 + 1) as usize;
+            for _ in 0..2 {
+                lines.insert(place, frame(random, 0x06, 4));
+            }
+            "mask again"
+        }
+        17 => {
+            let again = lines
+                .iter()
+                .find(|line| !matches!(line.get(..2), Some(b"02" | b"03" | b"04")))
+                .cloned()
+                .unwrap_or_default();
+            lines.push(again);
+            "the same line again"
+        }
+        18 => {
+            let bytes = random.pick(&[0, 1, 4, 6, 9, 10]);
+            lines.insert(place, frame(random, 0x02, bytes));
+            "variable not of 5 bytes"
+        }
+        19 => {
+            let bytes = random.pick(&[0, 1, 3, 5, 8]);
+            lines.insert(place, frame(random, 0x03, bytes));
+            "predicate not of 4 bytes"
+        }
+        20 => {
+            lines.retain(|line| !line.starts_with(b"06"));
+            let bytes = random.pick(&[0, 1, 3, 5, 8]);
+            lines.insert(place.min(lines.len()), frame(random, 0x06, bytes));
+            "mask not of 4 bytes"
+        }
+        21 => {
+            lines.retain(|line| !line.starts_with(b"05"));
+            let bytes = random.edge(7);
+            lines.insert(place.min(lines.len()), frame(random, 0x05, bytes));
+            "base of fewer than 8 bytes"
+        }
+        22 => {
+            let kind = random.pick(&[0x01, 0x04, 0x07, 0x09]);
+            let mut line = frame(random, kind, 8192);
+            let more = random.pick(&[1, 2, 2, 3, 400]);
+            line.extend(vec![b'0'; more]);
+            lines.insert(place, line);
+            "line over 16,386 characters"
+        }
+        _ => {
+            let mut line = Vec::from(random.pick(&[b"02", b"03", b"06", b"ff", b"0b"]));
+            line.extend(vec![b'0'; 17000]);
+            lines.insert(place, line);
+            "line over 16,386 characters of another kind"
+        }
+    };
+    let mut file = Vec::new();
+    for line in &lines {
+        file.extend(line);
+        file.extend(&end);
+    }
+    BadFile { name, file }
+}
+
+/// Put one of some characters in the place of a digit.
+fn spoil(random: &mut Random, line: &mut Vec<u8>, characters: &[u8]) {
+    let wrong = random.pick(characters);
+    if line.is_empty() {
+        line.push(wrong);
+    } else {
+        let at = random.below(line.len() as u64) as usize;
+        line[at] = wrong;
+    }
+}

@@ -1,0 +1,107 @@
+//! The case generator: case files in five modes, each determined by a seed and an index.
+
+pub mod accepted;
+pub mod address_faults;
+pub mod bad_lines;
+pub mod fault;
+pub mod faults;
+pub mod limits;
+pub mod lines;
+pub mod near_misses;
+pub mod operand_faults;
+pub mod random;
+pub mod random_bytes;
+pub mod report;
+pub mod scene;
+pub mod table_faults;
+pub mod two_faults;
+pub mod valid;
+
+use near_misses::Ways;
+use random::Random;
+
+#[derive(Clone, Copy, Debug, PartialEq, Eq, PartialOrd, Ord)]
+pub enum Mode {
+    Valid,
+    NearMiss,
+    TwoFaults,
+    BadLines,
+    RandomBytes,
+}
+
+impl Mode {
+    pub const ALL: [Mode; 5] = [
+        Mode::Valid,
+        Mode::NearMiss,
+        Mode::TwoFaults,
+        Mode::BadLines,
+        Mode::RandomBytes,
+    ];
+
+    pub fn name(self) -> &'static str {
+        match self {
+            Mode::Valid => "valid",
+            Mode::NearMiss => "near-miss",
+            Mode::TwoFaults => "two-faults",
+            Mode::BadLines => "bad-lines",
+            Mode::RandomBytes => "random-bytes",
+        }
+    }
+}
+
+/// One generated case.
+#[derive(Clone, Debug, PartialEq, Eq)]
+pub struct Generated {
+    pub mode: Mode,
+    /// What is special about it.
+    pub name: String,
+    /// The number that the generator means it to give, if it means one.
+    pub intended: Option<u8>,
+    /// The case file.
+    pub file: Vec<u8>,
+}
+
+/// Makes the cases of one seed.
+pub struct Generator {
+    seed: u64,
+    only: Option<Mode>,
+    ways: Ways,
+}
+
+impl Generator {
+    /// All modes mixed, or one alone.
+    pub fn new(seed: u64, only: Option<Mode>) -> Generator {
+        Generator {
+            seed,
+            only,
+            ways: Ways::all(),
+        }
+    }
+
+    /// How many ways of a near miss there are; they come in turn.
+    pub fn near_miss_ways(&self) -> usize {
+        self.ways.count()
+    }
+
+    /// The case of an index. Of twenty cases eight are valid, six near misses, three have two faults,
+    /// one has a bad line and two are random bytes.
+    pub fn case(&self, index: u64) -> Generated {
+        let mut random = Random::new(self.seed, index);
+        let (round, turn) = (index / 20, index % 20);
+        let (mode, number) = match (self.only, turn) {
+            (Some(mode), _) => (mode, index),
+            (None, 0..=7) => (Mode::Valid, 0),
+            (None, 8..=13) => (Mode::NearMiss, 6 * round + turn - 8),
+            (None, 14..=16) => (Mode::TwoFaults, 3 * round + turn - 14),
+            (None, 17) => (Mode::BadLines, round),
+            (None, _) => (Mode::RandomBytes, 0),
+        };
+        match mode {
+            Mode::Valid => valid::valid(&mut random),
+            Mode::NearMiss => self.ways.near_miss(&mut random, number),
+            Mode::TwoFaults => self.ways.two_faults(&mut random, number),
+            Mode::BadLines => bad_lines::bad_lines(&mut random, number),
+            Mode::RandomBytes => random_bytes::random_bytes(&mut random),
+        }
+    }
+}

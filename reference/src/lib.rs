@@ -1,0 +1,40 @@
+//! The independent second program of the bench: document 01 in plain Rust, section by section.
+//!
+//! - "Bytes of an instruction": `instruction`, `fields`, `cursor`, `decode`, `encode`
+//! - "Tables and sizes": `element_type`, `case`, `sizes`
+//! - "Regions": `region`, `operands`
+//! - "Which channels, which results" and "How marks move": `lanes`, `element`, `shl`, `gather`,
+//!   `scatter`, `show`
+//! - "The numbers given back": `number`, `run_checks`, `run`
+//! - "The bench table" (the bench program): `case_file`, `case_writer`, `bench`, `batch`
+//!
+//! Beside the interpreter stand the case generator (`assemble`, `generate`) and the comparison
+//! (`command`, `difference`).
+
+pub mod assemble;
+pub mod batch;
+pub mod bench;
+pub mod case;
+pub mod case_file;
+pub mod case_writer;
+pub mod command;
+pub mod cursor;
+pub mod decode;
+pub mod difference;
+pub mod element;
+pub mod element_type;
+pub mod encode;
+pub mod fields;
+pub mod gather;
+pub mod generate;
+pub mod instruction;
+pub mod lanes;
+pub mod number;
+pub mod operands;
+pub mod region;
+pub mod run;
+pub mod run_checks;
+pub mod scatter;
+pub mod shl;
+pub mod show;
+pub mod sizes;

@@ -1,0 +1,80 @@
+//! The marked run: "Kernels run straight through."
+
+use crate::case::Case;
+use crate::decode::decode;
+use crate::gather::gather;
+use crate::instruction::{Instruction, GATHER, SHL};
+use crate::lanes::lanes_on;
+use crate::number::{DONE, SIZES};
+use crate::run_checks;
+use crate::scatter::scatter;
+use crate::shl::shl;
+use crate::sizes;
+
+/// "A run answers number, instructions completed and byte position of the refused instruction (or the
+/// end)."
+#[derive(Clone, Copy, Debug, PartialEq, Eq)]
+pub struct Answer {
+    pub number: u8,
+    pub completed: usize,
+    pub position: usize,
+}
+
+/// Run the case's kernel on the case's buffers. "Earlier instructions stand."
+pub fn run(case: &mut Case) -> Answer {
+    // "13 comes first." "13 answers 0 and 0."
+    if sizes::check(case).is_err() {
+        return Answer {
+            number: SIZES,
+            completed: 0,
+            position: 0,
+        };
+    }
+    let mut completed = 0;
+    let mut position = 0;
+    while position < case.kernel.len() {
+        match step(case, position) {
+            Ok(length) => {
+                completed += 1;
+                position += length;
+            }
+            Err(number) => {
+                return Answer {
+                    number,
+                    completed,
+                    position,
+                }
+            }
+        }
+    }
+    Answer {
+        number: DONE,
+        completed,
+        position,
+    }
+}
+
+/// One instruction: decoded, tested, then its effect. Gives its length in bytes, or refuses and
+/// changes nothing.
+fn step(case: &mut Case, position: usize) -> Result<usize, u8> {
+    let decoded = decode(&case.kernel, position);
+    if decoded.number != DONE {
+        return Err(decoded.number);
+    }
+    let length = decoded.part.len();
+    let instruction = decoded.instruction;
+    run_checks::check(case, &instruction)?;
+    effect(case, &instruction)?;
+    Ok(length)
+}
+
+fn effect(case: &mut Case, instruction: &Instruction) -> Result<(), u8> {
+    let on = lanes_on(case, instruction);
+    match instruction.opcode {
+        SHL => shl(case, instruction, &on),
+        GATHER => gather(case, instruction, &on),
+        // RAW_SEND has been refused with 9 by now; what is left is the scatter.
+        _ => scatter(case, instruction, &on)?,
+    }
+    Ok(())
+}

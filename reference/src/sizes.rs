@@ -1,0 +1,64 @@
+//! The tables check, number 13: document 01's section "Tables and sizes" and the lengths of taint.
+
+use crate::case::{Case, Variable};
+use crate::element_type;
+use crate::number::SIZES;
+
+/// "A register is 32 bytes."
+pub const REGISTER: u64 = 32;
+
+/// Every entry of every table is judged, used or not.
+pub fn check(case: &Case) -> Result<(), u8> {
+    if sizes_hold(case) {
+        Ok(())
+    } else {
+        Err(SIZES)
+    }
+}
+
+fn sizes_hold(case: &Case) -> bool {
+    let registers = case.registers.len() as u64;
+    // "Register file: multiple of 32, at most 4,096."
+    registers % REGISTER == 0
+        && registers <= 4096
+        // "Kernel and memory: at most 4,096 each."
+        && case.kernel.len() <= 4096
+        && case.memory.len() <= 4096
+        // "Base plus memory length is at most 2^64."
+        && u128::from(case.base) + case.memory.len() as u128 <= 1u128 << 64
+        // "At most 256 variables, 64 predicates (32 bits each), 8 surfaces of at most 1,024 bytes."
+        && case.variables.len() <= 256
+        && case.predicates.len() <= 64
+        && case.surfaces.len() <= 8
+        && case.surfaces.iter().all(|surface| surface.len() <= 1024)
+        && case.variables.iter().all(|variable| variable_holds(variable, registers))
+        // "or marks differ in length from their buffer"
+        && case.register_taint.len() == case.registers.len()
+        && case.surface_taint.len() == case.surface_bytes()
+        && case.memory_taint.len() == case.memory.len()
+}
+
+/// "It lies in the file, starts at a multiple of its element size, at a multiple of 32 if it is 32
+/// bytes or longer, and otherwise crosses no 32-byte line."
+fn variable_holds(variable: &Variable, registers: u64) -> bool {
+    // "(a type not listed too)"
+    let size = match element_type::size(variable.type_code) {
+        Some(size) => size,
+        None => return false,
+    };
+    // "element count (at least 1)"
+    if variable.count == 0 {
+        return false;
+    }
+    let start = u64::from(variable.start);
+    let bytes = size * u64::from(variable.count);
+    let last = start + bytes - 1;
+    if last >= registers || start % size != 0 {
+        return false;
+    }
+    if bytes >= REGISTER {
+        start % REGISTER == 0
+    } else {
+        start / REGISTER == last / REGISTER
+    }
+}

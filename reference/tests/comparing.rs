@@ -1,0 +1,270 @@
+//! The comparison: equal outputs pass, every wrong copy is caught, and the report says where.
+
+use reference::difference::{first_difference, listing};
+use std::path::{Path, PathBuf};
+use std::process::{Command, Output};
+
+const COMPARE: &str = env!("CARGO_BIN_EXE_compare");
+const REFERENCE: &str = env!("CARGO_BIN_EXE_reference");
+const CASES: &str = env!("CARGO_BIN_EXE_cases");
+
+fn compare(arguments: &[&str], wrong: &str) -> Output {
+    Command::new(COMPARE)
+        .args(arguments)
+        .env("REFERENCE_TEST_ONLY_WRONG", wrong)
+        .output()
+        .unwrap()
+}
+
+fn text(output: &Output) -> String {
+    String::from_utf8(output.stdout.clone()).unwrap()
+}
+
+fn last_line(output: &Output) -> String {
+    text(output).lines().last().unwrap_or_default().to_string()
+}
+
+/// A folder of its own for one test, inside the target folder.
+fn folder(name: &str) -> PathBuf {
+    let folder = Path::new(env!("CARGO_TARGET_TMPDIR")).join(name);
+    if folder.exists() {
+        std::fs::remove_dir_all(&folder).unwrap();
+    }
+    std::fs::create_dir_all(&folder).unwrap();
+    folder
+}
+
+#[test]
+fn the_reference_agrees_with_itself() {
+    let output = compare(&["--seed", "11", "--count", "200"], "");
+    assert_eq!(text(&output), "200 passed, 0 failed\n");
+    assert!(output.status.success());
+    let output = compare(
+        &["--command", REFERENCE, "--count", "40", "--jobs", "1"],
+        "",
+    );
+    assert_eq!(last_line(&output), "40 passed, 0 failed");
+}
+
+#[test]
+fn the_batch_mode_agrees_too() {
+    let output = compare(&["--batch", "--seed", "12", "--count", "1500"], "");
+    assert_eq!(text(&output), "1500 passed, 0 failed\n");
+    assert!(output.status.success());
+}
+
+/// Each wrong copy fails on the cases where its wrongness shows, and on those alone.
+#[test]
+fn wrong_copies_are_caught() {
+    for (wrong, place) in [
+        (
+            "number",
+            "line 1 (frame 40, the answer: number ub, completed uw, position ud), byte 1",
+        ),
+        (
+            "completed",
+            "line 1 (frame 40, the answer: number ub, completed uw, position ud), byte 2",
+        ),
+        ("taint", "(frame 08, register taint)"),
+        ("end", "(frame "),
+        (
+            "silent",
+            "line 1 (frame 40, the answer: number ub, completed uw, position ud), byte 0",
+        ),
+    ] {
+        for batch in [false, true] {
+            let mut arguments = vec!["--count", "60", "--show", "60"];
+            if batch {
+                arguments.push("--batch");
+            }
+            let output = compare(&arguments, wrong);
+            assert!(!output.status.success(), "{wrong}");
+            let failed: u64 = last_line(&output)
+                .split(' ')
+                .nth(2)
+                .and_then(|count| count.parse().ok())
+                .expect("the last line counts");
+            assert!(failed > 0, "{wrong}");
+            let report = text(&output);
+            assert!(report.contains(place), "{wrong}: {report}");
+            let shown = report.matches("first difference: ").count() as u64;
+            assert_eq!(shown, failed, "{wrong}");
+            for part in ["seed 1, case ", "\ncase:\n", "\nexpected:\n", "\ngot:\n"] {
+                assert!(report.contains(part), "{wrong}: {part:?}");
+            }
+            // Cases whose answer is right are not among them: a wrong number shows only where the right
+            // one is not 0, and a wrong end or silence everywhere.
+            let everywhere = wrong == "end" || wrong == "silent";
+            assert_eq!(failed == 60, everywhere, "{wrong}: {failed}");
+        }
+    }
+}
+
+/// Commands that are no bench at all.
+#[test]
+fn other_commands_fail() {
+    for (command, words) in [
+        ("true", "got \"\""),
+        ("cat", "first difference: line 1"),
+        ("sleep 9", "no end within 1 s"),
+        ("no-such-program-anywhere", "cannot start"),
+    ] {
+        let output = compare(
+            &["--command", command, "--count", "2", "--timeout", "1"],
+            "",
+        );
+        assert!(!output.status.success());
+        assert_eq!(last_line(&output), "0 passed, 2 failed", "{command}");
+        assert!(
+            text(&output).contains(words),
+            "{command}: {}",
+            text(&output)
+        );
+    }
+    let output = compare(&["--command", "true", "--batch", "--count", "2"], "");
+    assert_eq!(last_line(&output), "0 passed, 2 failed");
+}
+
+/// Case files of a folder, in the order of their names.
+#[test]
+fn a_folder_of_case_files() {
+    let folder = folder("folder_of_cases");
+    std::fs::write(folder.join("1-empty"), "").unwrap();
+    std::fs::write(folder.join("2-bad-line"), "01\n\n").unwrap();
+    std::fs::write(folder.join("3-no-opcode"), "07ff").unwrap();
+    let path = folder.display().to_string();
+    let output = compare(&["--folder", &path], "");
+    assert_eq!(text(&output), "3 passed, 0 failed\n");
+    let output = compare(&["--folder", &path], "number");
+    assert_eq!(last_line(&output), "1 passed, 2 failed");
+    let report = text(&output);
+    assert!(
+        report.starts_with(&format!("{path}/2-bad-line\n")),
+        "{report}"
+    );
+    assert!(report.contains("byte 1: expected \"0e\", got \"00\""));
+    assert!(report.contains("byte 1: expected \"02\", got \"00\""));
+}
+
+/// Hand-made case files of this package answer what is written down beside them.
+#[test]
+fn hand_made_case_files() {
+    let folder = Path::new(env!("CARGO_MANIFEST_DIR")).join("hand");
+    let mut count = 0;
+    for entry in std::fs::read_dir(&folder).unwrap() {
+        let path = entry.unwrap().path();
+        if !path.is_file() {
+            continue;
+        }
+        let case = std::fs::read(&path).unwrap();
+        let expected = folder.join("expected").join(path.file_name().unwrap());
+        let expected = std::fs::read_to_string(&expected).unwrap();
+        let output = String::from_utf8(reference::bench::bench(&case)).unwrap();
+        assert_eq!(output, expected, "{}", path.display());
+        count += 1;
+    }
+    assert_eq!(
+        count,
+        std::fs::read_dir(folder.join("expected")).unwrap().count()
+    );
+    assert!(count >= 10);
+}
+
+/// The generator's program writes the same cases to a folder and to a batch.
+#[test]
+fn written_cases() {
+    let folder = folder("written_cases");
+    let path = folder.display().to_string();
+    let run = |arguments: &[&str]| Command::new(CASES).args(arguments).output().unwrap();
+    let made = run(&["--seed", "2", "--count", "40", "--folder", &path]);
+    assert!(text(&made).contains("valid cases that ran all their instructions: "));
+    assert!(text(&made).contains("cases not answered as intended: 0"));
+    let batch = run(&["--seed", "2", "--count", "40", "--batch"]);
+    let mut stream = &batch.stdout[..];
+    let mut names: Vec<_> = std::fs::read_dir(&folder)
+        .unwrap()
+        .map(|entry| entry.unwrap().path())
+        .collect();
+    names.sort();
+    assert_eq!(names.len(), 40);
+    for name in names {
+        let entry = reference::batch::read_entry(&mut stream).unwrap();
+        assert_eq!(entry, Some(std::fs::read(name).unwrap()));
+    }
+    assert_eq!(reference::batch::read_entry(&mut stream).unwrap(), None);
+    let one = run(&["--seed", "2", "--first", "17", "--count", "1", "--print"]);
+    assert_eq!(
+        one.stdout,
+        std::fs::read(folder.join("000017-bad-lines.case")).unwrap()
+    );
+    let output = compare(&["--folder", &path], "");
+    assert_eq!(text(&output), "40 passed, 0 failed\n");
+}
+
+#[test]
+fn differences() {
+    assert_eq!(first_difference(b"4000\n01\n", b"4000\n01\n"), None);
+    let difference = first_difference(b"4000\n01aabbcc\n", b"4000\n01aabacc\n").unwrap();
+    assert_eq!((difference.line, difference.byte), (2, 2));
+    assert_eq!(
+        (difference.expected.as_str(), difference.got.as_str()),
+        ("bb", "ba")
+    );
+    assert_eq!(difference.frame, "01, registers");
+    // One output ends before the other.
+    let difference = first_difference(b"4000\n01\n", b"4000\n").unwrap();
+    assert_eq!((difference.line, difference.byte), (2, 0));
+    assert_eq!(
+        (difference.expected.as_str(), difference.got.as_str()),
+        ("01", "")
+    );
+    let difference = first_difference(b"4000\n", b"4000").unwrap();
+    assert_eq!((difference.line, difference.byte), (1, 2));
+    assert_eq!(
+        (difference.expected.as_str(), difference.got.as_str()),
+        ("\\n", "")
+    );
+    let difference = first_difference(b"4000\n", b"4000\n08\n").unwrap();
+    assert_eq!(
+        (difference.line, difference.frame),
+        (2, "after the last line")
+    );
+}
+
+#[test]
+fn listings() {
+    assert_eq!(listing(b"01\n02\n", false), "    1 01\n    2 02\n");
+    assert_eq!(
+        listing(b"01\r", false),
+        "    1 01\\r\n      (the last line has no 0a)\n"
+    );
+    assert_eq!(listing(b"", false), "      (nothing)\n");
+    let long = "0".repeat(200);
+    let shortened = format!("    1 {}... (200 characters)\n", "0".repeat(180));
+    assert_eq!(listing(format!("{long}\n").as_bytes(), false), shortened);
+    assert_eq!(
+        listing(format!("{long}\n").as_bytes(), true),
+        format!("    1 {long}\n")
+    );
+}
+
+/// The batch framing: a decimal length, 0x0a, and so many bytes.
+#[test]
+fn batch_framing() {
+    let mut stream = Vec::new();
+    reference::batch::write_entry(&mut stream, b"07ff\n").unwrap();
+    reference::batch::write_entry(&mut stream, b"").unwrap();
+    assert_eq!(stream, b"5\n07ff\n0\n");
+    let mut input = &stream[..];
+    assert_eq!(
+        reference::batch::read_entry(&mut input).unwrap(),
+        Some(b"07ff\n".to_vec())
+    );
+    assert_eq!(
+        reference::batch::read_entry(&mut input).unwrap(),
+        Some(Vec::new())
+    );
+    assert_eq!(reference::batch::read_entry(&mut input).unwrap(), None);
+    assert!(reference::batch::read_entry(&mut &b"five\n"[..]).is_err());
+    assert!(reference::batch::read_entry(&mut &b"5\n07"[..]).is_err());
+}
