@@ -1,0 +1,12 @@
+-- A whole run: 13, or the steps from the kernel's start.
+use mathlib.Core.Path.{_≡_, refl}
+use mathlib.Core.Bool.{cond}
+use lib.ListN.{length}
+use Rattle.tables.specs.Tables.{tablesGood}
+use Rattle.run.specs.State.{Setup, State, lengthsOf}
+use Rattle.run.specs.Step.{stepAt}
+use Rattle.run.specs.Run.{stopped, runFrom, run}
+
+pub run-is : (x : Setup) (s : State) → run x s ≡ cond (tablesGood (lengthsOf x s) (x .tables)) (runFrom (stepAt x) (length (x .kernel)) (length (x .kernel)) 0 0 s) (stopped 13 0 0 s)
+unfolding run
+run-is x s = refl

@@ -1,0 +1,1 @@
+// SHL: each enabled lane shifts its source element and stores the result.

@@ -1,0 +1,1 @@
+// Staging: the sources of one instruction, with their taint, read before anything is written.
