@@ -1,5 +1,5 @@
 -- Where a surface of a good table lies in the surface buffer.
-use mathlib.Core.Path.{_≡_}
+use mathlib.Core.Path.{_≡_, refl}
 use mathlib.Core.Bool.{true}
 use mathlib.Core.List.{List}
 use Prim.Native.Nat.{ℕ, zero, suc, _+_, _*_, _≤_, _<_}
@@ -7,7 +7,7 @@ use native.Mathlib.Omega.{arith}
 use native.Mathlib.Numerals.{add-one}
 use native.Mathlib.Nat.{not-suc-le-zero}
 use lib.Dec.{leb, eqb}
-use lib.ListN.{length}
+use lib.ListN.{length, getD}
 use borrow.Author.Tests.{leb-true, eqb-true}
 use borrow.Author.Count.{below-more}
 use Rattle.tables.specs.Every.{every}
@@ -23,10 +23,15 @@ ends-before surfaces (suc n) k h =
     below-more (λ (j : ℕ). surfaceStart surfaces j + surfaceLength surfaces j ≤ surfaceStart surfaces n + surfaceLength surfaces n) n
     (λ j l. omega (arith, ends-before surfaces n j l)) (omega arith) k (rw (add-one n) h)
 
-start-small : (surfaces : List ℕ) (n : ℕ) → ((k : ℕ) → k < n → surfaceLength surfaces k ≤ 1024) → surfaceStart surfaces n ≤ 1024 * n
+-- the start of a surface, where each length before it has a limit
+pub start-at-most : (surfaces : List ℕ) (most n : ℕ) → ((k : ℕ) → k < n → surfaceLength surfaces k ≤ most) → surfaceStart surfaces n ≤ most * n
 unfolding surfaceStart
-start-small surfaces zero h = omega arith
-start-small surfaces (suc n) h = omega (arith, start-small surfaces n (λ k l. h k (omega arith)), h n (omega arith))
+start-at-most surfaces most zero h = omega arith
+start-at-most surfaces most (suc n) h = omega (arith, start-at-most surfaces most n (λ k l. h k (omega arith)), h n (omega arith))
+
+pub length-is : (surfaces : List ℕ) (k : ℕ) → surfaceLength surfaces k ≡ getD surfaces k 0
+unfolding surfaceLength
+length-is surfaces k = refl
 
 -- a good table of surfaces
 module _ (bytes : ℕ) (surfaces : List ℕ) (good : surfacesGood bytes surfaces ≡ true) where
@@ -48,4 +53,4 @@ module _ (bytes : ℕ) (surfaces : List ℕ) (good : surfacesGood bytes surfaces
   surface-inside k h = omega (arith, lengths-add-up, ends-before surfaces (length surfaces) k h)
 
   pub surfaces-small : bytes ≤ 8192
-  surfaces-small = omega (arith, lengths-add-up, surfaces-few, start-small surfaces (length surfaces) surface-small)
+  surfaces-small = omega (arith, lengths-add-up, surfaces-few, start-at-most surfaces 1024 (length surfaces) surface-small)

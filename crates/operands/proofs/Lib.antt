@@ -1,0 +1,5 @@
+pub mod Bounds
+pub mod ReachLaws
+pub mod PositionLaws
+pub mod GridLaws
+pub mod AllowedLaws

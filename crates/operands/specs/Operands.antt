@@ -1,0 +1,75 @@
+-- One operand: refused by its tests in order, or where its elements are. Document 01, "The numbers given back":
+-- "each operand in order 5, 4 (type), 6, 7".
+use Prim.Native.Nat.{ℕ, _+_, _*_, _%_, _^_}
+use mathlib.Core.Bool.{Bool, cond, not, _&&_}
+use lib.Dec.{leb, eqb}
+use Rattle.types.specs.Types.{sizeOf}
+use Rattle.channels.specs.Exec.{execSize}
+use Rattle.decoder.specs.declared.General.{General}
+use Rattle.decoder.specs.declared.Immediate.{Immediate}
+use Rattle.decoder.specs.declared.Raw.{Raw}
+use Rattle.decoder.specs.declared.Operand.{Operand}
+use Rattle.decoder.specs.declared.Operand.the-variants as operand
+use Rattle.operands.specs.declared.Role.{Role}
+use Rattle.operands.specs.declared.Role.the-variants as role
+use Rattle.operands.specs.declared.TypeRule.{TypeRule}
+use Rattle.operands.specs.declared.Variable.{Variable}
+use Rattle.operands.specs.declared.Located.{Located}
+use Rattle.operands.specs.Allowed.{typeAllowed}
+use Rattle.operands.specs.Regions.{regionGood, elementOf}
+use Rattle.operands.specs.Reach.{insideVariable, reachGood}
+use Rattle.operands.specs.Variables.{Variables, inTable, variableAt}
+use Rattle.operands.specs.Elements.{elementByte, registerElements, immediateElement, refusal}
+
+-- "All ExecSize elements .. lie in the variable and touch at most two adjacent registers, lowest byte to highest."
+unfoldable pub elementsGood : Variable → (ℕ → ℕ) → ℕ → Bool
+elementsGood v element lanes =
+    insideVariable element lanes (v .count) && reachGood element lanes (v .start) (sizeOf (v .code))
+
+-- a General operand of a variable in the table: 4, 6, 7
+unfoldable pub generalOf : Role → TypeRule → ℕ → General → Variable → Located
+generalOf role rule lanes g v =
+    cond (not (typeAllowed rule (v .code))) (refusal 4)
+    (cond (not (regionGood role (g .region) lanes)) (refusal 6)
+    (cond (not (elementsGood v (elementOf role g (sizeOf (v .code))) lanes)) (refusal 7)
+    (registerElements (v .code) (elementByte (v .start) (sizeOf (v .code)) (elementOf role g (sizeOf (v .code)))))))
+
+-- 5, then the others
+unfoldable pub generalAt : Variables → Role → TypeRule → ℕ → General → Located
+generalAt t role rule exec g =
+    cond (not (inTable t (g .index))) (refusal 5)
+    (generalOf role rule (execSize exec) g (variableAt t (g .index)))
+
+-- an Immediate source: 4
+unfoldable pub immediateOf : TypeRule → Immediate → Located
+immediateOf rule i =
+    cond (not (typeAllowed rule (i .code))) (refusal 4)
+    (immediateElement (i .code) (i .low + 2 ^ 32 * i .high))
+
+-- "any class but General, or Immediate on a source, is 4"
+unfoldable pub immediateAt : Role → TypeRule → Immediate → Located
+immediateAt role.Source rule i = immediateOf rule i
+immediateAt role.Scalar rule i = immediateOf rule i
+immediateAt role.Destination rule i = refusal 4
+
+-- a vector operand or a scalar
+unfoldable pub vectorAt : Variables → Role → TypeRule → ℕ → Operand → Located
+vectorAt t role rule exec (operand.General g) = generalAt t role rule exec g
+vectorAt t role rule exec (operand.Immediate i) = immediateAt role rule i
+
+-- "it lies in its variable and its offset is a multiple of the element size"
+unfoldable pub rawGood : Variable → ℕ → ℕ → Bool
+rawGood v offset bytes = eqb (offset % sizeOf (v .code)) 0 && leb (offset + bytes) (v .count * sizeOf (v .code))
+
+-- a raw operand of a variable in the table: 4, 7; its elements follow one another from the offset on
+unfoldable pub rawOf : TypeRule → ℕ → ℕ → Variable → Located
+rawOf rule bytes offset v =
+    cond (not (typeAllowed rule (v .code))) (refusal 4)
+    (cond (not (rawGood v offset bytes)) (refusal 7)
+    (registerElements (v .code) (elementByte (v .start + offset) (sizeOf (v .code)) (λ k. k))))
+
+-- a raw operand of which so many bytes are needed: 5, then the others
+unfoldable pub rawAt : Variables → TypeRule → ℕ → Raw → Located
+rawAt t rule bytes r =
+    cond (not (inTable t (r .index))) (refusal 5)
+    (rawOf rule bytes (r .offset) (variableAt t (r .index)))

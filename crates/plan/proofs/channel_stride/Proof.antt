@@ -1,0 +1,23 @@
+-- `plan::channel_stride` meets its contract: at each return, what the calls and tests on the way say picks the case of `Needed`.
+use mathlib.Core.Path.{ap}
+use Rattle.channels.specs.declared.Exec.{Exec}
+use borrow.Author.Needs.{needs}
+use borrow.Author.Tests.{lt-ltb, le-ltb}
+use Rattle.plan.specs.Needed.{channelStride}
+use Rattle.plan.proofs.channel_stride.Statement.{statement}
+use Rattle.plan.proofs.channel_stride.Tie as tie
+
+returns : tie.Need-returns
+unfolding channelStride
+returns c =
+    let a = c .before in
+    rw (← ap (λ (e : Exec). e .size) (a .split .ensures), lt-ltb _ _ (c .if1 .taken))
+
+returns-2 : tie.Need-returns-2
+unfolding channelStride
+returns-2 c =
+    let a = c .before in
+    rw (← ap (λ (e : Exec). e .size) (a .split .ensures), le-ltb _ _ (c .if1 .left))
+
+pub channel-stride-spec : {M : Type 1} → statement M
+channel-stride-spec = tie.close (tie.spec (λ c κs. search needs) returns returns-2)

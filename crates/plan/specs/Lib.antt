@@ -1,0 +1,4 @@
+pub mod Control
+pub mod Needed
+pub mod Plans
+pub mod Checked

@@ -1,0 +1,83 @@
+-- What a run needs of an accepted instruction, and what stands for a refused one.
+use Prim.Native.Nat.{ℕ}
+use mathlib.Core.Bool.{cond, false}
+use lib.Dec.{ltb}
+use lib.ListN.{replicate}
+use Rattle.decoder.specs.declared.Control.{Control}
+use Rattle.operands.specs.declared.Elements.{Elements}
+use Rattle.plan.specs.declared.Part.{Part}
+use Rattle.plan.specs.declared.Plan.{Plan}
+use Rattle.plan.specs.declared.Operation.the-variants as operation
+
+abbrev pub noElements : Elements
+noElements = record { size = 0; signed = false; immediate = false; value = 0; at = replicate 32 0 }
+
+-- a refusal's number, and nothing else
+unfoldable pub refusal : ℕ → Plan
+refusal n =
+    record {
+      number = n;
+      operation = operation.Send;
+      control = record { exec = 0; pred = 0 };
+      bits = 0;
+      left = noElements;
+      right = noElements;
+      payload = noElements;
+      bytes = 0;
+      channels = 0;
+      start = 0;
+      length = 0;
+    }
+
+-- a test's refusal, or what comes after the test
+unfoldable pub tested : ℕ → Plan → Plan
+tested n next = cond (ltb 0 n) (refusal n) next
+
+unfoldable pub shlPlan : Control → ℕ → Elements → Elements → Elements → Plan
+shlPlan control bits left right payload =
+    record {
+      number = 0;
+      operation = operation.Shl;
+      control = control;
+      bits = bits;
+      left = left;
+      right = right;
+      payload = payload;
+      bytes = 0;
+      channels = 0;
+      start = 0;
+      length = 0;
+    }
+
+-- with the bytes of a block, and the surface's part of the surface buffer
+unfoldable pub gatherPlan : Control → ℕ → Elements → Elements → Elements → ℕ → Part → Plan
+gatherPlan control bits left right payload bytes part =
+    record {
+      number = 0;
+      operation = operation.Gather;
+      control = control;
+      bits = bits;
+      left = left;
+      right = right;
+      payload = payload;
+      bytes = bytes;
+      channels = 0;
+      start = part .start;
+      length = part .length;
+    }
+
+unfoldable pub scatterPlan : Control → ℕ → Elements → Elements → Elements → ℕ → Plan
+scatterPlan control bits left right payload channels =
+    record {
+      number = 0;
+      operation = operation.Scatter;
+      control = control;
+      bits = bits;
+      left = left;
+      right = right;
+      payload = payload;
+      bytes = 0;
+      channels = channels;
+      start = 0;
+      length = 0;
+    }

@@ -1,0 +1,456 @@
+// All that a run tests of an instruction before it reads data, and what is left to run of one that passes.
+use decoder::Control;
+use decoder::Gather;
+use decoder::Instruction;
+use decoder::RawSend;
+use decoder::Scatter;
+use decoder::Shl;
+use operands::Elements;
+use operands::Role;
+use operands::TypeRule;
+ghost use mathlib.Core.Path.{_≡_};
+ghost use Rattle.tables.specs.Tables.{tables};
+ghost use Rattle.operands.specs.Variables.{variables};
+ghost use Rattle.plan.specs.Control.{controlOf, controlRefusal, predicateBits};
+ghost use Rattle.plan.specs.Needed.{elementsNeeded, enabledBelow, channelStride, scatterNeeded, registersNeeded, blockBytes};
+ghost use Rattle.plan.specs.Plans.{refusal};
+ghost use Rattle.plan.specs.Checked.{checkedShl, checkedGather, surfacePart, checkedSurface, checkedScatter, checkedSend, checked};
+
+// Send stands in refusals only: no RAW_SEND is run.
+pub enum Operation {
+    Shl,
+    Gather,
+    Scatter,
+    Send,
+}
+
+// The bytes of the surface buffer from start on that are one surface.
+struct Part {
+    start: u32,
+    length: u32,
+}
+
+// What a run needs of an accepted instruction. `number` is 0, or the refusal's with everything else empty.
+// SHL: left is Src0, right Src1, payload Dst. Gather: Offset, Element_offset, Dst. Scatter: Address, Element_offset, Src.
+pub struct Plan {
+    pub number: u8,
+    pub operation: Operation,
+    pub control: Control,
+    // the predicate's, 0 without one
+    pub bits: u32,
+    pub left: Elements,
+    pub right: Elements,
+    pub payload: Elements,
+    // a gather's block: 1, 2 or 4
+    pub bytes: u8,
+    // a scatter's
+    pub channels: u8,
+    // a gather's surface in the surface buffer
+    pub start: u32,
+    pub length: u32,
+}
+
+fn refused(number: u8) -> Plan
+    ensures { λ r. ⌜ r ≡ refusal number ⌝ }
+{
+    let none = Elements {
+        size: 0,
+        signed: false,
+        immediate: false,
+        value: 0,
+        at: [0; 32],
+    };
+    let control = Control { exec: 0, pred: 0 };
+    Plan {
+        number,
+        operation: Operation::Send,
+        control,
+        bits: 0,
+        left: none,
+        right: none,
+        payload: none,
+        bytes: 0,
+        channels: 0,
+        start: 0,
+        length: 0,
+    }
+}
+
+fn control_of(instruction: Instruction) -> Control
+    ensures { λ r. ⌜ r ≡ controlOf instruction ⌝ }
+{
+    match instruction {
+        Instruction::Shl(i) => i.control,
+        Instruction::Gather(i) => i.control,
+        Instruction::Scatter(i) => i.control,
+        Instruction::RawSend(i) => i.control,
+    }
+}
+
+// 8, then the predicate's 5.
+fn control_refusal(predicates: &[u32], control: Control) -> u8
+    ensures { λ r. ⌜ r ≡ controlRefusal (now (predicates .entry)) control ⌝ }
+{
+    let exec = channels::split(control.exec);
+    if 32 < (exec.offset as u16) + (exec.size as u16) {
+        return 8;
+    }
+    let absent = predicates.len() <= channels::predicate_id(control.pred) as usize;
+    if channels::has_predicate(control.pred) & absent {
+        return 5;
+    }
+    0
+}
+
+fn predicate_bits(predicates: &[u32], pred: u16) -> u32
+    ensures { λ r. ⌜ r ≡ predicateBits (now (predicates .entry)) pred ⌝ }
+{
+    let id = channels::predicate_id(pred) as usize;
+    if channels::has_predicate(pred) {
+        if id < predicates.len() {
+            return predicates[id];
+        }
+        return 0;
+    }
+    0
+}
+
+fn elements_needed(exec: u8, code: u8) -> u32
+    ensures { λ r. ⌜ r ≡ elementsNeeded exec code ⌝ }
+{
+    (channels::split(exec).size as u32) * (types::size_of(code) as u32)
+}
+
+fn enabled_channels(channels: u8) -> u8
+    ensures { λ r. ⌜ r ≡ enabledBelow channels 4 ⌝ }
+{
+    channels % 2 + channels / 2 % 2 + channels / 4 % 2 + channels / 8 % 2
+}
+
+// The dwords from a channel's data to the next channel's.
+pub fn channel_stride(exec: u8) -> u8
+    ensures { λ r. ⌜ r ≡ channelStride exec ⌝ }
+{
+    let size = channels::split(exec).size;
+    if size < 8 { 8 } else { size }
+}
+
+fn scatter_needed(exec: u8, channels: u8) -> u32
+    ensures { λ r. ⌜ r ≡ scatterNeeded exec channels ⌝ }
+{
+    let size = channels::split(exec).size as u32;
+    let dword = types::size_of(types::UD) as u32;
+    let enabled = enabled_channels(channels) as u32;
+    let stride = channel_stride(exec) as u32;
+    if 0 < enabled {
+        return ((enabled - 1) * stride + size) * dword;
+    }
+    size * dword
+}
+
+fn registers_needed(count: u8) -> u32
+    ensures { λ r. ⌜ r ≡ registersNeeded count ⌝ }
+{
+    tables::REGISTER_SIZE as u32 * (count as u32)
+}
+
+fn block_bytes(code: u8) -> u8
+    ensures { λ r. ⌜ r ≡ blockBytes code ⌝ }
+{
+    if code == 0 {
+        return 1;
+    }
+    if code == 1 { 2 } else { 4 }
+}
+
+fn surface_part(surfaces: &[u16], index: u8) -> Part
+    ensures { λ r. ⌜ r ≡ surfacePart (now (surfaces .entry)) index ⌝ }
+{
+    Part {
+        start: tables::surface_start(surfaces, index) as u32,
+        length: tables::surface_length(surfaces, index) as u32,
+    }
+}
+
+fn check_shl(types: &[u8], starts: &[u16], counts: &[u16], bits: u32, instruction: Shl) -> Plan
+    ensures { λ r. ⌜ r ≡ checkedShl (variables (now (types .entry)) (now (starts .entry)) (now (counts .entry))) bits instruction ⌝ }
+{
+    let control = instruction.control;
+    let exec = control.exec;
+    let destination = instruction.destination;
+    let source = instruction.source;
+    let count = instruction.count;
+    let dst = operands::locate_vector(
+        types,
+        starts,
+        counts,
+        Role::Destination,
+        TypeRule::Shift,
+        exec,
+        destination,
+    );
+    if 0 < dst.number {
+        return refused(dst.number);
+    }
+    let src0 = operands::locate_vector(
+        types,
+        starts,
+        counts,
+        Role::Source,
+        TypeRule::Shift,
+        exec,
+        source,
+    );
+    if 0 < src0.number {
+        return refused(src0.number);
+    }
+    let src1 = operands::locate_vector(
+        types,
+        starts,
+        counts,
+        Role::Source,
+        TypeRule::Shift,
+        exec,
+        count,
+    );
+    if 0 < src1.number {
+        return refused(src1.number);
+    }
+    let left = src0.elements;
+    let right = src1.elements;
+    let payload = dst.elements;
+    Plan {
+        number: 0,
+        operation: Operation::Shl,
+        control,
+        bits,
+        left,
+        right,
+        payload,
+        bytes: 0,
+        channels: 0,
+        start: 0,
+        length: 0,
+    }
+}
+
+fn check_gather(
+    types: &[u8],
+    starts: &[u16],
+    counts: &[u16],
+    bits: u32,
+    part: Part,
+    instruction: Gather,
+) -> Plan
+    ensures { λ r. ⌜ r ≡ checkedGather (variables (now (types .entry)) (now (starts .entry)) (now (counts .entry))) bits part instruction ⌝ }
+{
+    let control = instruction.control;
+    let exec = control.exec;
+    let address = instruction.offset;
+    let needed = elements_needed(exec, types::UD);
+    let offset = operands::locate_vector(
+        types,
+        starts,
+        counts,
+        Role::Scalar,
+        TypeRule::Offset,
+        exec,
+        address,
+    );
+    if 0 < offset.number {
+        return refused(offset.number);
+    }
+    let element = operands::locate_raw(
+        types,
+        starts,
+        counts,
+        TypeRule::Offset,
+        needed,
+        instruction.element_offset,
+    );
+    if 0 < element.number {
+        return refused(element.number);
+    }
+    let dst = operands::locate_raw(
+        types,
+        starts,
+        counts,
+        TypeRule::Dword,
+        needed,
+        instruction.destination,
+    );
+    if 0 < dst.number {
+        return refused(dst.number);
+    }
+    let left = offset.elements;
+    let right = element.elements;
+    let payload = dst.elements;
+    Plan {
+        number: 0,
+        operation: Operation::Gather,
+        control,
+        bits,
+        left,
+        right,
+        payload,
+        bytes: block_bytes(instruction.access.num_blocks),
+        channels: 0,
+        start: part.start,
+        length: part.length,
+    }
+}
+
+// The surface's 5, then the operands.
+fn check_surface(
+    types: &[u8],
+    starts: &[u16],
+    counts: &[u16],
+    surfaces: &[u16],
+    bits: u32,
+    instruction: Gather,
+) -> Plan
+    ensures { λ r. ⌜ r ≡ checkedSurface (variables (now (types .entry)) (now (starts .entry)) (now (counts .entry))) (now (surfaces .entry)) bits instruction ⌝ }
+{
+    let surface = instruction.access.surface;
+    if !((surface as usize) < surfaces.len()) {
+        return refused(5);
+    }
+    let part = surface_part(surfaces, surface);
+    check_gather(types, starts, counts, bits, part, instruction)
+}
+
+fn check_scatter(
+    types: &[u8],
+    starts: &[u16],
+    counts: &[u16],
+    bits: u32,
+    instruction: Scatter,
+) -> Plan
+    ensures { λ r. ⌜ r ≡ checkedScatter (variables (now (types .entry)) (now (starts .entry)) (now (counts .entry))) bits instruction ⌝ }
+{
+    let control = instruction.control;
+    let exec = control.exec;
+    let base = instruction.address;
+    let address = operands::locate_vector(
+        types,
+        starts,
+        counts,
+        Role::Scalar,
+        TypeRule::Address,
+        exec,
+        base,
+    );
+    if 0 < address.number {
+        return refused(address.number);
+    }
+    let offsets = elements_needed(exec, types::UQ);
+    let element = operands::locate_raw(
+        types,
+        starts,
+        counts,
+        TypeRule::Address,
+        offsets,
+        instruction.element_offset,
+    );
+    if 0 < element.number {
+        return refused(element.number);
+    }
+    let needed = scatter_needed(exec, instruction.channels);
+    let src = operands::locate_raw(
+        types,
+        starts,
+        counts,
+        TypeRule::Dword,
+        needed,
+        instruction.source,
+    );
+    if 0 < src.number {
+        return refused(src.number);
+    }
+    let left = address.elements;
+    let right = element.elements;
+    let payload = src.elements;
+    Plan {
+        number: 0,
+        operation: Operation::Scatter,
+        control,
+        bits,
+        left,
+        right,
+        payload,
+        bytes: 0,
+        channels: instruction.channels,
+        start: 0,
+        length: 0,
+    }
+}
+
+// The operands of a RAW_SEND, then 9.
+fn check_send(types: &[u8], starts: &[u16], counts: &[u16], instruction: RawSend) -> Plan
+    ensures { λ r. ⌜ r ≡ checkedSend (variables (now (types .entry)) (now (starts .entry)) (now (counts .entry))) instruction ⌝ }
+{
+    let exec = instruction.control.exec;
+    let descriptor = instruction.descriptor;
+    let desc = operands::locate_vector(
+        types,
+        starts,
+        counts,
+        Role::Scalar,
+        TypeRule::Offset,
+        exec,
+        descriptor,
+    );
+    if 0 < desc.number {
+        return refused(desc.number);
+    }
+    let sent = registers_needed(instruction.message.num_src);
+    let src = operands::locate_raw(
+        types,
+        starts,
+        counts,
+        TypeRule::Any,
+        sent,
+        instruction.source,
+    );
+    if 0 < src.number {
+        return refused(src.number);
+    }
+    let received = registers_needed(instruction.message.num_dst);
+    let dst = operands::locate_raw(
+        types,
+        starts,
+        counts,
+        TypeRule::Any,
+        received,
+        instruction.destination,
+    );
+    if 0 < dst.number {
+        return refused(dst.number);
+    }
+    refused(9)
+}
+
+// The number of an instruction's refusal, or its plan.
+pub fn check(
+    types: &[u8],
+    starts: &[u16],
+    counts: &[u16],
+    predicates: &[u32],
+    surfaces: &[u16],
+    instruction: Instruction,
+) -> Plan
+    ensures { λ r. ⌜ r ≡ checked (tables (now (types .entry)) (now (starts .entry)) (now (counts .entry)) (now (predicates .entry)) (now (surfaces .entry))) instruction ⌝ }
+{
+    let control = control_of(instruction);
+    let number = control_refusal(predicates, control);
+    if 0 < number {
+        return refused(number);
+    }
+    let bits = predicate_bits(predicates, control.pred);
+    match instruction {
+        Instruction::Shl(i) => check_shl(types, starts, counts, bits, i),
+        Instruction::Gather(i) => check_surface(types, starts, counts, surfaces, bits, i),
+        Instruction::Scatter(i) => check_scatter(types, starts, counts, bits, i),
+        Instruction::RawSend(i) => check_send(types, starts, counts, i),
+    }
+}
