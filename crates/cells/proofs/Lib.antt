@@ -1,2 +1,11 @@
+pub mod PlaceLaws
+pub mod WriteLaws
+pub mod StayLaws
+pub mod NumberLaws
+pub mod TaintLaws
+pub mod CopyLaws
+pub mod AmongLaws
+pub mod LaneLaws
+pub mod SearchLaws
 pub mod Related
 pub mod Untainted

@@ -1,0 +1,46 @@
+-- Laws of taint: what is written is read back, an element's taint byte by byte, and which mark bytes it depends on.
+use Prim.Native.Nat.{ℕ, zero, suc, _+_, _-_, _≤_, _<_}
+use mathlib.Core.Path.{_≡_, refl, sym, ap₂, _∙_}
+use mathlib.Core.Bool.{Bool, true, false, _||_, or-assoc, or-false}
+use mathlib.Core.List.{List}
+use native.Mathlib.Omega.{arith}
+use lib.ListN.{getD}
+use Rattle.cells.specs.Buffer.{isTainted, markOf, anyTainted}
+
+pub tainted-mark : (t : Bool) → isTainted (markOf t) ≡ t
+unfolding isTainted markOf
+tainted-mark true = refl
+tainted-mark false = refl
+
+-- marks that are tainted alike, byte by byte, make elements that are
+pub tainted-local : (n : ℕ) (l m : List ℕ) (at from : ℕ) → ((k : ℕ) → k < n → isTainted (getD l (at + k) 0) ≡ isTainted (getD m (from + k) 0)) → anyTainted l at n ≡ anyTainted m from n
+unfolding anyTainted
+tainted-local zero l m at from same = refl
+tainted-local (suc n) l m at from same =
+    let a : at + 0 ≡ at = omega arith in
+    let f : from + 0 ≡ from = omega arith in
+    let first : isTainted (getD l at 0) ≡ isTainted (getD m from 0) = rw (a, f) at (same 0 (omega arith)) in
+    let rest = tainted-local n l m (suc at) (suc from) (λ k h. past k (same (suc k) (omega arith))) in
+    ap₂ _||_ first rest
+  where
+    past : (k : ℕ) → isTainted (getD l (at + suc k) 0) ≡ isTainted (getD m (from + suc k) 0) → isTainted (getD l (suc at + k) 0) ≡ isTainted (getD m (suc from + k) 0)
+    past k e =
+        let a : suc at + k ≡ at + suc k = omega arith in
+        let f : suc from + k ≡ from + suc k = omega arith in
+        rw (a, f) e
+
+-- what was found and what is left make the whole: a byte more, and nothing left
+pub tainted-turn : (taint : List ℕ) (at k size : ℕ) (found here whole : Bool) → k < size → here ≡ isTainted (getD taint (at + k) 0) → (found || anyTainted taint (at + k) (size - k)) ≡ whole → (found || here || anyTainted taint (at + (k + 1)) (size - (k + 1))) ≡ whole
+unfolding anyTainted
+tainted-turn taint at k size found here whole h e g =
+    let n : size - k ≡ suc (size - (k + 1)) = omega arith in
+    let p : at + (k + 1) ≡ suc (at + k) = omega arith in
+    let g′ : (found || (isTainted (getD taint (at + k) 0) || anyTainted taint (suc (at + k)) (size - (k + 1)))) ≡ whole = rw n at g in
+    rw (e, p) (or-assoc found _ _ ∙ g′)
+
+pub tainted-over : (taint : List ℕ) (at k size : ℕ) (found whole : Bool) → size ≤ k → (found || anyTainted taint (at + k) (size - k)) ≡ whole → found ≡ whole
+unfolding anyTainted
+tainted-over taint at k size found whole h g =
+    let n : size - k ≡ 0 = omega arith in
+    let g′ : (found || false) ≡ whole = rw n at g in
+    sym (or-false found) ∙ g′
