@@ -80,14 +80,15 @@ module _ (R : ℕ → ℕ → ℕ → ℕ → ℕ → Type 0) where
         taint′ = simp length-set (r .taint′);
         cells =
             λ i.
-            rw
-            (getD-set (b .bytes) k v i,
-             getD-set (b .taint) k m i,
-             getD-set (c .bytes) k u i,
-             getD-set (c .taint) k j i,
-             r .taint,
-             r .bytes′,
-             r .taint′)
+            rw (
+              getD-set (b .bytes) k v i,
+              getD-set (b .taint) k m i,
+              getD-set (c .bytes) k u i,
+              getD-set (c .taint) k j i,
+              r .taint,
+              r .bytes′,
+              r .taint′,
+            )
             (cells-set (hits (length (b .bytes)) i k) i k v m u j _ _ _ _ (hits-at (length (b .bytes)) i k) h (r .cells i));
       }
 

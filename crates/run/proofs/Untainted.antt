@@ -14,12 +14,13 @@ use Rattle.plan.specs.declared.Plan.{Plan}
 use Rattle.plan.specs.declared.Operation.{Operation}
 use Rattle.plan.specs.declared.Operation.the-variants as operation
 use Rattle.plan.specs.Checked.{checked}
+use Rattle.staging.specs.Lanes.{lanesOn}
 use Rattle.shl.proofs.Untainted.{shl-alike}
 use Rattle.gather.proofs.Untainted.{gather-alike}
 use Rattle.scatter.specs.Scatter.{scatterEffect}
 use Rattle.scatter.proofs.Untainted.{scatter-alike}
 use Rattle.run.specs.State.{Setup, State}
-use Rattle.run.specs.Step.{lanesOn, acted, planEffect, Stepped, stepAt, after}
+use Rattle.run.specs.Step.{acted, planEffect, Stepped, stepAt, after}
 use Rattle.run.proofs.Simulation.{SameStep}
 
 pub record AgreeingStates (s u : State) : Type 0 where

@@ -1,28 +1,21 @@
 -- One step: decode the instruction at a position, test it, and work out its effect.
 use Prim.Native.Nat.{ℕ}
 use mathlib.Core.Bool.{not}
-use mathlib.Core.List.{List}
 use lib.ListN.{length}
 use lib.Dec.{eqb}
 use Rattle.cells.specs.Buffer.{Buffer}
 use Rattle.cells.specs.Writes.{writtenAll}
-use Rattle.cells.specs.Over.{among}
 use Rattle.cells.specs.Effect.{Effect, refused, unless}
-use Rattle.channels.specs.Exec.{execSize}
-use Rattle.channels.specs.Lanes.{laneOn}
 use Rattle.decoder.specs.Decoding.{instructionAt, onDecoded}
 use Rattle.plan.specs.declared.Plan.{Plan}
 use Rattle.plan.specs.declared.Operation.{Operation}
 use Rattle.plan.specs.declared.Operation.the-variants as operation
 use Rattle.plan.specs.Checked.{checked}
+use Rattle.staging.specs.Lanes.{lanesOn}
 use Rattle.shl.specs.Shl.{shlEffect}
 use Rattle.gather.specs.Gather.{gatherEffect}
 use Rattle.scatter.specs.Scatter.{scatterEffect}
 use Rattle.run.specs.State.{Setup, State}
-
--- the enabled lanes of an accepted instruction
-unfoldable pub lanesOn : ℕ → Plan → List ℕ
-lanesOn mask p = among (laneOn (p .control .exec) (p .control .pred) mask (p .bits)) (execSize (p .control .exec))
 
 -- no memory byte is read: memory enters by its length alone
 unfoldable pub acted : Setup → Operation → Plan → State → Effect

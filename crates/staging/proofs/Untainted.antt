@@ -1,7 +1,7 @@
 -- Elements of two buffers with equal marks and equal untainted bytes: equal taint, and equal numbers where untainted.
 use mathlib.Core.Path.{_≡_, refl, ap, ap₂}
 use mathlib.Core.Bool.{Bool, true, false, cond}
-use Prim.Native.Nat.{ℕ}
+use Prim.Native.Nat.{ℕ, _%_, _^_}
 use lib.ListN.{getD}
 use Rattle.little_endian.specs.LittleEndian.{numberAt}
 use Rattle.cells.specs.Buffer.{Buffer, anyTainted}
@@ -18,7 +18,7 @@ module _ (b c : Buffer) (r : Agreeing b c) where
       at : ℕ
       at = getD (e .at) lane 0
 
-      told : (q : Bool) → cond q false (anyTainted (b .taint) at (e .size)) ≡ false → cond q (e .value) (numberAt (e .size) (b .bytes) at) ≡ cond q (e .value) (numberAt (e .size) (c .bytes) at)
+      told : (q : Bool) → cond q false (anyTainted (b .taint) at (e .size)) ≡ false → cond q (e .value % 256 ^ e .size) (numberAt (e .size) (b .bytes) at) ≡ cond q (e .value % 256 ^ e .size) (numberAt (e .size) (c .bytes) at)
       told true h = refl
       told false h = number-same b c r at (e .size) h
 
