@@ -1,3 +1,4 @@
 pub mod Simulation
 pub mod Untainted
 pub mod Whole
+pub mod Fuel
