@@ -1,3 +1,4 @@
 pub mod DecodeEncode
 pub mod EncodeDecode
 pub mod Laws
+pub mod FormatLaws

@@ -37,10 +37,10 @@ consecutive-is k = rw (div-one k, mod-one k) (omega arith)
 pub consecutive-elements : gridElement consecutive ≡ (λ k. k)
 consecutive-elements = fun-ext consecutive-is
 
--- a width code from 2 on has a width
-width-some : (code : ℕ) → 2 ≤ code → code ≤ 6 → 0 < strideOf code
+-- a code from 2 on has a stride
+pub stride-some : (code : ℕ) → 2 ≤ code → code ≤ 6 → 0 < strideOf code
 unfolding strideOf
-width-some code low high =
+stride-some code low high =
     let P : ℕ → Type 0 = λ n. 0 < n in
     cond-either P (eqb code 2) (λ _. omega arith)
     (λ two. cond-either P (eqb code 3) (λ _. omega arith)
@@ -54,7 +54,7 @@ unfolding sourceRegionGood between
 source-width region lanes h =
     let code = widthCode region in
     let a = all4 (leb 2 code && leb code 6) (leb (strideOf code) lanes) _ _ h .first in
-    width-some code (leb-true 2 code (left (leb 2 code) (leb code 6) a)) (leb-true code 6 (right (leb 2 code) (leb code 6) a))
+    stride-some code (leb-true 2 code (left (leb 2 code) (leb code 6) a)) (leb-true code 6 (right (leb 2 code) (leb code 6) a))
 
 -- a good region has a width
 pub grid-width : (r : Role) (g : General) (size lanes : ℕ) → regionGood r (g .region) lanes ≡ true → 0 < gridOf r g size .width

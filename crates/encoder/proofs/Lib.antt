@@ -1,0 +1,4 @@
+pub mod DraftLaws
+pub mod CopyLaws
+pub mod EncodeLaws
+pub mod RoundTrip

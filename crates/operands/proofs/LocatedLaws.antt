@@ -1,0 +1,206 @@
+-- What is known of an accepted operand: its elements lie in the register file, a raw operand's one after the other, a destination's apart.
+use mathlib.Core.Path.{_≡_, refl}
+use mathlib.Core.Bool.{true, false, not, _&&_, true≢false}
+use Prim.Native.Nat.{ℕ, _+_, _*_, _/_, _%_, _^_, _≤_, _<_}
+use native.Mathlib.Omega.{arith}
+use native.Mathlib.Nat.{mul-le-mul-right, mod-lt, one-le-pow}
+use lib.Dec.{ltb, leb, eqb, lit<}
+use lib.ListN.{length, getD}
+use borrow.Author.Tests.{ltb-true, leb-true, not-false}
+use Rattle.types.specs.Types.{sizeOf, isListed}
+use Rattle.types.proofs.Sizes.{register-whole}
+use Rattle.tables.specs.Lengths.{registerSize}
+use Rattle.tables.proofs.All.{left, right, all3}
+use Rattle.tables.proofs.Placement.{Placed}
+use Rattle.channels.specs.Exec.{execSize}
+use Rattle.decoder.specs.declared.General.{General}
+use Rattle.decoder.specs.declared.Immediate.{Immediate}
+use Rattle.decoder.specs.declared.Raw.{Raw}
+use Rattle.decoder.specs.declared.Operand.{Operand}
+use Rattle.decoder.specs.declared.Operand.the-variants as operand
+use Rattle.operands.specs.declared.Role.{Role}
+use Rattle.operands.specs.declared.Role.the-variants as role
+use Rattle.operands.specs.declared.TypeRule.{TypeRule}
+use Rattle.operands.specs.declared.Variable.{Variable}
+use Rattle.operands.specs.declared.Elements.{Elements}
+use Rattle.operands.specs.declared.Located.{Located}
+use Rattle.operands.specs.Allowed.{typeAllowed}
+use Rattle.operands.specs.Regions.{horizontalCode, strideOf, between, destinationRegionGood, regionGood, firstElement, elementOf}
+use Rattle.operands.specs.Variables.{Variables, inTable, variableAt}
+use Rattle.operands.specs.Elements.{elementByte, registerElements, lowBytes, immediateElement, refusal}
+use Rattle.operands.specs.Operands.{elementsGood, generalOf, generalAt, immediateOf, immediateAt, vectorAt, rawGood, rawOf, rawAt}
+use Rattle.operands.proofs.ReachLaws.{cond-either, inside-each}
+use Rattle.operands.proofs.PositionLaws.{position-of}
+use Rattle.operands.proofs.GridLaws.{stride-some}
+use Rattle.operands.proofs.AllowedLaws.{RuleSize, rule-size}
+
+-- every variable of the table lies in a register file of this length, as good tables say
+abbrev pub AllPlaced : ℕ → Variables → Type 0
+AllPlaced registers t =
+    (k : ℕ) → k < length (t .types) → Placed registers (getD (t .types) k 0) (getD (t .starts) k 0) (getD (t .counts) k 0)
+
+-- the elements of so many lanes
+pub record Accepted (registers lanes : ℕ) (r : TypeRule) (e : Elements) : Type 0 where
+  pub size : RuleSize r (e .size)
+  pub value : e .value < 256 ^ e .size
+  pub inside : e .immediate ≡ false → (k : ℕ) → k < lanes → getD (e .at) k 0 + e .size ≤ registers
+
+-- elements one after the other, of which the first is followed by so many bytes
+pub record Consecutive (registers bytes : ℕ) (e : Elements) : Type 0 where
+  pub in-registers : e .immediate ≡ false
+  pub whole : getD (e .at) 0 0 + bytes ≤ registers
+  pub next : (k : ℕ) → k < 32 → getD (e .at) k 0 ≡ getD (e .at) 0 0 + k * e .size
+
+-- elements of which none touches another's bytes
+pub record Apart (e : Elements) : Type 0 where
+  pub in-registers : e .immediate ≡ false
+  pub each : (j k : ℕ) → j < k → k < 32 → getD (e .at) j 0 + e .size ≤ getD (e .at) k 0
+
+some-power : (size : ℕ) → 0 < 256 ^ size
+some-power size = one-le-pow size 256 (lit< tt)
+
+-- an element inside its variable lies in the file
+element-inside : (registers code start count element : ℕ) → Placed registers code start count → element < count → start + element * sizeOf code + sizeOf code ≤ registers
+element-inside registers code start count element p h =
+    let m : element + 1 ≤ count = omega arith in
+    omega (arith, p .inside, mul-le-mul-right (sizeOf code) m)
+
+module _ (registers : ℕ) where
+  register-accepted : (lanes : ℕ) (r : TypeRule) (code : ℕ) (byte : ℕ → ℕ) → lanes ≤ 32 → typeAllowed r code ≡ true
+      → ((k : ℕ) → k < lanes → byte k + sizeOf code ≤ registers) → Accepted registers lanes r (registerElements code byte .elements)
+  unfolding registerElements
+  register-accepted lanes r code byte few allowed h =
+      record {
+        size = rule-size code r allowed;
+        value = some-power (sizeOf code);
+        inside = λ _ k l. rw (position-of byte k (omega arith)) (h k l);
+      }
+
+  -- a refusal has another number than 0
+  abbrev Fine : ℕ → TypeRule → Located → Type 0
+  Fine lanes r l = l .number ≡ 0 → Accepted registers lanes r (l .elements)
+
+  general-fine : (o : Role) (r : TypeRule) (lanes : ℕ) (g : General) (v : Variable) → lanes ≤ 32 → Placed registers (v .code) (v .start) (v .count)
+      → Fine lanes r (generalOf o r lanes g v)
+  unfolding generalOf refusal elementsGood elementByte
+  general-fine o r lanes g v few p =
+      let f = elementOf o g (sizeOf (v .code)) in
+      cond-either (Fine lanes r) (not (typeAllowed r (v .code))) (λ _ z. absurd (omega (arith, z)))
+      (λ a. cond-either (Fine lanes r) (not (regionGood o (g .region) lanes)) (λ _ z. absurd (omega (arith, z)))
+      (λ _. cond-either (Fine lanes r) (not (elementsGood v f lanes)) (λ _ z. absurd (omega (arith, z)))
+      (λ e _. register-accepted lanes r (v .code) (elementByte (v .start) (sizeOf (v .code)) f) few (not-false _ a)
+      (λ k l. element-inside registers (v .code) (v .start) (v .count) (f k) p
+      (inside-each f (v .count) lanes (left _ _ (not-false _ e)) k l)))))
+
+  immediate-fine : (lanes : ℕ) (r : TypeRule) (i : Immediate) → Fine lanes r (immediateOf r i)
+  unfolding immediateOf immediateElement refusal lowBytes
+  immediate-fine lanes r i =
+      cond-either (Fine lanes r) (not (typeAllowed r (i .code))) (λ _ z. absurd (omega (arith, z)))
+      (λ a _. record {
+        size = rule-size (i .code) r (not-false _ a);
+        value = mod-lt _ (some-power (sizeOf (i .code)));
+        inside = λ e. absurd (true≢false e);
+      })
+
+  immediate-in-fine : (o : Role) (lanes : ℕ) (r : TypeRule) (i : Immediate) → Fine lanes r (immediateAt o r i)
+  unfolding immediateAt refusal
+  immediate-in-fine role.Source lanes r i = immediate-fine lanes r i
+  immediate-in-fine role.Scalar lanes r i = immediate-fine lanes r i
+  immediate-in-fine role.Destination lanes r i = λ z. absurd (omega (arith, z))
+
+  raw-fine : (r : TypeRule) (lanes bytes offset : ℕ) (v : Variable) → lanes ≤ 32 → ((size : ℕ) → RuleSize r size → lanes * size ≤ bytes)
+      → Placed registers (v .code) (v .start) (v .count) → Fine lanes r (rawOf r bytes offset v)
+  unfolding rawOf refusal rawGood elementByte
+  raw-fine r lanes bytes offset v few room p =
+      let size = sizeOf (v .code) in
+      cond-either (Fine lanes r) (not (typeAllowed r (v .code))) (λ _ z. absurd (omega (arith, z)))
+      (λ a. cond-either (Fine lanes r) (not (rawGood v offset bytes)) (λ _ z. absurd (omega (arith, z)))
+      (λ e _. register-accepted lanes r (v .code) (elementByte (v .start + offset) size (λ k. k)) few (not-false _ a)
+      (λ k l.
+      let m : k + 1 ≤ lanes = omega arith in
+      omega (
+        arith,
+        mul-le-mul-right size m,
+        room size (rule-size (v .code) r (not-false _ a)),
+        leb-true (offset + bytes) (v .count * size) (right (eqb (offset % size) 0) (leb (offset + bytes) (v .count * size)) (not-false _ e)),
+        p .inside,
+      ))))
+
+  raw-consecutive : (r : TypeRule) (bytes offset : ℕ) (v : Variable) → Placed registers (v .code) (v .start) (v .count)
+      → rawOf r bytes offset v .number ≡ 0 → Consecutive registers bytes (rawOf r bytes offset v .elements)
+  unfolding rawOf refusal rawGood registerElements elementByte
+  raw-consecutive r bytes offset v p =
+      let size = sizeOf (v .code) in
+      let P : Located → Type 0 = λ l. l .number ≡ 0 → Consecutive registers bytes (l .elements) in
+      let at = position-of (elementByte (v .start + offset) size (λ k. k)) in
+      cond-either P (not (typeAllowed r (v .code))) (λ _ z. absurd (omega (arith, z)))
+      (λ _. cond-either P (not (rawGood v offset bytes)) (λ _ z. absurd (omega (arith, z)))
+      (λ e _. record {
+        in-registers = refl;
+        whole = omega (arith, at 0 (omega arith), leb-true (offset + bytes) (v .count * size) (right (eqb (offset % size) 0) (leb (offset + bytes) (v .count * size)) (not-false _ e)), p .inside);
+        next = λ k l. omega (arith, at 0 (omega arith), at k l);
+      }))
+
+  module _ (t : Variables) (all : AllPlaced registers t) where
+    pub vector-accepted : (o : Role) (r : TypeRule) (exec : ℕ) (x : Operand) → execSize exec ≤ 32 → Fine (execSize exec) r (vectorAt t o r exec x)
+    unfolding vectorAt generalAt inTable variableAt refusal
+    vector-accepted o r exec (operand.General g) few =
+        cond-either (Fine (execSize exec) r) (not (ltb (g .index) (length (t .types)))) (λ _ z. absurd (omega (arith, z)))
+        (λ e. general-fine o r (execSize exec) g (variableAt t (g .index)) few (all (g .index) (ltb-true _ _ (not-false _ e))))
+    vector-accepted o r exec (operand.Immediate i) few = immediate-in-fine o (execSize exec) r i
+
+    pub raw-accepted : (r : TypeRule) (lanes bytes : ℕ) (x : Raw) → lanes ≤ 32 → ((size : ℕ) → RuleSize r size → lanes * size ≤ bytes)
+        → Fine lanes r (rawAt t r bytes x)
+    unfolding rawAt inTable variableAt refusal
+    raw-accepted r lanes bytes x few room =
+        cond-either (Fine lanes r) (not (ltb (x .index) (length (t .types)))) (λ _ z. absurd (omega (arith, z)))
+        (λ e. raw-fine r lanes bytes (x .offset) (variableAt t (x .index)) few room (all (x .index) (ltb-true _ _ (not-false _ e))))
+
+    pub raw-whole : (r : TypeRule) (bytes : ℕ) (x : Raw) → rawAt t r bytes x .number ≡ 0 → Consecutive registers bytes (rawAt t r bytes x .elements)
+    unfolding rawAt inTable variableAt refusal
+    raw-whole r bytes x =
+        cond-either (λ (l : Located). l .number ≡ 0 → Consecutive registers bytes (l .elements)) (not (ltb (x .index) (length (t .types))))
+        (λ _ z. absurd (omega (arith, z)))
+        (λ e. raw-consecutive r bytes (x .offset) (variableAt t (x .index)) (all (x .index) (ltb-true _ _ (not-false _ e))))
+
+apart-plain : (start first stride size j k : ℕ) → 0 < stride → j < k → start + (first + j * stride) * size + size ≤ start + (first + k * stride) * size
+apart-plain start first stride size j k s h =
+    let a : j + 1 ≤ k = omega arith in
+    let b : first + j * stride + 1 ≤ first + k * stride = omega (arith, mul-le-mul-right stride a) in
+    omega (arith, mul-le-mul-right size b)
+
+destination-stride : (region : ℕ) → destinationRegionGood region ≡ true → 0 < strideOf (horizontalCode region)
+unfolding destinationRegionGood between
+destination-stride region h =
+    let code = horizontalCode region in
+    let a = all3 (leb 2 code && leb code 4) _ _ h .first in
+    let b = leb-true code 4 (right (leb 2 code) (leb code 4) a) in
+    stride-some code (leb-true 2 code (left (leb 2 code) (leb code 4) a)) (omega arith)
+
+general-apart : (r : TypeRule) (lanes : ℕ) (g : General) (v : Variable) → generalOf role.Destination r lanes g v .number ≡ 0
+    → Apart (generalOf role.Destination r lanes g v .elements)
+unfolding generalOf regionGood refusal registerElements elementByte elementOf
+general-apart r lanes g v =
+    let P : Located → Type 0 = λ l. l .number ≡ 0 → Apart (l .elements) in
+    let size = sizeOf (v .code) in
+    let f = elementOf role.Destination g size in
+    let at = position-of (elementByte (v .start) size f) in
+    cond-either P (not (typeAllowed r (v .code))) (λ _ z. absurd (omega (arith, z)))
+    (λ _. cond-either P (not (destinationRegionGood (g .region))) (λ _ z. absurd (omega (arith, z)))
+    (λ e. cond-either P (not (elementsGood v f lanes)) (λ _ z. absurd (omega (arith, z)))
+    (λ _ _. record {
+      in-registers = refl;
+      each = λ j k l m. rw (at j (omega arith), at k m) (apart-plain (v .start) (firstElement g size) (strideOf (horizontalCode (g .region))) size j k (destination-stride (g .region) (not-false _ e)) l);
+    })))
+
+pub destination-apart : (t : Variables) (r : TypeRule) (exec : ℕ) (x : Operand) → vectorAt t role.Destination r exec x .number ≡ 0
+    → Apart (vectorAt t role.Destination r exec x .elements)
+unfolding vectorAt generalAt immediateAt refusal
+destination-apart t r exec (operand.General g) =
+    cond-either (λ (l : Located). l .number ≡ 0 → Apart (l .elements)) (not (inTable t (g .index))) (λ _ z. absurd (omega (arith, z)))
+    (λ _. general-apart r (execSize exec) g (variableAt t (g .index)))
+destination-apart t r exec (operand.Immediate i) = λ z. absurd (omega (arith, z))
+
+-- "32/size" is exact: a row of elements is a register
+pub row-whole : (code : ℕ) → isListed code ≡ true → registerSize / sizeOf code * sizeOf code ≡ registerSize
+row-whole = register-whole registerSize refl

@@ -1,0 +1,4 @@
+pub mod TestLaws
+pub mod ScatterLaws
+pub mod PlanLaws
+pub mod Worked
