@@ -7,17 +7,16 @@ use lib.ListN.{length, replicate}
 use lib.Dec.{ltb}
 use Rattle.cells.specs.Buffer.{Buffer}
 use Rattle.tables.specs.Tables.{tablesGood}
+use Rattle.run.specs.declared.Answer.{Answer}
 use Rattle.run.specs.State.{Setup, State, lengthsOf}
 use Rattle.run.specs.Step.{Stepped, stepAt, after}
-
-pub record Answer : Type 0 where
-  pub number : ℕ
-  pub completed : ℕ
-  pub position : ℕ
 
 pub record Outcome : Type 0 where
   pub answer : Answer
   pub state : State
+
+abbrev pub outcome : Answer → State → Outcome
+outcome answer s = record { answer = answer; state = s }
 
 abbrev pub stopped : ℕ → ℕ → ℕ → State → Outcome
 stopped number completed position s = record { answer = record { number = number; completed = completed; position = position }; state = s }

@@ -3,7 +3,7 @@
 use Prim.Native.Nat.{ℕ}
 use mathlib.Core.List.{List}
 use lib.ListN.{length}
-use Rattle.cells.specs.Buffer.{Buffer}
+use Rattle.cells.specs.Buffer.{Buffer, buffer}
 use Rattle.tables.specs.declared.Lengths.{Lengths}
 use Rattle.tables.specs.Tables.{Tables}
 
@@ -19,6 +19,13 @@ pub record State : Type 0 where
   pub registers : Buffer
   pub surfaces : Buffer
   pub memory : Buffer
+
+abbrev pub setup : List ℕ → Tables → ℕ → ℕ → Setup
+setup kernel tables base mask = record { kernel = kernel; tables = tables; base = base; mask = mask }
+
+abbrev pub state : List ℕ → List ℕ → List ℕ → List ℕ → List ℕ → List ℕ → State
+state registers registerTaint surfaces surfaceTaint memory memoryTaint =
+    record { registers = buffer registers registerTaint; surfaces = buffer surfaces surfaceTaint; memory = buffer memory memoryTaint }
 
 -- all lengths that 13 looks at
 abbrev pub lengthsOf : Setup → State → Lengths
