@@ -1,6 +1,7 @@
 pub mod PlaceLaws
 pub mod WriteLaws
 pub mod StayLaws
+pub mod RefusalLaws
 pub mod NumberLaws
 pub mod TaintLaws
 pub mod CopyLaws

@@ -2,3 +2,4 @@ pub mod Simulation
 pub mod Untainted
 pub mod Whole
 pub mod Fuel
+pub mod Kept
