@@ -10,3 +10,4 @@ pub mod LaneLaws
 pub mod SearchLaws
 pub mod Related
 pub mod Untainted
+pub mod Plain

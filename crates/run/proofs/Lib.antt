@@ -3,3 +3,4 @@ pub mod Untainted
 pub mod Whole
 pub mod Fuel
 pub mod Kept
+pub mod Plain
