@@ -25,8 +25,7 @@ module _ (S : State → State → Type 0) where
     Rest j k = (c a : ℕ) (s v : State) → S s v → matters (j c a s .answer .number) → SameOutcome (j c a s) (k c a v)
 
     settled-same : (j k : ℕ → ℕ → State → Outcome) (c a : ℕ) (t u : Stepped) (s v : State) → Rest j k → S s v → SameStep t u s v → (m n : ℕ) → m ≡ n → matters (settled j c a t s m .answer .number) → SameOutcome (settled j c a t s m) (settled k c a u v n)
-    settled-same j k c a t u s v h e f zero zero q l =
-        subst (λ (n : ℕ). SameOutcome (j (suc c) (t .next) (after (t .effect) s)) (k (suc c) n (after (u .effect) v))) (f .next) (h (suc c) (t .next) _ _ (f .state) l)
+    settled-same j k c a t u s v h e f zero zero q l = rw (← f .next) (h _ _ _ _ (f .state) l)
     settled-same j k c a t u s v h e f zero (suc n) q l = absurd (omega arith)
     settled-same j k c a t u s v h e f (suc m) zero q l = absurd (omega arith)
     settled-same j k c a t u s v h e f (suc m) (suc n) q l = record { answer = ap (λ (x : ℕ). stopped x c a s .answer) q; state = e }
@@ -56,7 +55,7 @@ module _ (S : State → State → Type 0) where
 -- what every step keeps, the run keeps
 module _ (P : State → Type 0) (f : ℕ → State → Stepped) (steps : (at : ℕ) (s : State) → P s → P (after (f at s .effect) s)) (end : ℕ) where
   settled-keeps : (k : ℕ → ℕ → State → Outcome) (c a : ℕ) (t : Stepped) (s : State) → ((c a : ℕ) (s : State) → P s → P (k c a s .state)) → P s → P (after (t .effect) s) → (n : ℕ) → P (settled k c a t s n .state)
-  settled-keeps k c a t s h e x zero = h (suc c) (t .next) _ x
+  settled-keeps k c a t s h e x zero = h _ _ _ x
   settled-keeps k c a t s h e x (suc n) = e
 
   turn-keeps : (k : ℕ → ℕ → State → Outcome) (c a : ℕ) (s : State) → ((c a : ℕ) (s : State) → P s → P (k c a s .state)) → P s → (q : Bool) → P (cond q (settled k c a (f a s) s (f a s .effect .number)) (stopped 0 c a s) .state)
