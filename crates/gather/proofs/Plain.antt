@@ -30,7 +30,7 @@ module _ (b c f g : Buffer) (r : Plainly b c) (q : Plainly f g) (p : Plan) where
   lane-plain : (lane : ℕ) → PlainWrites (gatherLane b f p lane) (gatherLane c g p lane)
   unfolding gatherLane
   lane-plain lane =
-      writes-plain f g q p _ _ _ _ (getD (p .payload .at) lane 0) 0 4 (either-plain b c r (p .left) (p .right) lane)
+      writes-plain f g q p _ _ _ _ (getD (p .payload .at) lane 0) 0 4 (either-plain b c r _ _ lane)
       (both-plain b c r gatherAddress (p .left) (p .right) lane)
 
   pub gather-plain : (lanes : List ℕ) → PlainEffects (gatherEffect p lanes b f) (gatherEffect p lanes c g)

@@ -24,7 +24,7 @@ module _ (b c : Buffer) (r : Plainly b c) (p : Plan) where
   pub scatter-plain : (w : Window) (lanes : List ℕ) → scatterEffect w p lanes b .number ≢ 10 → PlainEffects (scatterEffect w p lanes b) (scatterEffect w p lanes c)
   unfolding scatterEffect
   scatter-plain w lanes sure =
-      unless-marked _ _ 10 _ _ (some-nowhere _ lanes (λ i. either-plain b c r (p .left) (p .right) i)) sure (λ _.
+      unless-marked _ _ 10 _ _ (some-nowhere _ lanes (λ i. either-plain b c r _ _ i)) sure (λ _.
       effects-unless SameBytes _ _ 11 _ _ (some-same _ _ (channelsOn p) (λ k. some-same _ _ lanes (λ i. ap misaligned (target-plain k i)))) (λ _.
       effects-unless SameBytes _ _ 12 _ _ (some-same _ _ (channelsOn p) (λ k. some-same _ _ lanes (λ i. ap (outside w) (target-plain k i)))) (λ _.
       record {

@@ -16,7 +16,7 @@ unfolding shlLane shlMark shlValue
 lane-plain b c r p lane =
     number-plain (getD (p .payload .at) lane 0) (p .payload .size) _ _ _ _
     (both-plain b c r (λ v n. shifted (p .left .signed) (p .left .size) v n (p .payload .size)) (p .left) (p .right) lane)
-    (untainted-mark _ (either-plain b c r (p .left) (p .right) lane))
+    (untainted-mark _ (either-plain b c r _ _ lane))
 
 pub shl-plain : (p : Plan) (lanes : List ℕ) (b c : Buffer) → Plainly b c → PlainEffects (shlEffect p lanes b) (shlEffect p lanes c)
 unfolding shlEffect
