@@ -1,6 +1,7 @@
 pub mod PlaceLaws
 pub mod WriteLaws
 pub mod StayLaws
+pub mod RefusalLaws
 pub mod NumberLaws
 pub mod TaintLaws
 pub mod CopyLaws
@@ -9,3 +10,4 @@ pub mod LaneLaws
 pub mod SearchLaws
 pub mod Related
 pub mod Untainted
+pub mod Plain

@@ -1,12 +1,13 @@
 -- Two buffers related cell by cell, by any relation of an index and two cells; writes that are related keep it.
 use mathlib.Core.Path.{_≡_, refl, ap}
-use mathlib.Core.Bool.{Bool, true, false, _||_, cond}
+use mathlib.Core.Bool.{Bool, true, false, true≢false, false≢true, _||_, cond}
 use mathlib.Core.List.{List, [], _∷_, _++_}
 use Prim.Native.Nat.{ℕ, zero, suc}
 use lib.ListN.{length, getD, set, length-set}
 use Rattle.cells.specs.Buffer.{Buffer}
 use Rattle.cells.specs.Writes.{Write, written, writtenAll}
 use Rattle.cells.specs.Over.{each, some}
+use Rattle.cells.specs.Effect.{Effect, unless}
 
 -- whether a write at k to a list of n elements is one of its element i
 unfoldable hits : ℕ → ℕ → ℕ → Bool
@@ -96,3 +97,17 @@ module _ (R : ℕ → ℕ → ℕ → ℕ → ℕ → Type 0) where
   unfolding writtenAll
   related-after none b c r = r
   related-after (more h t) b c r = related-after t _ _ (written-related b c _ _ _ _ _ h r)
+
+  -- equal numbers, and alike writes
+  pub record EffectsAlike (x y : Effect) : Type 0 where
+    pub number : x .number ≡ y .number
+    pub registers : Alike (x .registers) (y .registers)
+    pub memory : Alike (x .memory) (y .memory)
+
+  -- a test that answers alike; what follows it matters only where it passes
+  pub effects-unless : (q r : Bool) (n : ℕ) (x y : Effect) → q ≡ r → (q ≡ false → EffectsAlike x y) → EffectsAlike (unless q n x) (unless r n y)
+  unfolding unless
+  effects-unless true true n x y e h = record { number = refl; registers = none; memory = none }
+  effects-unless true false n x y e h = absurd (true≢false e)
+  effects-unless false true n x y e h = absurd (false≢true e)
+  effects-unless false false n x y e h = h refl

@@ -1,6 +1,6 @@
 -- Two buffers with equal marks and equal untainted bytes: what is read of them, and what is written to them.
 use mathlib.Core.Path.{_≡_, refl, sym, ap, ap₂, _∙_}
-use mathlib.Core.Bool.{Bool, true, false, true≢false, false≢true, _||_}
+use mathlib.Core.Bool.{Bool, true, false, _||_}
 use mathlib.Core.List.{List, [], _∷_}
 use Prim.Native.Nat.{ℕ, zero, suc, _+_, _/_, _%_, _<_}
 use native.Mathlib.Omega.{arith}
@@ -14,7 +14,7 @@ use Rattle.cells.specs.Buffer.{Buffer, isTainted, markOf, anyTainted}
 use Rattle.cells.specs.Writes.{Write, numberWrites, copyWrites}
 use Rattle.cells.specs.Over.{some}
 use Rattle.cells.specs.Effect.{Effect, unless}
-use Rattle.cells.proofs.Related.{Related, Alike, none, more, or-left, or-right}
+use Rattle.cells.proofs.Related.{Related, Alike, EffectsAlike, none, more, effects-unless, or-left, or-right}
 
 -- equal marks; and, where the mark is 0, equal bytes
 abbrev pub SameUntainted : ℕ → ℕ → ℕ → ℕ → ℕ → Type 0
@@ -77,19 +77,11 @@ copy-alike b c r from to there (suc n) e =
 
 -- ---- effects
 
--- equal numbers, and alike writes
-pub record AlikeEffects (x y : Effect) : Type 0 where
-  pub number : x .number ≡ y .number
-  pub registers : AlikeWrites (x .registers) (y .registers)
-  pub memory : AlikeWrites (x .memory) (y .memory)
+abbrev pub AlikeEffects : Effect → Effect → Type 0
+AlikeEffects = EffectsAlike SameUntainted
 
--- a test that answers alike; what follows it matters only where it passes
 pub unless-alike : (q r : Bool) (n : ℕ) (x y : Effect) → q ≡ r → (q ≡ false → AlikeEffects x y) → AlikeEffects (unless q n x) (unless r n y)
-unfolding unless
-unless-alike true true n x y e h = record { number = refl; registers = none; memory = none }
-unless-alike true false n x y e h = absurd (true≢false e)
-unless-alike false true n x y e h = absurd (false≢true e)
-unless-alike false false n x y e h = h refl
+unless-alike = effects-unless SameUntainted
 
 pub some-same : (f g : ℕ → Bool) (is : List ℕ) → ((i : ℕ) → f i ≡ g i) → some f is ≡ some g is
 unfolding some

@@ -7,7 +7,7 @@ use Prim.Native.Nat.{ℕ, zero, suc, _+_, _≤_, _<_}
 use native.Mathlib.Omega.{arith}
 use lib.ListN.{length}
 use lib.Dec.{ltb}
-use borrow.Author.Tests.{ltb-true, ltb-false}
+use borrow.Author.Tests.{ltb-true, ltb-false, lt-ltb, le-ltb}
 use Rattle.little_endian.specs.LittleEndian.{Bytes}
 use Rattle.cells.specs.Effect.{refused}
 use Rattle.tables.specs.Tables.{tablesGood}
@@ -50,6 +50,18 @@ module _ (step : ℕ → State → Stepped) (end : ℕ) (forward : (at : ℕ) (s
       told true e rest = settled-ran (λ c′ a′ u. runFrom step end fuel c′ a′ u) fuel c at s rest (ltb-true at end e) enough (step at s .effect .number) refl
       told false e rest = at-end c at s (omega (arith, ltb-false at end e))
 
+  -- the run is the only outcome that the telling has
+  pub ran-only : {c at : ℕ} {s : State} {r : Outcome} → Ran step end c at s r → (fuel : ℕ) → end ≤ fuel + at → r ≡ runFrom step end fuel c at s
+  unfolding runFrom
+  ran-only ended zero enough = refl
+  ran-only ended (suc fuel) enough = rw (le-ltb end end (omega arith))
+  ran-only (refusedAt h e) zero enough = absurd (omega (arith, h, enough))
+  ran-only {c} {at} (refusedAt h e) (suc fuel) enough = rw (lt-ltb at end h, e)
+  ran-only (went h e rest) zero enough = absurd (omega (arith, h, enough))
+  ran-only {c} {at} {s} (went h e rest) (suc fuel) enough =
+      let f = forward at s e in
+      rw (lt-ltb at end h, e) (ran-only rest fuel (omega (arith, f .0, enough)))
+
 -- what decoding accepts ends past its start and within the kernel, and a refusal's number is not 0
 step-forward : (x : Setup) → Bytes (x .kernel) → (at : ℕ) (s : State) → stepAt x at s .effect .number ≡ 0 → Forward (length (x .kernel)) at (stepAt x at s .next)
 unfolding stepAt
@@ -69,6 +81,14 @@ module _ (x : Setup) (s : State) (b : Bytes (x .kernel)) where
 
   pub run-ran : whole.run x s .answer .number ≢ 13 → Ran (stepAt x) (length (x .kernel)) 0 0 s (whole.run x s)
   run-ran = rw (run-is x s) (judged-ran (tablesGood (lengthsOf x s) (x .tables)))
+
+module _ (x : Setup) (s : State) (b : Bytes (x .kernel)) where
+  judged-only : (q : Bool) {r : Outcome} → cond q (runFrom (stepAt x) (length (x .kernel)) (length (x .kernel)) 0 0 s) (stopped 13 0 0 s) .answer .number ≢ 13 → Ran (stepAt x) (length (x .kernel)) 0 0 s r → r ≡ cond q (runFrom (stepAt x) (length (x .kernel)) (length (x .kernel)) 0 0 s) (stopped 13 0 0 s)
+  judged-only true h p = ran-only (stepAt x) (length (x .kernel)) (step-forward x b) p (length (x .kernel)) (omega arith)
+  judged-only false h p = absurd (h refl)
+
+  pub run-only : {r : Outcome} → whole.run x s .answer .number ≢ 13 → Ran (stepAt x) (length (x .kernel)) 0 0 s r → r ≡ whole.run x s
+  run-only = rw (run-is x s) (judged-only (tablesGood (lengthsOf x s) (x .tables)))
 
 module _ (step : ℕ → State → Stepped) (end : ℕ) where
   -- done means at the kernel's end

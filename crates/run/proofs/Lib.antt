@@ -2,4 +2,6 @@ pub mod Simulation
 pub mod Untainted
 pub mod Whole
 pub mod Fuel
+pub mod Kept
+pub mod Plain
 pub mod ShowLaws

@@ -1,12 +1,19 @@
 -- A whole run: 13, or the steps from the kernel's start.
 use mathlib.Core.Path.{_≡_, refl}
 use mathlib.Core.Bool.{cond}
+use mathlib.Core.List.{List}
+use Prim.Native.Nat.{ℕ}
 use lib.ListN.{length}
 use Rattle.tables.specs.Tables.{tablesGood}
 use Rattle.run.specs.State.{Setup, State, lengthsOf}
 use Rattle.run.specs.Step.{stepAt}
-use Rattle.run.specs.Run.{stopped, runFrom, run}
+use Rattle.run.specs.Run.{stopped, runFrom, run, unmarked, plainRun}
 
 pub run-is : (x : Setup) (s : State) → run x s ≡ cond (tablesGood (lengthsOf x s) (x .tables)) (runFrom (stepAt x) (length (x .kernel)) (length (x .kernel)) 0 0 s) (stopped 13 0 0 s)
 unfolding run
 run-is x s = refl
+
+-- the plain run is the run of the same bytes with no marks
+pub plain-run-is : (x : Setup) (registers surfaces memory : List ℕ) → plainRun x registers surfaces memory ≡ run x (record { registers = unmarked registers; surfaces = unmarked surfaces; memory = unmarked memory })
+unfolding plainRun
+plain-run-is x registers surfaces memory = refl

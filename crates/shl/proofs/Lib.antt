@@ -1,1 +1,3 @@
 pub mod Untainted
+pub mod Refusal
+pub mod Plain
