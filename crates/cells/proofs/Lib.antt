@@ -1,3 +1,4 @@
+pub mod BoolLaws
 pub mod PlaceLaws
 pub mod WriteLaws
 pub mod StayLaws

@@ -2,7 +2,7 @@
 use Prim.Native.Nat.{ℕ, zero, suc, _+_, _/_, _≤_, _<_}
 use mathlib.Core.Path.{_≡_, refl, sym, _∙_}
 use mathlib.Core.Logic.{_≢_, _⊎_, inl, inr, ⊎-elim}
-use mathlib.Core.Bool.{Bool, true, false, _||_, true≢false}
+use mathlib.Core.Bool.{Bool, false, _||_}
 use mathlib.Core.List.{List, [], _∷_, _++_}
 use native.Mathlib.Omega.{arith}
 use lib.Dec.{eqb}
@@ -10,6 +10,7 @@ use lib.ListN.{getD}
 use lib.Seq.{getD-set-other}
 use borrow.Author.Tests.{eqb-false, ne-eqb}
 use Rattle.cells.specs.Buffer.{Buffer}
+use Rattle.cells.proofs.BoolLaws.{neither}
 use Rattle.cells.specs.Writes.{Write, written, writtenAll, numberWrites, copyWrites}
 
 -- whether one of the writes is at a place
@@ -20,10 +21,6 @@ writesAt (w ∷ ws) j = eqb (w .at) j || writesAt ws j
 pub record Kept (b c : Buffer) (j : ℕ) : Type 0 where
   pub byte : getD (c .bytes) j 0 ≡ getD (b .bytes) j 0
   pub mark : getD (c .taint) j 0 ≡ getD (b .taint) j 0
-
-neither : (s t : Bool) → (s || t) ≡ false → (s ≡ false) × (t ≡ false)
-neither true t e = absurd (true≢false e)
-neither false t e = (refl, e)
 
 pub stays : (ws : List Write) (b : Buffer) (j : ℕ) → writesAt ws j ≡ false → Kept b (writtenAll ws b) j
 unfolding writtenAll writesAt

@@ -6,28 +6,34 @@ use mathlib.Core.List.{List}
 use native.Mathlib.Omega.{arith}
 use lib.ListN.{getD}
 use Rattle.cells.specs.Buffer.{isTainted, markOf, anyTainted}
+use Rattle.cells.proofs.PlaceLaws.{place-first, place-next}
 
 pub tainted-mark : (t : Bool) → isTainted (markOf t) ≡ t
 unfolding isTainted markOf
 tainted-mark true = refl
 tainted-mark false = refl
 
+pub zero-untainted : isTainted 0 ≡ false
+unfolding isTainted
+zero-untainted = refl
+
+-- marks are 0 or 1
+pub mark-true : markOf true ≡ 1
+unfolding markOf
+mark-true = refl
+
+pub mark-false : markOf false ≡ 0
+unfolding markOf
+mark-false = refl
+
 -- marks that are tainted alike, byte by byte, make elements that are
 pub tainted-local : (n : ℕ) (l m : List ℕ) (at from : ℕ) → ((k : ℕ) → k < n → isTainted (getD l (at + k) 0) ≡ isTainted (getD m (from + k) 0)) → anyTainted l at n ≡ anyTainted m from n
 unfolding anyTainted
 tainted-local zero l m at from same = refl
 tainted-local (suc n) l m at from same =
-    let a : at + 0 ≡ at = omega arith in
-    let f : from + 0 ≡ from = omega arith in
-    let first : isTainted (getD l at 0) ≡ isTainted (getD m from 0) = rw (a, f) at (same 0 (omega arith)) in
-    let rest = tainted-local n l m (suc at) (suc from) (λ k h. past k (same (suc k) (omega arith))) in
-    ap₂ _||_ first rest
-  where
-    past : (k : ℕ) → isTainted (getD l (at + suc k) 0) ≡ isTainted (getD m (from + suc k) 0) → isTainted (getD l (suc at + k) 0) ≡ isTainted (getD m (suc from + k) 0)
-    past k e =
-        let a : suc at + k ≡ at + suc k = omega arith in
-        let f : suc from + k ≡ from + suc k = omega arith in
-        rw (a, f) e
+    ap₂ _||_
+    (place-first (λ i j. isTainted (getD l i 0) ≡ isTainted (getD m j 0)) at from (same 0 (omega arith)))
+    (tainted-local n l m (suc at) (suc from) (λ k h. place-next (λ i j. isTainted (getD l i 0) ≡ isTainted (getD m j 0)) at from k (same (suc k) (omega arith))))
 
 -- what was found and what is left make the whole: a byte more, and nothing left
 pub tainted-turn : (taint : List ℕ) (at k size : ℕ) (found here whole : Bool) → k < size → here ≡ isTainted (getD taint (at + k) 0) → (found || anyTainted taint (at + k) (size - k)) ≡ whole → (found || here || anyTainted taint (at + (k + 1)) (size - (k + 1))) ≡ whole

@@ -13,7 +13,7 @@ ghost use Rattle.tables.specs.Tables.{tables};
 ghost use Rattle.operands.specs.Variables.{variables};
 ghost use Rattle.plan.specs.Control.{controlOf, controlRefusal, predicateBits};
 ghost use Rattle.plan.specs.Needed.{elementsNeeded, enabledBelow, channelStride, scatterNeeded, registersNeeded, blockBytes};
-ghost use Rattle.plan.specs.Plans.{refusal};
+ghost use Rattle.plan.specs.Plans.{refusal, shlPlan, gatherPlan, scatterPlan};
 ghost use Rattle.plan.specs.Checked.{checkedShl, checkedGather, surfacePart, checkedSurface, checkedScatter, checkedSend, checked};
 
 // Send stands in refusals only: no RAW_SEND is run.
@@ -172,6 +172,75 @@ fn surface_part(surfaces: &[u16], index: u8) -> Part
     }
 }
 
+fn shl_plan(control: Control, bits: u32, left: Elements, right: Elements, payload: Elements) -> Plan
+    ensures { λ r. ⌜ r ≡ shlPlan control bits left right payload ⌝ }
+{
+    Plan {
+        number: 0,
+        operation: Operation::Shl,
+        control,
+        bits,
+        left,
+        right,
+        payload,
+        bytes: 0,
+        channels: 0,
+        start: 0,
+        length: 0,
+    }
+}
+
+fn gather_plan(
+    control: Control,
+    bits: u32,
+    left: Elements,
+    right: Elements,
+    payload: Elements,
+    bytes: u8,
+    part: Part,
+) -> Plan
+    ensures { λ r. ⌜ r ≡ gatherPlan control bits left right payload bytes part ⌝ }
+{
+    Plan {
+        number: 0,
+        operation: Operation::Gather,
+        control,
+        bits,
+        left,
+        right,
+        payload,
+        bytes,
+        channels: 0,
+        start: part.start,
+        length: part.length,
+    }
+}
+
+fn scatter_plan(
+    control: Control,
+    bits: u32,
+    left: Elements,
+    right: Elements,
+    payload: Elements,
+    channels: u8,
+) -> Plan
+    ensures { λ r. ⌜ r ≡ scatterPlan control bits left right payload channels ⌝ }
+{
+    Plan {
+        number: 0,
+        operation: Operation::Scatter,
+        control,
+        bits,
+        left,
+        right,
+        payload,
+        bytes: 0,
+        channels,
+        start: 0,
+        length: 0,
+    }
+}
+
 fn check_shl(types: &[u8], starts: &[u16], counts: &[u16], bits: u32, instruction: Shl) -> Plan
     ensures { λ r. ⌜ r ≡ checkedShl (variables (now (types .entry)) (now (starts .entry)) (now (counts .entry))) bits instruction ⌝ }
 {
@@ -219,19 +288,7 @@ fn check_shl(types: &[u8], starts: &[u16], counts: &[u16], bits: u32, instructio
     let left = src0.elements;
     let right = src1.elements;
     let payload = dst.elements;
-    Plan {
-        number: 0,
-        operation: Operation::Shl,
-        control,
-        bits,
-        left,
-        right,
-        payload,
-        bytes: 0,
-        channels: 0,
-        start: 0,
-        length: 0,
-    }
+    shl_plan(control, bits, left, right, payload)
 }
 
 fn check_gather(
@@ -285,19 +342,8 @@ fn check_gather(
     let left = offset.elements;
     let right = element.elements;
     let payload = dst.elements;
-    Plan {
-        number: 0,
-        operation: Operation::Gather,
-        control,
-        bits,
-        left,
-        right,
-        payload,
-        bytes: block_bytes(instruction.access.num_blocks),
-        channels: 0,
-        start: part.start,
-        length: part.length,
-    }
+    let bytes = block_bytes(instruction.access.num_blocks);
+    gather_plan(control, bits, left, right, payload, bytes, part)
 }
 
 // The surface's 5, then the operands.
@@ -370,19 +416,7 @@ fn check_scatter(
     let left = address.elements;
     let right = element.elements;
     let payload = src.elements;
-    Plan {
-        number: 0,
-        operation: Operation::Scatter,
-        control,
-        bits,
-        left,
-        right,
-        payload,
-        bytes: 0,
-        channels: instruction.channels,
-        start: 0,
-        length: 0,
-    }
+    scatter_plan(control, bits, left, right, payload, instruction.channels)
 }
 
 // The operands of a RAW_SEND, then 9.

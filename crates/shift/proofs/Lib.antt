@@ -1,5 +1,6 @@
 pub mod RemainderLaws
-pub mod ResidueLaws
 pub mod SpanLaws
+pub mod ExactLaws
+pub mod ResidueLaws
 pub mod ShiftLaws
 pub mod Worked

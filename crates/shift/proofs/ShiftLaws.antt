@@ -1,24 +1,18 @@
 -- What the code works out, modulo 2^64, is the exact shift: once over all sizes of at most four bytes.
 use mathlib.Core.Path.{_≡_, refl, sym, _∙_}
 use mathlib.Core.Bool.{Bool, true, false, _&&_, true≢false}
-use Prim.Native.Nat.{ℕ, zero, suc, _+_, _*_, _-_, _%_, _^_, _≤_, _<_}
+use Prim.Native.Nat.{ℕ, suc, _+_, _*_, _-_, _%_, _^_, _≤_, _<_}
 use native.Mathlib.Omega.{arith}
-use native.Mathlib.Nat.{mod-lt, mod-eq-of-lt}
+use native.Mathlib.Nat.{mod-eq-of-lt}
 use lib.Dec.{leb}
-use lib.IntN.{ℤ, pos, negsuc, _-ℤ_, _*ℤ_}
-use borrow.Author.Tests.{lt-ltb, le-leb, leb-true}
+use lib.IntN.{ℤ, pos, _*ℤ_}
+use borrow.Author.Tests.{le-leb, leb-true}
 use Rattle.shift.specs.Exact.{span, lowest, exactly, modulo, shifted}
 use Rattle.shift.specs.Total.{totalShift}
 use Rattle.shift.proofs.SpanLaws.{power-some, span-some, span-small, span-whole, span-twice}
+use Rattle.shift.proofs.ExactLaws.{lowest-small, difference}
+use Rattle.shift.proofs.RemainderLaws.{modulo-small}
 use Rattle.shift.proofs.ResidueLaws.{residue-times}
-
-pub lowest-small : (size x : ℕ) → lowest size x < span size
-unfolding lowest
-lowest-small size x = mod-lt x (span-some size)
-
-difference : (a b : ℕ) → a < b → pos a -ℤ pos b ≡ negsuc (b - suc a)
-difference a zero h = absurd (omega arith)
-difference a (suc b) h = rw (lt-ltb a (suc b) h)
 
 -- the residue of a number that is not negative, and of one that is
 module _ (signed : Bool) (size x all low : ℕ) (small : size ≤ 4) (a : all ≡ span size) (l : low ≡ x % all) where
@@ -58,11 +52,17 @@ pub total-is : (signed : Bool) (size x count destination : ℕ) → size ≤ 4 �
 unfolding totalShift
 total-is signed size x count destination s d = rw (le-leb size 4 s, le-leb destination 4 d)
 
-pub both-small : (size destination : ℕ) → (leb size 4 && leb destination 4) ≡ true → (size ≤ 4) × (destination ≤ 4)
-both-small size destination e =
-    let each = both (leb size 4) (leb destination 4) e in
-    (leb-true size 4 (each .0), leb-true destination 4 (each .1))
+pub small-told : (size destination : ℕ) → (leb size 4 && leb destination 4) ≡ true → (size ≤ 4) × (destination ≤ 4)
+small-told size destination e =
+    let told = true-each (leb size 4) (leb destination 4) e in
+    (leb-true size 4 (told .0), leb-true destination 4 (told .1))
   where
-    both : (s t : Bool) → (s && t) ≡ true → (s ≡ true) × (t ≡ true)
-    both true t x = (refl, x)
-    both false t x = absurd (true≢false (sym x))
+    true-each : (s t : Bool) → (s && t) ≡ true → (s ≡ true) × (t ≡ true)
+    true-each true t x = (refl, x)
+    true-each false t x = absurd (true≢false (sym x))
+
+-- the result fits its destination
+pub shifted-small : (signed : Bool) (size x count destination : ℕ) → shifted signed size x count destination < span destination
+unfolding shifted
+shifted-small signed size x count destination =
+    modulo-small (exactly signed size x *ℤ pos (2 ^ (count % 32))) (span destination) (span-some destination)

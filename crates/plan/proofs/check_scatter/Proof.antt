@@ -1,20 +1,20 @@
 -- `plan::check_scatter` meets its contract: at each return, what the calls and tests on the way say picks the case of `Checked`.
 use borrow.Author.Needs.{needs}
 use borrow.Author.Tests.{lt-ltb, le-ltb}
-use Rattle.plan.specs.Plans.{tested, scatterPlan}
+use Rattle.plan.specs.Plans.{tested}
 use Rattle.plan.specs.Checked.{checkedScatter, scatterAddress, scatterElementOffset, scatterSrc}
 use Rattle.plan.proofs.check_scatter.Statement.{statement}
 use Rattle.plan.proofs.check_scatter.Tie as tie
 
 returns : tie.Need-returns
-unfolding checkedScatter scatterAddress scatterElementOffset scatterSrc tested scatterPlan
+unfolding checkedScatter scatterAddress scatterElementOffset scatterSrc tested
 returns c =
     let a = c .before in
     let b = a .before .before in
     rw (← b .locate-vector .ensures, lt-ltb _ _ (a .if1 .taken), ← c .refused .ensures)
 
 returns-2 : tie.Need-returns-2
-unfolding checkedScatter scatterAddress scatterElementOffset scatterSrc tested scatterPlan
+unfolding checkedScatter scatterAddress scatterElementOffset scatterSrc tested
 returns-2 c =
     let a = c .before in
     let b = a .before .before in
@@ -24,7 +24,7 @@ returns-2 c =
     rw (← f .locate-vector .ensures, le-ltb _ _ (e .if1 .left), ← d .elements-needed .ensures, ← b .locate-raw .ensures, lt-ltb _ _ (a .if2 .taken), ← c .refused2 .ensures)
 
 returns-3 : tie.Need-returns-3
-unfolding checkedScatter scatterAddress scatterElementOffset scatterSrc tested scatterPlan
+unfolding checkedScatter scatterAddress scatterElementOffset scatterSrc tested
 returns-3 c =
     let a = c .before in
     let b = a .before .before in
@@ -37,9 +37,9 @@ returns-3 c =
     rw (← i .locate-vector .ensures, le-ltb _ _ (h .if1 .left), ← g .elements-needed .ensures, ← f .locate-raw .ensures, le-ltb _ _ (e .if2 .left), ← d .scatter-needed .ensures, ← b .locate-raw2 .ensures, lt-ltb _ _ (a .if3 .taken), ← c .refused3 .ensures)
 
 returns-4 : tie.Need-returns-4
-unfolding checkedScatter scatterAddress scatterElementOffset scatterSrc tested scatterPlan
+unfolding checkedScatter scatterAddress scatterElementOffset scatterSrc tested
 returns-4 c =
-    let a = c .before .before .before in
+    let a = c .before .before .before .before in
     let b = a .before .before in
     let d = b .before in
     let e = d .before in
@@ -47,7 +47,7 @@ returns-4 c =
     let g = f .before in
     let h = g .before in
     let i = h .before .before in
-    rw (← i .locate-vector .ensures, le-ltb _ _ (h .if1 .left), ← g .elements-needed .ensures, ← f .locate-raw .ensures, le-ltb _ _ (e .if2 .left), ← d .scatter-needed .ensures, ← b .locate-raw2 .ensures, le-ltb _ _ (a .if3 .left))
+    rw (← i .locate-vector .ensures, le-ltb _ _ (h .if1 .left), ← g .elements-needed .ensures, ← f .locate-raw .ensures, le-ltb _ _ (e .if2 .left), ← d .scatter-needed .ensures, ← b .locate-raw2 .ensures, le-ltb _ _ (a .if3 .left), ← c .scatter-plan .ensures)
 
 pub check-scatter-spec : {M : Type 1} → statement M
-check-scatter-spec = tie.close (tie.spec (λ c κs. search needs) (λ c κs. search needs) returns (λ c κs. search needs) (λ c κs. search needs) (λ c κs. search needs) returns-2 (λ c κs. search needs) (λ c κs. search needs) (λ c κs. search needs) returns-3 returns-4)
+check-scatter-spec = tie.close (tie.spec (λ c κs. search needs) (λ c κs. search needs) returns (λ c κs. search needs) (λ c κs. search needs) (λ c κs. search needs) returns-2 (λ c κs. search needs) (λ c κs. search needs) (λ c κs. search needs) returns-3 (λ c κs. search needs) returns-4)

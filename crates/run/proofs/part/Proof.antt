@@ -5,6 +5,7 @@ use Prim.Native.Nat.{ℕ, _+_, _-_}
 use native.Mathlib.Omega.{arith}
 use lib.ListN.{take, drop}
 use borrow.Author.Needs.{needs}
+use denote.Ref.{now}
 use Rattle.run.specs.Show.{partOf}
 use Rattle.run.proofs.ShowLaws.{inside-room}
 use Rattle.run.proofs.part.Statement.{statement}
@@ -24,7 +25,9 @@ count-is start count l =
 
 returns : tie.Need-returns
 unfolding partOf
-returns c = rw (← c .before .before .inside .ensures, c .before .if1 .taken) (count-is _ _ _)
+returns c =
+    let a = c .before .before .before .before .args in
+    rw (← c .before .before .inside .ensures, c .before .if1 .taken) (count-is (a .start) (a .count) (now (a .bytes)))
 
 returns-2 : tie.Need-returns-2
 unfolding partOf

@@ -1,11 +1,11 @@
 -- `shift::shift` meets its contract: at most four bytes are shifted, of more the answer is 0.
 use Rattle.shift.specs.Total.{totalShift}
-use Rattle.shift.proofs.ShiftLaws.{both-small}
+use Rattle.shift.proofs.ShiftLaws.{small-told}
 use Rattle.shift.proofs.shift.Statement.{statement}
 use Rattle.shift.proofs.shift.Tie as tie
 
 small-shift-requires : tie.Need-small-shift-requires
-small-shift-requires c κs = both-small _ _ (c .if1 .taken)
+small-shift-requires c κs = small-told _ _ (c .if1 .taken)
 
 returns : tie.Need-returns
 unfolding totalShift
