@@ -1,7 +1,7 @@
 -- Reading a number and writing its bytes undo each other, once over the number of bytes.
 use mathlib.Core.Path.{_≡_, refl, sym, ap, _∙_}
 use mathlib.Core.List.{List, _∷_, _++_}
-use Prim.Native.Nat.{ℕ, zero, suc, _+_, _*_, _/_, _%_, _^_, _≤_, _<_}
+use Prim.Native.Nat.{ℕ, zero, suc, _+_, _*_, _/_, _%_, _^_, _≤_}
 use native.Mathlib.Nat.{pow-suc}
 use native.Mathlib.Numerals.{add-one}
 use native.Mathlib.Omega.{arith}
@@ -69,15 +69,3 @@ bytes-there (suc n) l at b h =
     let high : (x + 256 * y) / 256 ≡ y = omega (arith, b at) in
     let s : at + suc (suc n) ≡ suc at + suc n = omega arith in
     rw (low, high, s) (drop-cons l at 0 (omega arith) ∙ ap (λ (r : List ℕ). x ∷ r) (bytes-there n l (suc at) b (omega arith)))
-
--- bytes that agree make one number
-pub number-local : (n : ℕ) (l u : List ℕ) (at to : ℕ) → ((k : ℕ) → k < n → getD l (at + k) 0 ≡ getD u (to + k) 0) → numberAt n l at ≡ numberAt n u to
-unfolding numberAt
-number-local zero l u at to same = refl
-number-local (suc n) l u at to same =
-    let z : at + 0 ≡ at = omega arith in
-    let y : to + 0 ≡ to = omega arith in
-    let here : getD l at 0 ≡ getD u to 0 = rw (z, y) at (same 0 (omega arith)) in
-    let rest : numberAt n l (suc at) ≡ numberAt n u (suc to) =
-    number-local n l u (suc at) (suc to) (λ k h. let p : at + suc k ≡ suc at + k = omega arith in let q : to + suc k ≡ suc to + k = omega arith in rw (p, q) at (same (suc k) (omega arith))) in
-    rw (here, rest)
