@@ -8,6 +8,7 @@ use Prim.Native.Nat.{ℕ, suc, _<_}
 use lib.ListN.{length}
 use lib.Dec.{eqb}
 use borrow.Author.Tests.{lt-ltb}
+use Rattle.little_endian.specs.LittleEndian.{Bytes}
 use Rattle.cells.specs.Buffer.{Buffer}
 use Rattle.cells.specs.Writes.{Write, writtenAll}
 use Rattle.cells.specs.Effect.{Effect, refused}
@@ -31,6 +32,7 @@ use Rattle.run.specs.Run.{Outcome, stopped, runFrom, run}
 use Rattle.run.specs.Ran.{Ran, ended, refusedAt, went, registersWritten, memoryWritten}
 use Rattle.run.proofs.Simulation.{run-keeps}
 use Rattle.run.proofs.Whole.{run-is}
+use Rattle.run.proofs.Fuel.{run-ran}
 
 -- ---- lengths and surfaces
 
@@ -129,3 +131,10 @@ module _ (step : ℕ → State → Stepped) (end : ℕ) where
 
     pub memory-stays : writesAt (memoryWritten step end p) j ≡ false → Kept (s .memory) (r .state .memory) j
     memory-stays h = rw (ran-memory p) (stays (memoryWritten step end p) (s .memory) j h)
+
+module _ (x : Setup) (s : State) (b : Bytes (x .kernel)) (tables : run x s .answer .number ≢ 13) (j : ℕ) where
+  pub run-registers-stay : writesAt (registersWritten (stepAt x) (length (x .kernel)) (run-ran x s b tables)) j ≡ false → Kept (s .registers) (run x s .state .registers) j
+  run-registers-stay = registers-stay (stepAt x) (length (x .kernel)) (run-ran x s b tables) j
+
+  pub run-memory-stays : writesAt (memoryWritten (stepAt x) (length (x .kernel)) (run-ran x s b tables)) j ≡ false → Kept (s .memory) (run x s .state .memory) j
+  run-memory-stays = memory-stays (stepAt x) (length (x .kernel)) (run-ran x s b tables) j
