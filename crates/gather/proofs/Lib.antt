@@ -1,1 +1,2 @@
 pub mod Untainted
+pub mod DwordLaws

@@ -1,1 +1,73 @@
-// GATHER_SCALED: each enabled lane reads a block of a surface into a dword.
+// GATHER_SCALED: each enabled lane's dword, read from the surface at an address that its two offsets give.
+use channels::Lanes;
+use plan::Plan;
+ghost use mathlib.Core.Path.{_≡_};
+ghost use mathlib.Core.Bool.{cond, _&&_, _||_};
+ghost use mathlib.Core.List.{[]};
+ghost use Prim.Native.Nat.{_+_, _*_, _<_, _≤_};
+ghost use lib.ListN.{getD};
+ghost use Rattle.cells.specs.Buffer.{buffer, isTainted};
+ghost use Rattle.cells.specs.Element.{element};
+ghost use Rattle.cells.specs.Writes.{writtenAll};
+ghost use Rattle.gather.specs.Gather.{gatherAddress, isRead, gatheredByte, gatherWrites};
+ghost use Rattle.gather.specs.Room.{roomAddress, roomDoubtful, roomLane};
+
+// Whether byte j of the dword comes from the surface: it lies in the block, and before the surface's end.
+fn is_read(plan: Plan, address: u32, j: u8) -> bool
+    ensures { λ r. ⌜ r ≡ isRead plan address j ⌝ }
+{
+    (j < plan.bytes) & ((address as u64) + (j as u64) < (plan.length as u64))
+}
+
+// Where it stands in the buffer of all surfaces.
+fn surface_place(plan: Plan, address: u32, j: u8) -> usize
+    ensures { λ r. ⌜ r ≡ plan .start + address + j ⌝ }
+{
+    (plan.start as usize) + (address as usize) + (j as usize)
+}
+
+fn gathered_byte(surfaces: &[u8], plan: Plan, address: u32, j: u8) -> u8
+    ensures { λ r. ⌜ r ≡ gatheredByte (now (surfaces .entry)) plan address j ⌝ }
+{
+    if is_read(plan, address, j) {
+        cells::byte_at(surfaces, surface_place(plan, address, j))
+    } else {
+        0
+    }
+}
+
+fn gathered_taint(
+    surface_taint: &[u8],
+    plan: Plan,
+    doubtful: bool,
+    address: u32,
+    j: u8,
+) -> bool
+    ensures { λ r. ⌜ r ≡ (doubtful || (isRead plan address j && isTainted (getD (now («surface_taint» .entry)) (plan .start + address + j) 0))) ⌝ }
+{
+    let mark = cells::byte_at(surface_taint, surface_place(plan, address, j));
+    doubtful | (is_read(plan, address, j) & cells::is_tainted(mark))
+}
+
+// The dword of one lane, to the registers from a byte on.
+fn gather_dword(
+    plan: Plan,
+    surfaces: &[u8],
+    surface_taint: &[u8],
+    doubtful: bool,
+    address: u32,
+    registers: &mut [u8],
+    register_taint: &mut [u8],
+    at: u32,
+)
+    ensures { λ _. ⌜ buffer (now (registers .exit)) (now («register_taint» .exit)) ≡ writtenAll (gatherWrites (buffer (now (surfaces .entry)) (now («surface_taint» .entry))) plan doubtful address at 0 4) (buffer (now (registers .entry)) (now («register_taint» .entry))) ⌝ }
+{
+    let mut j: u8 = 0;
+    while j < 4 {
+        let value = gathered_byte(surfaces, plan, address, j);
+        let tainted = gathered_taint(surface_taint, plan, doubtful, address, j);
+        let place = (at as usize) + (j as usize);
+        cells::set_byte(registers, register_taint, place, value, tainted);
+        j += 1;
+    }
+}
