@@ -36,13 +36,7 @@ fn gathered_byte(surfaces: &[u8], plan: Plan, address: u32, j: u8) -> u8
     }
 }
 
-fn gathered_taint(
-    surface_taint: &[u8],
-    plan: Plan,
-    doubtful: bool,
-    address: u32,
-    j: u8,
-) -> bool
+fn gathered_taint(surface_taint: &[u8], plan: Plan, doubtful: bool, address: u32, j: u8) -> bool
     ensures { λ r. ⌜ r ≡ (doubtful || (isRead plan address j && isTainted (getD (now («surface_taint» .entry)) (plan .start + address + j) 0))) ⌝ }
 {
     let mark = cells::byte_at(surface_taint, surface_place(plan, address, j));

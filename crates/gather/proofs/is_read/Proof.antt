@@ -7,7 +7,7 @@ use Rattle.gather.proofs.is_read.Statement.{statement}
 use Rattle.gather.proofs.is_read.Tie as tie
 
 cast-result : tie.Need-cast-result
-cast-result c = let h = c .struct-known2 .given in ?
+cast-result c = omega (arith, c .struct-known2 .given .1 .1 .1 .1 .1 .1 .1 .1 .1 .1 .0)
 
 returns : tie.Need-returns
 unfolding isRead
