@@ -1,2 +1,3 @@
 pub mod Untainted
 pub mod DwordLaws
+pub mod AddressLaws

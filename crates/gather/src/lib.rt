@@ -1,5 +1,5 @@
 // GATHER_SCALED: each enabled lane's dword, read from the surface at an address that its two offsets give.
-use channels::Lanes;
+use operands::Elements;
 use plan::Plan;
 ghost use mathlib.Core.Path.{_≡_};
 ghost use mathlib.Core.Bool.{cond, _&&_, _||_};
@@ -10,7 +10,12 @@ ghost use Rattle.cells.specs.Buffer.{buffer, isTainted};
 ghost use Rattle.cells.specs.Element.{element};
 ghost use Rattle.cells.specs.Writes.{writtenAll};
 ghost use Rattle.gather.specs.Gather.{gatherAddress, isRead, gatheredByte, gatherWrites};
-ghost use Rattle.gather.specs.Room.{roomAddress, roomDoubtful, roomLane};
+ghost use Rattle.gather.specs.Room.{Fitting, roomAddress, roomDoubtful, roomLane};
+
+// Where the elements of Offset and of Element_offset begin in the room.
+const LEFT: u16 = 0;
+
+const RIGHT: u16 = 128;
 
 // Whether byte j of the dword comes from the surface: it lies in the block, and before the surface's end.
 fn is_read(plan: Plan, address: u32, j: u8) -> bool
@@ -63,5 +68,77 @@ fn gather_dword(
         let place = (at as usize) + (j as usize);
         cells::set_byte(registers, register_taint, place, value, tainted);
         j += 1;
+    }
+}
+
+fn destination_of(plan: Plan, lane: u8) -> u32
+    requires { ⌜ lane < 32 ⌝ }
+    ensures { λ r. ⌜ r ≡ getD (plan .payload .at) lane 0 ⌝ }
+{
+    let payload = plan.payload;
+    let at = payload.at;
+    let index = lane as usize;
+    at[index]
+}
+
+// One of a lane's offsets, from the room.
+fn offset_of(bytes: &[u8], elements: Elements, base: u16, lane: u8) -> u32
+    requires { ⌜ elements .size ≤ 4 ⌝ }
+    ensures { λ r. ⌜ r ≡ element (elements .size) (now (bytes .entry)) (base + lane * elements .size) ⌝ }
+{
+    staging::staged_number(bytes, elements, base, lane) as u32
+}
+
+fn address_of(bytes: &[u8], plan: Plan, lane: u8) -> u32
+    requires { ⌜ (plan .left .size ≤ 4) × (plan .right .size ≤ 4) ⌝ }
+    ensures { λ r. ⌜ r ≡ roomAddress (now (bytes .entry)) plan lane ⌝ }
+{
+    let left = plan.left;
+    let right = plan.right;
+    let offset = offset_of(bytes, left, LEFT, lane);
+    let element_offset = offset_of(bytes, right, RIGHT, lane);
+    std::num::wrapping_add_u32(offset, element_offset)
+}
+
+// Whether a byte of either offset is tainted.
+fn is_doubtful(taint: &[u8], plan: Plan, lane: u8) -> bool
+    ensures { λ r. ⌜ r ≡ roomDoubtful (now (taint .entry)) plan lane ⌝ }
+{
+    let left = plan.left;
+    let right = plan.right;
+    let offset = staging::staged_taint(taint, left, LEFT, lane);
+    let element_offset = staging::staged_taint(taint, right, RIGHT, lane);
+    offset | element_offset
+}
+
+// What a lane does: nothing where it is off.
+fn gather_lane(
+    plan: Plan,
+    on: bool,
+    lane: u8,
+    bytes: &[u8],
+    taint: &[u8],
+    surfaces: &[u8],
+    surface_taint: &[u8],
+    registers: &mut [u8],
+    register_taint: &mut [u8],
+)
+    requires { ⌜ Fitting plan lane ⌝ }
+    ensures { λ _. ⌜ buffer (now (registers .exit)) (now («register_taint» .exit)) ≡ writtenAll (cond on (roomLane (buffer (now (bytes .entry)) (now (taint .entry))) (buffer (now (surfaces .entry)) (now («surface_taint» .entry))) plan lane) []) (buffer (now (registers .entry)) (now («register_taint» .entry))) ⌝ }
+{
+    if on {
+        let doubtful = is_doubtful(taint, plan, lane);
+        let address = address_of(bytes, plan, lane);
+        let at = destination_of(plan, lane);
+        gather_dword(
+            plan,
+            surfaces,
+            surface_taint,
+            doubtful,
+            address,
+            registers,
+            register_taint,
+            at,
+        );
     }
 }
