@@ -1,3 +1,4 @@
 pub mod Untainted
 pub mod DwordLaws
 pub mod AddressLaws
+pub mod LaneLaws

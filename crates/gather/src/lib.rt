@@ -4,11 +4,14 @@ use plan::Plan;
 ghost use mathlib.Core.Path.{_≡_};
 ghost use mathlib.Core.Bool.{cond, _&&_, _||_};
 ghost use mathlib.Core.List.{[]};
-ghost use Prim.Native.Nat.{_+_, _*_, _<_, _≤_};
+ghost use Prim.Native.Nat.{ℕ, _+_, _*_, _<_, _≤_};
 ghost use lib.ListN.{getD};
 ghost use Rattle.cells.specs.Buffer.{buffer, isTainted};
 ghost use Rattle.cells.specs.Element.{element};
 ghost use Rattle.cells.specs.Writes.{writtenAll};
+ghost use Rattle.cells.specs.Over.{among, each};
+ghost use Rattle.channels.specs.Exec.{execSize};
+ghost use Rattle.channels.specs.Lanes.{laneOn};
 ghost use Rattle.gather.specs.Gather.{gatherAddress, isRead, gatheredByte, gatherWrites};
 ghost use Rattle.gather.specs.Room.{Fitting, roomAddress, roomDoubtful, roomLane};
 
@@ -140,5 +143,40 @@ fn gather_lane(
             register_taint,
             at,
         );
+    }
+}
+
+// The lanes of an instruction, in order.
+fn gather_lanes(
+    plan: Plan,
+    mask: u32,
+    bytes: &[u8],
+    taint: &[u8],
+    surfaces: &[u8],
+    surface_taint: &[u8],
+    registers: &mut [u8],
+    register_taint: &mut [u8],
+)
+    requires { ⌜ ((lane : ℕ) → lane < execSize (plan .control .exec) → Fitting plan lane) ⌝ }
+    ensures { λ _. ⌜ buffer (now (registers .exit)) (now («register_taint» .exit)) ≡ writtenAll (each (roomLane (buffer (now (bytes .entry)) (now (taint .entry))) (buffer (now (surfaces .entry)) (now («surface_taint» .entry))) plan) (among (laneOn (plan .control .exec) (plan .control .pred) mask (plan .bits)) (execSize (plan .control .exec)))) (buffer (now (registers .entry)) (now («register_taint» .entry))) ⌝ }
+{
+    let control = plan.control;
+    let lanes = channels::lanes_of(control.exec, control.pred, mask, plan.bits);
+    let size = channels::split(control.exec).size;
+    let mut lane: u8 = 0;
+    while lane < size {
+        let on = lanes.on(lane as usize);
+        gather_lane(
+            plan,
+            on,
+            lane,
+            bytes,
+            taint,
+            surfaces,
+            surface_taint,
+            registers,
+            register_taint,
+        );
+        lane += 1;
     }
 }
