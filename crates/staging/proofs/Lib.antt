@@ -1,1 +1,4 @@
+pub mod Products
+pub mod StageLaws
+pub mod StagedLaws
 pub mod Untainted
