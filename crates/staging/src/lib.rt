@@ -6,7 +6,7 @@ ghost use lib.ListN.{getD};
 ghost use Rattle.cells.specs.Buffer.{buffer, anyTainted};
 ghost use Rattle.cells.specs.Element.{element};
 ghost use Rattle.cells.specs.Writes.{writtenAll};
-ghost use Rattle.staging.specs.Staged.{emptyRoom, stageLane, staged, elementsFit};
+ghost use Rattle.staging.specs.Staged.{emptyRoom, stageLane, staged, bothStaged, elementsFit};
 
 // Bytes of sources, and their taint.
 pub struct Room {
@@ -102,6 +102,24 @@ pub fn stage(
         lane += 1;
     }
     Room { bytes, taint }
+}
+
+// Where the left and the right source begin.
+pub const LEFT: u16 = 0;
+pub const RIGHT: u16 = 128;
+
+// Both sources of an instruction.
+pub fn stage_both(
+    registers: &[u8],
+    register_taint: &[u8],
+    left: Elements,
+    right: Elements,
+    lanes: u8,
+) -> Room
+    ensures { λ r. ⌜ buffer (r .bytes) (r .taint) ≡ bothStaged (buffer (now (registers .entry)) (now («register_taint» .entry))) left right lanes ⌝ }
+{
+    let first = stage(registers, register_taint, left, lanes, LEFT, empty_room());
+    stage(registers, register_taint, right, lanes, RIGHT, first)
 }
 
 // A lane's element in the room.
