@@ -2,3 +2,4 @@ pub mod Untainted
 pub mod DwordLaws
 pub mod AddressLaws
 pub mod LaneLaws
+pub mod RoomLaws

@@ -1,3 +1,3 @@
 pub mod Gather
 pub mod Guarded
-pub mod Room
+pub mod FromRoom

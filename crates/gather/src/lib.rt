@@ -9,16 +9,22 @@ ghost use lib.ListN.{getD};
 ghost use Rattle.cells.specs.Buffer.{buffer, isTainted};
 ghost use Rattle.cells.specs.Element.{element};
 ghost use Rattle.cells.specs.Writes.{writtenAll};
-ghost use Rattle.cells.specs.Over.{among, each};
+ghost use Rattle.cells.specs.Over.{each};
 ghost use Rattle.channels.specs.Exec.{execSize};
-ghost use Rattle.channels.specs.Lanes.{laneOn};
+ghost use Rattle.staging.specs.Lanes.{lanesOn};
 ghost use Rattle.gather.specs.Gather.{gatherAddress, isRead, gatheredByte, gatherWrites};
-ghost use Rattle.gather.specs.Room.{Fitting, roomAddress, roomDoubtful, roomLane};
+ghost use Rattle.gather.specs.Guarded.{gatherFits, gatherGuarded};
+ghost use Rattle.gather.specs.FromRoom.{Fitting, roomAddress, roomDoubtful, roomLane};
 
-// Where the elements of Offset and of Element_offset begin in the room.
-const LEFT: u16 = 0;
-
-const RIGHT: u16 = 128;
+// Whether the offsets have room, and are dwords at most.
+fn fits(plan: Plan) -> bool
+    ensures { λ r. ⌜ r ≡ gatherFits plan ⌝ }
+{
+    let lanes = channels::split(plan.control.exec).size;
+    let left = plan.left;
+    let right = plan.right;
+    staging::elements_fit(4, left, lanes) & staging::elements_fit(4, right, lanes)
+}
 
 // Whether byte j of the dword comes from the surface: it lies in the block, and before the surface's end.
 fn is_read(plan: Plan, address: u32, j: u8) -> bool
@@ -98,8 +104,8 @@ fn address_of(bytes: &[u8], plan: Plan, lane: u8) -> u32
 {
     let left = plan.left;
     let right = plan.right;
-    let offset = offset_of(bytes, left, LEFT, lane);
-    let element_offset = offset_of(bytes, right, RIGHT, lane);
+    let offset = offset_of(bytes, left, staging::LEFT, lane);
+    let element_offset = offset_of(bytes, right, staging::RIGHT, lane);
     std::num::wrapping_add_u32(offset, element_offset)
 }
 
@@ -109,8 +115,8 @@ fn is_doubtful(taint: &[u8], plan: Plan, lane: u8) -> bool
 {
     let left = plan.left;
     let right = plan.right;
-    let offset = staging::staged_taint(taint, left, LEFT, lane);
-    let element_offset = staging::staged_taint(taint, right, RIGHT, lane);
+    let offset = staging::staged_taint(taint, left, staging::LEFT, lane);
+    let element_offset = staging::staged_taint(taint, right, staging::RIGHT, lane);
     offset | element_offset
 }
 
@@ -158,7 +164,7 @@ fn gather_lanes(
     register_taint: &mut [u8],
 )
     requires { ⌜ ((lane : ℕ) → lane < execSize (plan .control .exec) → Fitting plan lane) ⌝ }
-    ensures { λ _. ⌜ buffer (now (registers .exit)) (now («register_taint» .exit)) ≡ writtenAll (each (roomLane (buffer (now (bytes .entry)) (now (taint .entry))) (buffer (now (surfaces .entry)) (now («surface_taint» .entry))) plan) (among (laneOn (plan .control .exec) (plan .control .pred) mask (plan .bits)) (execSize (plan .control .exec)))) (buffer (now (registers .entry)) (now («register_taint» .entry))) ⌝ }
+    ensures { λ _. ⌜ buffer (now (registers .exit)) (now («register_taint» .exit)) ≡ writtenAll (each (roomLane (buffer (now (bytes .entry)) (now (taint .entry))) (buffer (now (surfaces .entry)) (now («surface_taint» .entry))) plan) (lanesOn mask plan)) (buffer (now (registers .entry)) (now («register_taint» .entry))) ⌝ }
 {
     let control = plan.control;
     let lanes = channels::lanes_of(control.exec, control.pred, mask, plan.bits);
@@ -179,4 +185,37 @@ fn gather_lanes(
         );
         lane += 1;
     }
+}
+
+// Number 0, or 7 with nothing written for a plan that no check makes.
+pub fn gather(
+    plan: Plan,
+    mask: u32,
+    registers: &mut [u8],
+    register_taint: &mut [u8],
+    surfaces: &[u8],
+    surface_taint: &[u8],
+) -> u8
+    ensures { λ r. ⌜ (r ≡ gatherGuarded mask plan (buffer (now (registers .entry)) (now («register_taint» .entry))) (buffer (now (surfaces .entry)) (now («surface_taint» .entry))) .number) × (buffer (now (registers .exit)) (now («register_taint» .exit)) ≡ writtenAll (gatherGuarded mask plan (buffer (now (registers .entry)) (now («register_taint» .entry))) (buffer (now (surfaces .entry)) (now («surface_taint» .entry))) .registers) (buffer (now (registers .entry)) (now («register_taint» .entry)))) ⌝ }
+{
+    if !fits(plan) {
+        return 7;
+    }
+    let left = plan.left;
+    let right = plan.right;
+    let lanes = channels::split(plan.control.exec).size;
+    let room = staging::stage_both(registers, register_taint, left, right, lanes);
+    let bytes = room.bytes;
+    let taint = room.taint;
+    gather_lanes(
+        plan,
+        mask,
+        &bytes,
+        &taint,
+        surfaces,
+        surface_taint,
+        registers,
+        register_taint,
+    );
+    0
 }

@@ -2,7 +2,7 @@
 use mathlib.Core.Path.{_≡_, _∙_, ap₂}
 use borrow.Author.Needs.{needs}
 use Rattle.gather.specs.Gather.{gatherAddress}
-use Rattle.gather.specs.Room.{roomAddress}
+use Rattle.gather.specs.FromRoom.{roomAddress}
 use Rattle.gather.proofs.address_of.Statement.{statement}
 use Rattle.gather.proofs.address_of.Tie as tie
 

@@ -1,6 +1,6 @@
 -- `gather::gather_lane` meets its contract: where the lane is on, each call answers its part of what it writes.
 use borrow.Author.Needs.{needs}
-use Rattle.gather.specs.Room.{roomLane}
+use Rattle.gather.specs.FromRoom.{roomLane}
 use Rattle.gather.proofs.LaneLaws.{lane-on, lane-off}
 use Rattle.gather.proofs.gather_lane.Statement.{statement}
 use Rattle.gather.proofs.gather_lane.Tie as tie

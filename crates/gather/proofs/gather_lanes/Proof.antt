@@ -6,12 +6,14 @@ use lib.ListN.{length}
 use borrow.Author.Needs.{needs}
 use Rattle.cells.specs.Buffer.{buffer}
 use Rattle.cells.specs.Writes.{writtenAll}
-use Rattle.cells.specs.Over.{amongFrom, among, each}
+use Rattle.cells.specs.Over.{amongFrom, each}
 use Rattle.cells.proofs.LaneLaws.{lanes-begun, lanes-turn, lanes-over}
 use Rattle.channels.specs.Exec.{execSize}
 use Rattle.channels.specs.Lanes.{laneOn}
 use Rattle.channels.proofs.LaneLaws.{lane-told}
-use Rattle.gather.specs.Room.{roomLane}
+use Rattle.staging.specs.Lanes.{lanesOn}
+use Rattle.staging.proofs.LanesOnLaws.{lanes-on-are}
+use Rattle.gather.specs.FromRoom.{roomLane}
 use Rattle.gather.proofs.LaneLaws.{lane-asked, below-size, past-size}
 use Rattle.gather.proofs.gather_lanes.Statement.{statement}
 use Rattle.gather.proofs.gather_lanes.Tie as tie
@@ -19,7 +21,7 @@ use Rattle.gather.proofs.gather_lanes.Tie as tie
 abbrev Inv-loop : tie.InvT-loop
 Inv-loop plan mask bytes taint surfaces surface-taint registers₀ register-taint₀ lanes size lane₀ registers register-taint lane =
     (lane ≤ size)
-    × (writtenAll (each (roomLane (buffer bytes taint) (buffer surfaces surface-taint) plan) (amongFrom (laneOn (plan .control .exec) (plan .control .pred) mask (plan .bits)) lane (execSize (plan .control .exec) - lane))) (buffer registers register-taint) ≡ writtenAll (each (roomLane (buffer bytes taint) (buffer surfaces surface-taint) plan) (among (laneOn (plan .control .exec) (plan .control .pred) mask (plan .bits)) (execSize (plan .control .exec)))) (buffer registers₀ register-taint₀))
+    × (writtenAll (each (roomLane (buffer bytes taint) (buffer surfaces surface-taint) plan) (amongFrom (laneOn (plan .control .exec) (plan .control .pred) mask (plan .bits)) lane (execSize (plan .control .exec) - lane))) (buffer registers register-taint) ≡ writtenAll (each (roomLane (buffer bytes taint) (buffer surfaces surface-taint) plan) (lanesOn mask plan)) (buffer registers₀ register-taint₀))
     × (length registers ≡ length registers₀)
     × (length register-taint ≡ length register-taint₀)
 
@@ -28,7 +30,7 @@ abbrev μ-loop : tie.MeasureT-loop
     size - lane
 
 loop-holds : tie.Need-loop-holds Inv-loop μ-loop
-loop-holds c = (omega arith, lanes-begun _ _ _ _, refl, refl)
+loop-holds c = (omega arith, rw (lanes-on-are) (lanes-begun _ _ _ _), refl, refl)
 
 gather-lane-requires : tie.Need-gather-lane-requires Inv-loop μ-loop
 gather-lane-requires c κs =

@@ -1,6 +1,6 @@
 -- `gather::is_doubtful` meets its contract: each call answers its part of it.
 use borrow.Author.Needs.{needs}
-use Rattle.gather.specs.Room.{roomDoubtful}
+use Rattle.gather.specs.FromRoom.{roomDoubtful}
 use Rattle.gather.proofs.is_doubtful.Statement.{statement}
 use Rattle.gather.proofs.is_doubtful.Tie as tie
 
