@@ -3,3 +3,4 @@ pub mod DwordLaws
 pub mod AddressLaws
 pub mod LaneLaws
 pub mod RoomLaws
+pub mod GuardLaws
