@@ -1,1 +1,3 @@
+pub mod RoomLaws
+pub mod LaneLaws
 pub mod Untainted
