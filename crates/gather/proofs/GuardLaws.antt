@@ -1,7 +1,7 @@
 -- A plan that does not fit writes nothing, and one that fits has the effect of its definition.
 use Prim.Native.Nat.{ℕ}
 use mathlib.Core.Path.{_≡_, refl, sym, ap, ap₂, _∙_}
-use mathlib.Core.Bool.{Bool, true, false, not, _&&_}
+use mathlib.Core.Bool.{Bool, true, false, true≢false, false≢true, not, _&&_}
 use Rattle.cells.specs.Buffer.{Buffer}
 use Rattle.cells.specs.Writes.{writtenAll}
 use Rattle.cells.specs.Over.{each}
@@ -26,6 +26,16 @@ size-told exec parts told = ap (λ (e : Exec). e .size) told
 pub fits-told : (p : Plan) (parts : Exec) (a b : Bool) → parts ≡ execOf (p .control .exec) → a ≡ elementsFit 4 (p .left) (parts .size) → b ≡ elementsFit 4 (p .right) (parts .size) → (a && b) ≡ gatherFits p
 unfolding gatherFits
 fits-told p parts a b told l r = rw (← size-told (p .control .exec) parts told) (ap₂ _&&_ l r)
+
+-- what the code's `!fits(plan)` answered
+module _ (p : Plan) where
+  pub told-refused : (answer : Bool) → answer ≡ gatherFits p → not answer ≡ true → gatherFits p ≡ false
+  told-refused true e t = absurd (false≢true t)
+  told-refused false e t = sym e
+
+  pub told-passed : (answer : Bool) → answer ≡ gatherFits p → not answer ≡ false → gatherFits p ≡ true
+  told-passed true e t = sym e
+  told-passed false e t = absurd (true≢false t)
 
 module _ (mask : ℕ) (p : Plan) (registers surfaces : Buffer) where
   guarded-refused : gatherFits p ≡ false → gatherGuarded mask p registers surfaces ≡ refused 7

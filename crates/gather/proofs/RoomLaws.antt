@@ -9,6 +9,7 @@ use Rattle.plan.specs.declared.Plan.{Plan}
 use Rattle.staging.specs.Sources.{elementValue, elementTainted, eitherTainted}
 use Rattle.staging.specs.Staged.{elementsFit, bothStaged}
 use Rattle.staging.proofs.FitLaws.{fit-lanes, fit-size}
+use Rattle.staging.proofs.SourceLaws.{either-is}
 use Rattle.staging.proofs.BothLaws.{stands-element, left-stands, right-stands}
 use Rattle.gather.specs.Gather.{gatherAddress, gatherLane}
 use Rattle.gather.specs.Guarded.{gatherFits}
@@ -44,11 +45,12 @@ module _ (p : Plan) (fit : gatherFits p ≡ true) where
         (stands-element registers (p .right) 128 lane room (omega (arith, f .right-small)) (right-stands registers (p .left) (p .right) 4 _ (fit-both .0) (fit-both .1) lane h))
 
     doubt-stands : roomDoubtful (room .taint) p lane ≡ eitherTainted (registers .taint) (p .left) (p .right) lane
-    unfolding roomDoubtful eitherTainted
+    unfolding roomDoubtful
     doubt-stands =
-        ap₂ _||_
+        rw (either-is (registers .taint) (p .left) (p .right) lane)
+        (ap₂ _||_
         (left-stands registers (p .left) (p .right) 4 _ (fit-both .0) (fit-both .1) lane h .taint)
-        (right-stands registers (p .left) (p .right) 4 _ (fit-both .0) (fit-both .1) lane h .taint)
+        (right-stands registers (p .left) (p .right) 4 _ (fit-both .0) (fit-both .1) lane h .taint))
 
     pub lane-stands : (surfaces : Buffer) → roomLane room surfaces p lane ≡ gatherLane registers surfaces p lane
     unfolding roomLane gatherLane
