@@ -1,12 +1,12 @@
 -- Where the offsets fit, the room holds them as the registers had them: what a lane writes by the room is what the definition says.
-use Prim.Native.Nat.{ℕ, _≤_, _<_}
-use mathlib.Core.Path.{_≡_, refl, ap₂, _∙_}
+use Prim.Native.Nat.{ℕ, _<_}
+use mathlib.Core.Path.{_≡_, refl, ap₂}
 use mathlib.Core.Bool.{Bool, true, false, _&&_, _||_, false≢true}
 use native.Mathlib.Omega.{arith}
 use Rattle.cells.specs.Buffer.{Buffer}
 use Rattle.channels.specs.Exec.{execSize}
 use Rattle.plan.specs.declared.Plan.{Plan}
-use Rattle.staging.specs.Sources.{elementValue, elementTainted, eitherTainted}
+use Rattle.staging.specs.Sources.{elementValue, eitherTainted}
 use Rattle.staging.specs.Staged.{elementsFit, bothStaged}
 use Rattle.staging.proofs.FitLaws.{fit-lanes, fit-size}
 use Rattle.staging.proofs.SourceLaws.{either-is}

@@ -12,7 +12,7 @@ ghost use Rattle.cells.specs.Writes.{writtenAll};
 ghost use Rattle.cells.specs.Over.{each};
 ghost use Rattle.channels.specs.Exec.{execSize};
 ghost use Rattle.staging.specs.Lanes.{lanesOn};
-ghost use Rattle.gather.specs.Gather.{gatherAddress, isRead, gatheredByte, gatherWrites};
+ghost use Rattle.gather.specs.Gather.{isRead, gatheredByte, gatherWrites};
 ghost use Rattle.gather.specs.Guarded.{gatherFits, gatherGuarded};
 ghost use Rattle.gather.specs.FromRoom.{Fitting, roomAddress, roomDoubtful, roomLane};
 

@@ -1,5 +1,4 @@
 -- `gather::address_of` meets its contract: the wrapped sum of the two offsets.
-use mathlib.Core.Path.{_≡_, _∙_, ap₂}
 use borrow.Author.Needs.{needs}
 use Rattle.gather.specs.Gather.{gatherAddress}
 use Rattle.gather.specs.FromRoom.{roomAddress}

@@ -1,5 +1,5 @@
 -- `gather::gather_dword` meets its contract. The writes that are left, made now, give the whole.
-use Prim.Native.Nat.{_+_, _-_, _≤_}
+use Prim.Native.Nat.{_-_, _≤_}
 use mathlib.Core.Path.{_≡_, refl}
 use native.Mathlib.Omega.{arith}
 use lib.ListN.{length}

@@ -1,5 +1,4 @@
 -- `gather::gathered_byte` meets its contract: the surface's byte where it is read, else 0.
-use mathlib.Core.Path.{ap, _∙_}
 use borrow.Author.Needs.{needs}
 use Rattle.gather.specs.Gather.{gatheredByte}
 use Rattle.gather.proofs.gathered_byte.Statement.{statement}
