@@ -2,9 +2,16 @@ pub mod BoolLaws
 pub mod PlaceLaws
 pub mod WriteLaws
 pub mod StayLaws
+pub mod RefusalLaws
 pub mod NumberLaws
 pub mod TaintLaws
 pub mod CopyLaws
+pub mod NumberWriteLaws
 pub mod AmongLaws
 pub mod LaneLaws
+pub mod LaneStayLaws
 pub mod SearchLaws
+pub mod EffectLaws
+pub mod Related
+pub mod Untainted
+pub mod Plain

@@ -1,13 +1,14 @@
 -- What the crates above may know of fields: forward, what a field gave stands there and is good; backward, where a good field's bytes
 -- stand, it is read. Lists of fields: bytes and refusals of two lists, one after the other.
 use mathlib.Core.Path.{_≡_, refl, sym, ap, _∙_, subst}
+use mathlib.Core.Logic.{_≢_}
 use mathlib.Core.List.{List, [], _∷_, _++_, append-assoc, append-nil}
 use mathlib.Core.Bool.{Bool, true, false, cond, true≢false}
 use Prim.Native.Nat.{ℕ, _+_, _<_}
 use native.Mathlib.Omega.{arith}
 use lib.ListN.{length, drop, length-append}
 use lib.Dec.{eqb}
-use borrow.Author.Tests.{eqb-true, eq-eqb}
+use borrow.Author.Tests.{eqb-true, eqb-false, eq-eqb}
 use Rattle.little_endian.specs.LittleEndian.{bytesOf, Bytes}
 use Rattle.little_endian.proofs.Laws.{length-bytes}
 use Rattle.reader.specs.declared.Cursor.{Cursor}
@@ -90,26 +91,30 @@ good-one f e = told (eqb (fieldRefusal f) 0) refl e
 parsed-one : {s : List ℕ} {at : ℕ} {c : Cursor} (f : Field) → Passed s at c (fieldBytes f) → fieldRefusal f ≡ 0 → Parsed s at c (f ∷ [])
 parsed-one {s} {at} {c} f p e = record { passed = subst (λ (l : List ℕ). Passed s at c l) (sym (one-bytes f)) p; good = one-good f e }
 
-module _ {X : Type 0} (P : X → Type 0) (s : List ℕ) (b : Bytes s) (at : ℕ) {refused : ℕ → X} {got : ℕ → Cursor → X} (no : (n : ℕ) → P (refused n)) where
+one-refuses : _≢_ {A = ℕ} 1 0
+one-refuses = λ (z : _≡_ {A = ℕ} 1 0). omega arith
+
+-- a refusal's number is never 0, which means done
+module _ {X : Type 0} (P : X → Type 0) (s : List ℕ) (b : Bytes s) (at : ℕ) {refused : ℕ → X} {got : ℕ → Cursor → X} (no : (n : ℕ) → n ≢ 0 → P (refused n)) where
   pub byte-field-then : (rule : ByteRule) → ((v : ℕ) (c : Cursor) → Parsed s at c (field.Byte rule v ∷ []) → P (got v c)) → P (onByteField (byteFieldAt rule s at) refused got)
   unfolding byteFieldAt fieldBytes fieldRefusal
   byte-field-then rule on =
-      byte-then (λ r. P (onByteField r refused got)) s at b (no 1) (λ v c p.
+      byte-then (λ r. P (onByteField r refused got)) s at b (no 1 one-refuses) (λ v c p.
       cond-then (λ r. P (onByteField r refused got)) (eqb (byteRefusal rule v) 0)
       (λ e. on v c (parsed-one (field.Byte rule v) p (eqb-true (byteRefusal rule v) 0 e)))
-      (λ _. no (byteRefusal rule v)))
+      (λ e. no (byteRefusal rule v) (eqb-false (byteRefusal rule v) 0 e)))
 
   pub word-field-then : (rule : WordRule) → ((v : ℕ) (c : Cursor) → Parsed s at c (field.Word rule v ∷ []) → P (got v c)) → P (onWordField (wordFieldAt rule s at) refused got)
   unfolding wordFieldAt fieldBytes fieldRefusal
   word-field-then rule on =
-      word-then (λ r. P (onWordField r refused got)) s at b (no 1) (λ v c p.
+      word-then (λ r. P (onWordField r refused got)) s at b (no 1 one-refuses) (λ v c p.
       cond-then (λ r. P (onWordField r refused got)) (eqb (wordRefusal rule v) 0)
       (λ e. on v c (parsed-one (field.Word rule v) p (eqb-true (wordRefusal rule v) 0 e)))
-      (λ _. no (wordRefusal rule v)))
+      (λ e. no (wordRefusal rule v) (eqb-false (wordRefusal rule v) 0 e)))
 
   pub dword-field-then : ((v : ℕ) (c : Cursor) → Parsed s at c (field.Dword v ∷ []) → P (got v c)) → P (onDwordField (dwordFieldAt s at) refused got)
   unfolding dwordFieldAt fieldBytes fieldRefusal
-  dword-field-then on = dword-then (λ r. P (onDwordField r refused got)) s at b (no 1) (λ v c p. on v c (parsed-one (field.Dword v) p refl))
+  dword-field-then on = dword-then (λ r. P (onDwordField r refused got)) s at b (no 1 one-refuses) (λ v c p. on v c (parsed-one (field.Dword v) p refl))
 
 -- a high word that the type lacks takes no byte
 pub parsed-lacking : {s : List ℕ} {at : ℕ} {c : Cursor} {fs : List Field} → Parsed s at c fs → Parsed s (c .at) c (field.Lacking 0 ∷ [])

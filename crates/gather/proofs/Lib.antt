@@ -1,0 +1,9 @@
+pub mod Untainted
+pub mod Refusal
+pub mod Plain
+pub mod MarkLaws
+pub mod DwordLaws
+pub mod AddressLaws
+pub mod LaneLaws
+pub mod RoomLaws
+pub mod GuardLaws

@@ -1,0 +1,18 @@
+-- A gather whose offsets have room. Every plan that `check` makes fits, so the guard is never the reason of an answer.
+use Prim.Native.Nat.{ℕ}
+use mathlib.Core.Bool.{Bool, not, _&&_}
+use Rattle.cells.specs.Buffer.{Buffer}
+use Rattle.cells.specs.Effect.{Effect, unless}
+use Rattle.channels.specs.Exec.{execSize}
+use Rattle.plan.specs.declared.Plan.{Plan}
+use Rattle.staging.specs.Lanes.{lanesOn}
+use Rattle.staging.specs.Staged.{elementsFit}
+use Rattle.gather.specs.Gather.{gatherEffect}
+
+-- "Offset and Element_offset are UD": elements of at most four bytes
+unfoldable pub gatherFits : Plan → Bool
+gatherFits p = elementsFit 4 (p .left) (execSize (p .control .exec)) && elementsFit 4 (p .right) (execSize (p .control .exec))
+
+-- the mask is the paper's EM
+unfoldable pub gatherGuarded : ℕ → Plan → Buffer → Buffer → Effect
+gatherGuarded mask p registers surfaces = unless (not (gatherFits p)) 7 (gatherEffect p (lanesOn mask p) registers surfaces)

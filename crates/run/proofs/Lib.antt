@@ -1,0 +1,7 @@
+pub mod Simulation
+pub mod Untainted
+pub mod Whole
+pub mod Fuel
+pub mod Kept
+pub mod Plain
+pub mod ShowLaws

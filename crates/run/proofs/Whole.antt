@@ -1,0 +1,24 @@
+-- A whole run: 13, or the steps from the kernel's start.
+use mathlib.Core.Path.{_≡_, refl}
+use mathlib.Core.Bool.{false, cond}
+use mathlib.Core.List.{List}
+use Prim.Native.Nat.{ℕ}
+use lib.ListN.{length}
+use Rattle.tables.specs.Tables.{tablesGood}
+use Rattle.run.specs.State.{Setup, State, lengthsOf}
+use Rattle.run.specs.Step.{stepAt}
+use Rattle.run.specs.Run.{stopped, runFrom, run, unmarked, plainRun}
+
+pub run-is : (x : Setup) (s : State) → run x s ≡ cond (tablesGood (lengthsOf x s) (x .tables)) (runFrom (stepAt x) (length (x .kernel)) (length (x .kernel)) 0 0 s) (stopped 13 0 0 s)
+unfolding run
+run-is x s = refl
+
+-- "13 answers 0 and 0", and leaves everything as it was
+pub tables-refused : (x : Setup) (s : State) → tablesGood (lengthsOf x s) (x .tables) ≡ false → run x s ≡ stopped 13 0 0 s
+unfolding run
+tables-refused x s bad = rw bad
+
+-- the plain run is the run of the same bytes with no marks
+pub plain-run-is : (x : Setup) (registers surfaces memory : List ℕ) → plainRun x registers surfaces memory ≡ run x (record { registers = unmarked registers; surfaces = unmarked surfaces; memory = unmarked memory })
+unfolding plainRun
+plain-run-is x registers surfaces memory = refl

@@ -1,0 +1,6 @@
+pub mod State
+pub mod Step
+pub mod Performed
+pub mod Run
+pub mod Ran
+pub mod Show

@@ -1,0 +1,28 @@
+-- What performing a plan, or a step, leaves: a number, where the next instruction begins, and the state.
+use Prim.Native.Nat.{ℕ}
+use Rattle.plan.specs.declared.Plan.{Plan}
+use Rattle.run.specs.declared.Progress.{Progress}
+use Rattle.run.specs.State.{Setup, State}
+use Rattle.run.specs.Step.{planEffect, Stepped, stepAt, after}
+
+pub record Performed : Type 0 where
+  pub number : ℕ
+  pub state : State
+
+abbrev pub performed : ℕ → State → Performed
+performed number s = record { number = number; state = s }
+
+unfoldable pub planPerformed : Setup → Plan → State → Performed
+planPerformed x p s = performed (planEffect x p s .number) (after (planEffect x p s) s)
+
+pub record Advanced : Type 0 where
+  pub number : ℕ
+  pub next : ℕ
+  pub state : State
+
+abbrev pub advanced : Progress → State → Advanced
+advanced r s = record { number = r .number; next = r .next; state = s }
+
+unfoldable pub stepAdvanced : Setup → ℕ → State → Advanced
+stepAdvanced x at s =
+    record { number = stepAt x at s .effect .number; next = stepAt x at s .next; state = after (stepAt x at s .effect) s }

@@ -1,0 +1,50 @@
+-- A run. Document 01, "The numbers given back": "A run answers number, instructions completed and byte position of the refused instruction
+-- (or the end). 13 answers 0 and 0. Earlier instructions stand."
+use Prim.Native.Nat.{ℕ, zero, suc}
+use mathlib.Core.Bool.{cond}
+use mathlib.Core.List.{List}
+use lib.ListN.{length, replicate}
+use lib.Dec.{ltb}
+use Rattle.cells.specs.Buffer.{Buffer}
+use Rattle.tables.specs.Tables.{tablesGood}
+use Rattle.run.specs.declared.Answer.{Answer}
+use Rattle.run.specs.State.{Setup, State, lengthsOf}
+use Rattle.run.specs.Step.{Stepped, stepAt, after}
+
+pub record Outcome : Type 0 where
+  pub answer : Answer
+  pub state : State
+
+abbrev pub outcome : Answer → State → Outcome
+outcome answer s = record { answer = answer; state = s }
+
+abbrev pub stopped : ℕ → ℕ → ℕ → State → Outcome
+stopped number completed position s = record { answer = record { number = number; completed = completed; position = position }; state = s }
+
+-- a step's number decides: 0, and the rest of the run follows the effect; else the run stops with the state as it was
+abbrev pub settled : (ℕ → ℕ → State → Outcome) → ℕ → ℕ → Stepped → State → ℕ → Outcome
+settled rest completed at t s zero = rest (suc completed) (t .next) (after (t .effect) s)
+settled rest completed at t s (suc n) = stopped (suc n) completed at s
+
+-- Of any steps, through a kernel of this length. The fuel bounds the recursion; it is never the reason to stop (`proofs/Fuel.antt`).
+unfoldable pub runFrom : (ℕ → State → Stepped) → ℕ → ℕ → ℕ → ℕ → State → Outcome
+runFrom step end zero completed at s = stopped 0 completed at s
+runFrom step end (suc fuel) completed at s =
+    cond (ltb at end)
+    (settled (λ c a u. runFrom step end fuel c a u) completed at (step at s) s (step at s .effect .number))
+    (stopped 0 completed at s)
+
+-- "13 comes first."
+unfoldable pub run : Setup → State → Outcome
+run x s =
+    cond (tablesGood (lengthsOf x s) (x .tables))
+    (runFrom (stepAt x) (length (x .kernel)) (length (x .kernel)) 0 0 s)
+    (stopped 13 0 0 s)
+
+-- "A plain run equals a marked run with no marks."
+abbrev pub unmarked : List ℕ → Buffer
+unmarked bytes = record { bytes = bytes; taint = replicate (length bytes) 0 }
+
+unfoldable pub plainRun : Setup → List ℕ → List ℕ → List ℕ → Outcome
+plainRun x registers surfaces memory =
+    run x (record { registers = unmarked registers; surfaces = unmarked surfaces; memory = unmarked memory })

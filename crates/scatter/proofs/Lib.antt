@@ -1,0 +1,4 @@
+pub mod Untainted
+pub mod Refusal
+pub mod Plain
+pub mod DataLaws

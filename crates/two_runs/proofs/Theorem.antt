@@ -1,0 +1,69 @@
+-- Demand 3, one claim about whole runs: for every kernel, tables, base and mask, two runs whose marks are equal and whose unmarked bytes
+-- agree give the same answer, whatever it is, and end with equal marks and equal unmarked bytes.
+use mathlib.Core.Path.{_≡_, refl, sym, ap, _∙_}
+use mathlib.Core.Bool.{Bool, true, false, cond}
+use Prim.Native.Nat.{ℕ}
+use lib.ListN.{length, getD}
+use Rattle.cells.specs.Buffer.{Buffer}
+use Rattle.cells.proofs.Untainted.{Agreeing, taint-same}
+use Rattle.tables.specs.Tables.{tablesGood}
+use Rattle.tables.proofs.Laws.{limited}
+use Rattle.run.specs.State.{Setup, State, lengthsOf}
+use Rattle.run.specs.Step.{stepAt}
+use Rattle.run.specs.Run.{Outcome, stopped, runFrom, run}
+use Rattle.run.proofs.Simulation.{runs-same}
+use Rattle.run.proofs.Untainted.{AgreeingStates, step-same}
+use Rattle.run.proofs.Whole.{run-is}
+use Rattle.two_runs.specs.TwoRuns.{Agree, Agrees, SameRun}
+
+to-agreeing : {b c : Buffer} → length (b .taint) ≡ length (b .bytes) → Agree b c → Agreeing b c
+to-agreeing e a =
+    record {
+      taint = e;
+      bytes′ = a .size;
+      taint′ = sym (ap length (a .marks)) ∙ e;
+      cells = λ i. (ap (λ l. getD l i 0) (a .marks), a .unmarked i);
+    }
+
+from-agreeing : {b c : Buffer} → Agreeing b c → Agree b c
+from-agreeing r = record { size = r .bytes′; marks = taint-same r; unmarked = λ i. r .cells i .1 }
+
+lengths-same : (x : Setup) {s u : State} → Agrees s u → lengthsOf x s ≡ lengthsOf x u
+lengths-same x {s} {u} a =
+    λ i.
+    record {
+      kernel = length (x .kernel);
+      registers = sym (a .registers .size) i;
+      surfaces = sym (a .surfaces .size) i;
+      memory = sym (a .memory .size) i;
+      base = x .base;
+      taint = record {
+        registers = ap length (a .registers .marks) i;
+        surfaces = ap length (a .surfaces .marks) i;
+        memory = ap length (a .memory .marks) i;
+      };
+    }
+
+module _ (x : Setup) where
+  -- whether 13 is given or not
+  judged-same : (s u : State) → Agrees s u → (q : Bool) → tablesGood (lengthsOf x s) (x .tables) ≡ q → SameRun (cond q (runFrom (stepAt x) (length (x .kernel)) (length (x .kernel)) 0 0 s) (stopped 13 0 0 s)) (cond q (runFrom (stepAt x) (length (x .kernel)) (length (x .kernel)) 0 0 u) (stopped 13 0 0 u))
+  judged-same s u a true good =
+      let l = limited (lengthsOf x s) (x .tables) good in
+      let r = runs-same AgreeingStates (stepAt x) (stepAt x) (step-same x) (length (x .kernel)) (length (x .kernel)) 0 0 s u (record {
+        registers = to-agreeing (l .registers-taint) (a .registers);
+        surfaces = to-agreeing (l .surfaces-taint) (a .surfaces);
+        memory = to-agreeing (l .memory-taint) (a .memory);
+      }) in
+      record {
+        answer = r .answer;
+        state = record {
+          registers = from-agreeing (r .state .registers);
+          surfaces = from-agreeing (r .state .surfaces);
+          memory = from-agreeing (r .state .memory);
+        };
+      }
+  judged-same s u a false good = record { answer = refl; state = a }
+
+  pub two-runs : (s u : State) → Agrees s u → SameRun (run x s) (run x u)
+  two-runs s u a =
+      rw (run-is x s, run-is x u, ← lengths-same x a) (judged-same s u a (tablesGood (lengthsOf x s) (x .tables)) refl)

@@ -1,0 +1,24 @@
+-- Demand 3's sentence about two marked runs. Document 01, "How marks move": "In demand 3 a byte is unmarked when its mark byte is 0, or is
+-- missing, which gives 13. Marks are equal when every mark byte is. An answer is all the numbers that the run gives back".
+use mathlib.Core.Path.{_≡_}
+use Prim.Native.Nat.{ℕ}
+use lib.ListN.{length, getD}
+use Rattle.cells.specs.Buffer.{Buffer}
+use Rattle.run.specs.State.{State}
+use Rattle.run.specs.Run.{Answer, Outcome}
+
+-- equal lengths and marks, and equal bytes wherever the mark byte is 0 or missing
+pub record Agree (b c : Buffer) : Type 0 where
+  pub size : length (c .bytes) ≡ length (b .bytes)
+  pub marks : b .taint ≡ c .taint
+  pub unmarked : (i : ℕ) → getD (b .taint) i 0 ≡ 0 → getD (b .bytes) i 0 ≡ getD (c .bytes) i 0
+
+pub record Agrees (s u : State) : Type 0 where
+  pub registers : Agree (s .registers) (u .registers)
+  pub surfaces : Agree (s .surfaces) (u .surfaces)
+  pub memory : Agree (s .memory) (u .memory)
+
+-- the same number, completed instructions and position, and states that agree at the end
+pub record SameRun (r q : Outcome) : Type 0 where
+  pub answer : r .answer ≡ q .answer
+  pub state : Agrees (r .state) (q .state)
