@@ -6,7 +6,7 @@ use native.Mathlib.Omega.{arith}
 use lib.Dec.{ltb}
 use Rattle.run.specs.State.{State}
 use Rattle.run.specs.Step.{Stepped, after}
-use Rattle.run.specs.Run.{Answer, Outcome, stopped, settled, runFrom}
+use Rattle.run.specs.Run.{Outcome, stopped, settled, runFrom}
 
 module _ (S : State → State → Type 0) where
   -- the same number and next position, and related states after it
