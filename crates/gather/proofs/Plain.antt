@@ -1,11 +1,11 @@
 -- GATHER_SCALED over registers and surfaces with marks beside ones with the same bytes and no marks: the same bytes, and no marks in the
 -- second.
 use mathlib.Core.Path.{_≡_, refl, ap}
-use mathlib.Core.Bool.{Bool, true, false, _&&_, _||_, and-false}
+use mathlib.Core.Bool.{Bool, false, and-false}
 use mathlib.Core.List.{List}
 use Prim.Native.Nat.{ℕ, zero, suc, _+_}
 use lib.ListN.{getD}
-use Rattle.cells.specs.Buffer.{Buffer, isTainted}
+use Rattle.cells.specs.Buffer.{Buffer}
 use Rattle.cells.proofs.Related.{none, more, each-alike}
 use Rattle.cells.proofs.Plain.{SameBytes, Plainly, PlainWrites, PlainEffects, bytes-same, zero-untainted, untainted-mark}
 use Rattle.plan.specs.declared.Plan.{Plan}

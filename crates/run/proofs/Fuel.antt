@@ -1,6 +1,6 @@
 -- The run's length: fuel is never the reason that a run stops. Every run that is not 13 is told instruction by instruction, up to the
 -- kernel's end or the first refusal; completed and position are those of the instructions that were run.
-use mathlib.Core.Path.{_≡_, refl, sym, ap, _∙_, subst}
+use mathlib.Core.Path.{_≡_, refl, sym, _∙_, subst}
 use mathlib.Core.Logic.{_≢_}
 use mathlib.Core.Bool.{Bool, true, false, cond}
 use Prim.Native.Nat.{ℕ, zero, suc, _+_, _≤_, _<_}

@@ -2,11 +2,11 @@
 -- position, the same bytes after it, and no marks in the second.
 use mathlib.Core.Path.{_≡_, refl}
 use mathlib.Core.Logic.{_≢_}
-use mathlib.Core.Bool.{Bool, true, false, not}
+use mathlib.Core.Bool.{not}
 use Prim.Native.Nat.{ℕ}
 use lib.Dec.{eqb}
 use lib.ListN.{length}
-use Rattle.cells.specs.Effect.{Effect, refused, unless}
+use Rattle.cells.specs.Effect.{Effect, refused}
 use Rattle.cells.proofs.Related.{none, related-after}
 use Rattle.cells.proofs.Plain.{SameBytes, Plainly, PlainEffects, plain-unless}
 use Rattle.decoder.specs.declared.Decoded.{Decoded}
@@ -22,7 +22,7 @@ use Rattle.gather.proofs.Plain.{gather-plain}
 use Rattle.scatter.specs.Scatter.{scatterEffect}
 use Rattle.scatter.proofs.Plain.{scatter-plain}
 use Rattle.run.specs.State.{Setup, State}
-use Rattle.run.specs.Step.{acted, planEffect, Stepped, stepAt, after}
+use Rattle.run.specs.Step.{acted, planEffect, Stepped, stepAt}
 use Rattle.run.proofs.Simulation.{SameStep}
 
 pub record PlainStates (s u : State) : Type 0 where

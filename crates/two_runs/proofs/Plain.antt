@@ -1,9 +1,8 @@
 -- Marks change nothing but marks, and 10: a run lent no marks ends with no marks, and a marked run that answers neither 10 nor 13 gives the
 -- same answer and the same bytes as the plain run of the same kernel and bytes.
-use mathlib.Core.Path.{_≡_, refl, sym, ap, _∙_}
+use mathlib.Core.Path.{_≡_, refl, sym, _∙_}
 use mathlib.Core.Logic.{_≢_}
 use mathlib.Core.Bool.{Bool, true, false, cond}
-use mathlib.Core.List.{List}
 use Prim.Native.Nat.{ℕ, zero, suc}
 use native.Mathlib.Omega.{arith}
 use lib.ListN.{length, getD, replicate, length-replicate}

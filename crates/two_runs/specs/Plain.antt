@@ -3,7 +3,6 @@
 use mathlib.Core.Path.{_≡_}
 use Prim.Native.Nat.{ℕ}
 use lib.ListN.{getD}
-use Rattle.cells.specs.Buffer.{Buffer}
 use Rattle.run.specs.State.{Setup, State}
 use Rattle.run.specs.Run.{Outcome, plainRun}
 
