@@ -33,7 +33,7 @@ pub struct Lanes {
     pub predicate: Predicate,
 }
 
-// The exec byte is split here and nowhere else.
+// What the exec byte means is found here and nowhere else.
 pub fn split(exec: u8) -> Exec
     ensures { λ r. ⌜ r ≡ execOf exec ⌝ }
 {
@@ -47,7 +47,7 @@ pub fn split(exec: u8) -> Exec
     }
 }
 
-// The pred word is split by the next four and nowhere else.
+// What the pred word means is found by the next four and nowhere else.
 pub fn has_predicate(pred: u16) -> bool
     ensures { λ r. ⌜ r ≡ hasPredicate pred ⌝ }
 {

@@ -42,7 +42,7 @@ impl Encoded {
     }
 }
 
-// An encoding that grows field by field. `number` is the first refusal, 0 for none. The longest encoding has 34 bytes.
+// An encoding that grows field by field. `number` is the first refusal, 0 for none. No draft has more than 34 bytes.
 struct Draft {
     number: u8,
     length: usize,

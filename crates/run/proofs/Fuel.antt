@@ -1,4 +1,4 @@
--- The run's length: fuel is never the reason that a run stops. Every run that is not 13 is told instruction by instruction, up to the
+-- The run's length: fuel is never the reason that a run stops. Every run that 13 does not refuse is told instruction by instruction, up to the
 -- kernel's end or the first refusal; completed and position are those of the instructions that were run.
 use mathlib.Core.Path.{_≡_, refl, sym, _∙_, subst}
 use mathlib.Core.Logic.{_≢_}
@@ -74,21 +74,15 @@ step-forward x b at s e = told (instructionAt (x .kernel) at) refl e
     told (decoded.Refused n) q z = absurd (refusal-not-zero (x .kernel) at n b q z)
     told (decoded.Accepted i c) q z = let w = accepted-within (x .kernel) at i c b q in (w .past, w .inside)
 
-module _ (x : Setup) (s : State) (b : Bytes (x .kernel)) where
-  judged-ran : (q : Bool) → cond q (runFrom (stepAt x) (length (x .kernel)) (length (x .kernel)) 0 0 s) (stopped 13 0 0 s) .answer .number ≢ 13 → Ran (stepAt x) (length (x .kernel)) 0 0 s (cond q (runFrom (stepAt x) (length (x .kernel)) (length (x .kernel)) 0 0 s) (stopped 13 0 0 s))
-  judged-ran true h = ran-from (stepAt x) (length (x .kernel)) (step-forward x b) (length (x .kernel)) 0 0 s (omega arith) (omega arith)
-  judged-ran false h = absurd (h refl)
+-- a run whose tables and lengths are good
+module _ (x : Setup) (s : State) (b : Bytes (x .kernel)) (good : tablesGood (lengthsOf x s) (x .tables) ≡ true) where
+  pub run-ran : Ran (stepAt x) (length (x .kernel)) 0 0 s (whole.run x s)
+  run-ran =
+      rw (run-is x s, good)
+      (ran-from (stepAt x) (length (x .kernel)) (step-forward x b) (length (x .kernel)) 0 0 s (omega arith) (omega arith))
 
-  pub run-ran : whole.run x s .answer .number ≢ 13 → Ran (stepAt x) (length (x .kernel)) 0 0 s (whole.run x s)
-  run-ran = rw (run-is x s) (judged-ran (tablesGood (lengthsOf x s) (x .tables)))
-
-module _ (x : Setup) (s : State) (b : Bytes (x .kernel)) where
-  judged-only : (q : Bool) {r : Outcome} → cond q (runFrom (stepAt x) (length (x .kernel)) (length (x .kernel)) 0 0 s) (stopped 13 0 0 s) .answer .number ≢ 13 → Ran (stepAt x) (length (x .kernel)) 0 0 s r → r ≡ cond q (runFrom (stepAt x) (length (x .kernel)) (length (x .kernel)) 0 0 s) (stopped 13 0 0 s)
-  judged-only true h p = ran-only (stepAt x) (length (x .kernel)) (step-forward x b) p (length (x .kernel)) (omega arith)
-  judged-only false h p = absurd (h refl)
-
-  pub run-only : {r : Outcome} → whole.run x s .answer .number ≢ 13 → Ran (stepAt x) (length (x .kernel)) 0 0 s r → r ≡ whole.run x s
-  run-only = rw (run-is x s) (judged-only (tablesGood (lengthsOf x s) (x .tables)))
+  pub run-only : {r : Outcome} → Ran (stepAt x) (length (x .kernel)) 0 0 s r → r ≡ whole.run x s
+  run-only p = rw (run-is x s, good) (ran-only (stepAt x) (length (x .kernel)) (step-forward x b) p (length (x .kernel)) (omega arith))
 
 module _ (step : ℕ → State → Stepped) (end : ℕ) where
   -- done means at the kernel's end
@@ -110,9 +104,9 @@ module _ (step : ℕ → State → Stepped) (end : ℕ) where
   completed-is (refusedAt h e) = omega arith
   completed-is {c} (went h e rest) = completed-is rest ∙ omega arith
 
-module _ (x : Setup) (s : State) (b : Bytes (x .kernel)) (tables : whole.run x s .answer .number ≢ 13) where
+module _ (x : Setup) (s : State) (b : Bytes (x .kernel)) (good : tablesGood (lengthsOf x s) (x .tables) ≡ true) where
   pub run-done-at-end : whole.run x s .answer .number ≡ 0 → whole.run x s .answer .position ≡ length (x .kernel)
-  run-done-at-end = done-at-end (stepAt x) (length (x .kernel)) (run-ran x s b tables)
+  run-done-at-end = done-at-end (stepAt x) (length (x .kernel)) (run-ran x s b good)
 
-  pub run-completed : whole.run x s .answer .completed ≡ wentCount (stepAt x) (length (x .kernel)) (run-ran x s b tables)
-  run-completed = completed-is (stepAt x) (length (x .kernel)) (run-ran x s b tables) ∙ omega arith
+  pub run-completed : whole.run x s .answer .completed ≡ wentCount (stepAt x) (length (x .kernel)) (run-ran x s b good)
+  run-completed = completed-is (stepAt x) (length (x .kernel)) (run-ran x s b good) ∙ omega arith

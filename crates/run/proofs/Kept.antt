@@ -132,9 +132,9 @@ module _ (step : ℕ → State → Stepped) (end : ℕ) where
     pub memory-stays : writesAt (memoryWritten step end p) j ≡ false → Kept (s .memory) (r .state .memory) j
     memory-stays h = rw (ran-memory p) (stays (memoryWritten step end p) (s .memory) j h)
 
-module _ (x : Setup) (s : State) (b : Bytes (x .kernel)) (tables : run x s .answer .number ≢ 13) (j : ℕ) where
-  pub run-registers-stay : writesAt (registersWritten (stepAt x) (length (x .kernel)) (run-ran x s b tables)) j ≡ false → Kept (s .registers) (run x s .state .registers) j
-  run-registers-stay = registers-stay (stepAt x) (length (x .kernel)) (run-ran x s b tables) j
+module _ (x : Setup) (s : State) (b : Bytes (x .kernel)) (good : tablesGood (lengthsOf x s) (x .tables) ≡ true) (j : ℕ) where
+  pub run-registers-stay : writesAt (registersWritten (stepAt x) (length (x .kernel)) (run-ran x s b good)) j ≡ false → Kept (s .registers) (run x s .state .registers) j
+  run-registers-stay = registers-stay (stepAt x) (length (x .kernel)) (run-ran x s b good) j
 
-  pub run-memory-stays : writesAt (memoryWritten (stepAt x) (length (x .kernel)) (run-ran x s b tables)) j ≡ false → Kept (s .memory) (run x s .state .memory) j
-  run-memory-stays = memory-stays (stepAt x) (length (x .kernel)) (run-ran x s b tables) j
+  pub run-memory-stays : writesAt (memoryWritten (stepAt x) (length (x .kernel)) (run-ran x s b good)) j ≡ false → Kept (s .memory) (run x s .state .memory) j
+  run-memory-stays = memory-stays (stepAt x) (length (x .kernel)) (run-ran x s b good) j

@@ -58,7 +58,13 @@ fn part(bytes: &[u8], start: usize, count: usize) -> &[u8]
 }
 
 // A part of the registers or of the memory; an empty part where it runs over the end.
-pub fn show<'a>(registers: &'a [u8], memory: &'a [u8], which: Place, start: usize, count: usize) -> &'a [u8]
+pub fn show<'a>(
+    registers: &'a [u8],
+    memory: &'a [u8],
+    which: Place,
+    start: usize,
+    count: usize,
+) -> &'a [u8]
     ensures { λ r. ⌜ now r ≡ shown which (now (registers .entry)) (now (memory .entry)) start count ⌝ }
 {
     match which {
@@ -79,12 +85,6 @@ pub fn show_number(registers: &[u8], memory: &[u8], which: Place, start: usize, 
                 7
             }
         }
-        Place::Memory => {
-            if inside(memory, start, count) {
-                0
-            } else {
-                7
-            }
-        }
+        Place::Memory => { if inside(memory, start, count) { 0 } else { 7 } }
     }
 }

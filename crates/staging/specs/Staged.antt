@@ -28,6 +28,6 @@ staged registers e lanes base room = writtenAll (each (stageLane registers e bas
 unfoldable pub bothStaged : Buffer → Elements → Elements → ℕ → Buffer
 bothStaged registers left right lanes = staged registers right lanes 128 (staged registers left lanes 0 emptyRoom)
 
--- the elements of so many lanes have room in 128 bytes
+-- at most 32 lanes, elements of at most this size, and together at most 128 bytes
 unfoldable pub elementsFit : ℕ → Elements → ℕ → Bool
 elementsFit size e lanes = leb lanes 32 && leb (e .size) size && leb (lanes * e .size) 128

@@ -22,7 +22,7 @@ table =
     -- "Exec 0x23: size 8, offset 8."
     ∷ (is (execSize 0x23) 8)
     ∷ (is (execOffset 0x23) 8)
-    -- as a run: EM bits 8 to 15 are those of the eight lanes. SHL of 1 by 1 to UB elements, here and in the next four rows
+    -- as a run: EM bits 8 to 15 are those of the eight lanes. SHL of 1 by 1 to UB elements, here and in the next four runs
     ∷ (runs (overRegisters (hex 23 0x2423000000000000000002050401000000050401000000) (tables (4 ∷ []) (0 ∷ []) (32 ∷ []) [] []) (zeros 32) 0xffff5aff)
     (completes 23 (hex 32 0x0002000202000200000000000000000000000000000000000000000000000000)))
     -- "0x15: 8 (4+32)."
@@ -39,10 +39,10 @@ table =
     -- "any, size 8, bits 0x80, EM 0x01: only lane 0 on."
     ∷ (runs (overRegisters (hex 23 0x2403002000000000000002050401000000050401000000) (tables (4 ∷ []) (0 ∷ []) (32 ∷ []) (0x80 ∷ []) []) (zeros 32) 0x1)
     (completes 23 (hex 32 0x0200000000000000000000000000000000000000000000000000000000000000)))
-    -- "UB 0x81 by 1: UB 0x02, ..
+    -- "UB 0x81 by 1: UB 0x02, .."
     ∷ (runs (overRegisters (hex 24 0x240000000001000000000200000000002101050401000000) (tables (4 ∷ 4 ∷ []) (0 ∷ 16 ∷ []) (1 ∷ 1 ∷ []) [] []) (hex 32 0x8100000000000000000000000000000000000000000000000000000000000000) 0x1)
     (completes 24 (hex 32 0x8100000000000000000000000000000002000000000000000000000000000000)))
-    -- .. UW 0x0102."
+    -- ".. UW 0x0102."
     ∷ (runs (overRegisters (hex 24 0x240000000001000000000200000000002101050401000000) (tables (4 ∷ 2 ∷ []) (0 ∷ 16 ∷ []) (1 ∷ 1 ∷ []) [] []) (hex 32 0x8100000000000000000000000000000000000000000000000000000000000000) 0x1)
     (completes 24 (hex 32 0x8100000000000000000000000000000002010000000000000000000000000000)))
     -- "B 0x81 into W: 0xff02." (by 1)
