@@ -75,17 +75,20 @@ step-forward x b at s e = told (instructionAt (x .kernel) at) refl e
     told (decoded.Accepted i c) q z = let w = accepted-within (x .kernel) at i c b q in (w .past, w .inside)
 
 module _ (x : Setup) (s : State) (b : Bytes (x .kernel)) where
-  judged-ran : (q : Bool) → cond q (runFrom (stepAt x) (length (x .kernel)) (length (x .kernel)) 0 0 s) (stopped 13 0 0 s) .answer .number ≢ 13 → Ran (stepAt x) (length (x .kernel)) 0 0 s (cond q (runFrom (stepAt x) (length (x .kernel)) (length (x .kernel)) 0 0 s) (stopped 13 0 0 s))
+  abbrev judged : Bool → Outcome
+  judged q = cond q (runFrom (stepAt x) (length (x .kernel)) (length (x .kernel)) 0 0 s) (stopped 13 0 0 s)
+
+  judged-ran : (q : Bool) → judged q .answer .number ≢ 13 → Ran (stepAt x) (length (x .kernel)) 0 0 s (judged q)
   judged-ran true h = ran-from (stepAt x) (length (x .kernel)) (step-forward x b) (length (x .kernel)) 0 0 s (omega arith) (omega arith)
   judged-ran false h = absurd (h refl)
 
-  pub run-ran : whole.run x s .answer .number ≢ 13 → Ran (stepAt x) (length (x .kernel)) 0 0 s (whole.run x s)
-  run-ran = rw (run-is x s) (judged-ran (tablesGood (lengthsOf x s) (x .tables)))
-
-module _ (x : Setup) (s : State) (b : Bytes (x .kernel)) where
-  judged-only : (q : Bool) {r : Outcome} → cond q (runFrom (stepAt x) (length (x .kernel)) (length (x .kernel)) 0 0 s) (stopped 13 0 0 s) .answer .number ≢ 13 → Ran (stepAt x) (length (x .kernel)) 0 0 s r → r ≡ cond q (runFrom (stepAt x) (length (x .kernel)) (length (x .kernel)) 0 0 s) (stopped 13 0 0 s)
+  judged-only : (q : Bool) {r : Outcome} → judged q .answer .number ≢ 13 → Ran (stepAt x) (length (x .kernel)) 0 0 s r → r ≡ judged q
   judged-only true h p = ran-only (stepAt x) (length (x .kernel)) (step-forward x b) p (length (x .kernel)) (omega arith)
   judged-only false h p = absurd (h refl)
+
+  -- every run that is not 13 is told so, and the telling has no other outcome
+  pub run-ran : whole.run x s .answer .number ≢ 13 → Ran (stepAt x) (length (x .kernel)) 0 0 s (whole.run x s)
+  run-ran = rw (run-is x s) (judged-ran (tablesGood (lengthsOf x s) (x .tables)))
 
   pub run-only : {r : Outcome} → whole.run x s .answer .number ≢ 13 → Ran (stepAt x) (length (x .kernel)) 0 0 s r → r ≡ whole.run x s
   run-only = rw (run-is x s) (judged-only (tablesGood (lengthsOf x s) (x .tables)))
@@ -113,6 +116,9 @@ module _ (step : ℕ → State → Stepped) (end : ℕ) where
 module _ (x : Setup) (s : State) (b : Bytes (x .kernel)) (tables : whole.run x s .answer .number ≢ 13) where
   pub run-done-at-end : whole.run x s .answer .number ≡ 0 → whole.run x s .answer .position ≡ length (x .kernel)
   run-done-at-end = done-at-end (stepAt x) (length (x .kernel)) (run-ran x s b tables)
+
+  pub run-refused-inside : whole.run x s .answer .number ≢ 0 → (whole.run x s .answer .position < length (x .kernel)) × (stepAt x (whole.run x s .answer .position) (whole.run x s .state) .effect .number ≡ whole.run x s .answer .number)
+  run-refused-inside = refused-inside (stepAt x) (length (x .kernel)) (run-ran x s b tables)
 
   pub run-completed : whole.run x s .answer .completed ≡ wentCount (stepAt x) (length (x .kernel)) (run-ran x s b tables)
   run-completed = completed-is (stepAt x) (length (x .kernel)) (run-ran x s b tables) ∙ omega arith
