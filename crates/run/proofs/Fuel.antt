@@ -108,5 +108,8 @@ module _ (x : Setup) (s : State) (b : Bytes (x .kernel)) (good : tablesGood (len
   pub run-done-at-end : whole.run x s .answer .number ≡ 0 → whole.run x s .answer .position ≡ length (x .kernel)
   run-done-at-end = done-at-end (stepAt x) (length (x .kernel)) (run-ran x s b good)
 
+  pub run-refused-inside : whole.run x s .answer .number ≢ 0 → (whole.run x s .answer .position < length (x .kernel)) × (stepAt x (whole.run x s .answer .position) (whole.run x s .state) .effect .number ≡ whole.run x s .answer .number)
+  run-refused-inside = refused-inside (stepAt x) (length (x .kernel)) (run-ran x s b good)
+
   pub run-completed : whole.run x s .answer .completed ≡ wentCount (stepAt x) (length (x .kernel)) (run-ran x s b good)
   run-completed = completed-is (stepAt x) (length (x .kernel)) (run-ran x s b good) ∙ omega arith
