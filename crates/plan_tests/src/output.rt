@@ -1,0 +1,25 @@
+// What the tests write to standard output: text, numbers in decimal, words in hex.
+
+pub fn text(s: &[u8]) {
+    io::write_all(1, s);
+}
+
+// A space and a number.
+pub fn number(n: u64) {
+    text(b" ");
+    io::print_decimal(1, n);
+}
+
+// A space and a word in hex.
+pub fn word(v: u32) {
+    text(b" ");
+    io::print_hex(1, v as u64, 8);
+}
+
+pub fn flag(v: bool) {
+    if v {
+        text(b" 1");
+    } else {
+        text(b" 0");
+    }
+}
