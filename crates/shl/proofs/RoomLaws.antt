@@ -1,7 +1,7 @@
 -- A lane worked out from the room, where both sources are staged and fit, is the lane worked out from the registers.
-use Prim.Native.Nat.{ℕ, _<_, _≤_}
-use mathlib.Core.Path.{_≡_, refl, sym, ap, ap₂, _∙_}
-use mathlib.Core.Bool.{Bool, true, false, _&&_, _||_, false≢true}
+use Prim.Native.Nat.{ℕ, _<_}
+use mathlib.Core.Path.{_≡_, sym, ap, ap₂}
+use mathlib.Core.Bool.{Bool, true, _&&_}
 use native.Mathlib.Omega.{arith}
 use lib.Dec.{leb}
 use lib.ListN.{getD}
@@ -12,10 +12,10 @@ use Rattle.channels.specs.Exec.{execSize, execOf}
 use Rattle.channels.specs.declared.Exec.{Exec}
 use Rattle.shift.proofs.ShiftLaws.{total-is}
 use Rattle.plan.specs.declared.Plan.{Plan}
-use Rattle.staging.specs.Sources.{elementValue, elementTainted}
+use Rattle.staging.specs.Sources.{elementValue}
 use Rattle.staging.specs.Staged.{elementsFit, bothStaged}
 use Rattle.staging.proofs.SourceLaws.{either-is}
-use Rattle.staging.proofs.FitLaws.{fit-size}
+use Rattle.staging.proofs.FitLaws.{all-three, fit-size}
 use Rattle.staging.proofs.BothLaws.{stands-element, left-stands, right-stands}
 use Rattle.shl.specs.Shl.{shlValue, shlMark, shlLane}
 use Rattle.shl.specs.FromRoom.{roomValue, roomTainted, roomLane}
@@ -25,12 +25,6 @@ use Rattle.shl.specs.Guarded.{shlFits}
 pub fits-told : (p : Plan) (exec : Exec) (l r : Bool) → exec ≡ execOf (p .control .exec) → l ≡ elementsFit 4 (p .left) (exec .size) → r ≡ elementsFit 4 (p .right) (exec .size) → (l && r && leb (p .payload .size) 4) ≡ shlFits p
 unfolding shlFits
 fits-told p exec l r e f g = rw (f, g, e)
-
-all-three : (a b c : Bool) → (a && b && c) ≡ true → (a ≡ true) × (b ≡ true) × (c ≡ true)
-all-three true true true e = (refl, refl, refl)
-all-three true true false e = absurd (false≢true e)
-all-three true false c e = absurd (false≢true e)
-all-three false b c e = absurd (false≢true e)
 
 module _ (p : Plan) (fit : shlFits p ≡ true) where
   parts : (elementsFit 4 (p .left) (execSize (p .control .exec)) ≡ true) × (elementsFit 4 (p .right) (execSize (p .control .exec)) ≡ true) × (leb (p .payload .size) 4 ≡ true)
