@@ -1,6 +1,5 @@
 pub mod Untainted
 pub mod DwordLaws
 pub mod AddressLaws
-pub mod LaneLaws
 pub mod RoomLaws
 pub mod GuardLaws
