@@ -4,6 +4,5 @@ pub mod Plain
 pub mod MarkLaws
 pub mod DwordLaws
 pub mod AddressLaws
-pub mod LaneLaws
 pub mod RoomLaws
 pub mod GuardLaws

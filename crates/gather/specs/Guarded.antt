@@ -1,4 +1,5 @@
--- A gather whose offsets have room. Every plan that `check` makes fits, so the guard is never the reason of an answer.
+-- A gather of every plan, also of one that no check makes. A plan of `check` has offsets of 4 bytes and at most 32 lanes, so that it always
+-- fits, and the guard is never the reason of an answer.
 use Prim.Native.Nat.{ℕ}
 use mathlib.Core.Bool.{Bool, not, _&&_}
 use Rattle.cells.specs.Buffer.{Buffer}
@@ -13,6 +14,5 @@ use Rattle.gather.specs.Gather.{gatherEffect}
 unfoldable pub gatherFits : Plan → Bool
 gatherFits p = elementsFit 4 (p .left) (execSize (p .control .exec)) && elementsFit 4 (p .right) (execSize (p .control .exec))
 
--- the mask is the paper's EM
 unfoldable pub gatherGuarded : ℕ → Plan → Buffer → Buffer → Effect
 gatherGuarded mask p registers surfaces = unless (not (gatherFits p)) 7 (gatherEffect p (lanesOn mask p) registers surfaces)

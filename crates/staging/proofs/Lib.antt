@@ -1,4 +1,5 @@
 pub mod LanesOnLaws
+pub mod LaneTurnLaws
 pub mod Products
 pub mod StageLaws
 pub mod StagedLaws

@@ -11,8 +11,8 @@ use Rattle.cells.proofs.LaneLaws.{lanes-turn, lanes-over}
 use Rattle.channels.specs.Lanes.{laneOn}
 use Rattle.channels.proofs.LaneLaws.{lane-told}
 use Rattle.staging.specs.Lanes.{lanesOn}
+use Rattle.staging.proofs.LaneTurnLaws.{lanes-on-begun, lane-asked}
 use Rattle.shl.specs.FromRoom.{roomLane}
-use Rattle.shl.proofs.LaneLaws.{lanes-on-begun, lane-asked}
 use Rattle.shl.proofs.write_lanes.Statement.{statement}
 use Rattle.shl.proofs.write_lanes.Tie as tie
 
