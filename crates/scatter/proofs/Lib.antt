@@ -1,1 +1,6 @@
+pub mod WindowLaws
+pub mod TargetLaws
+pub mod FoundLaws
+pub mod RankLaws
+pub mod PairLaws
 pub mod Untainted
