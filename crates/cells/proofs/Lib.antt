@@ -4,8 +4,10 @@ pub mod StayLaws
 pub mod NumberLaws
 pub mod TaintLaws
 pub mod CopyLaws
+pub mod NumberWriteLaws
 pub mod AmongLaws
 pub mod LaneLaws
+pub mod LaneStayLaws
 pub mod SearchLaws
 pub mod Related
 pub mod Untainted

@@ -1,1 +1,6 @@
+pub mod Products
+pub mod StageLaws
+pub mod StagedLaws
+pub mod FitLaws
+pub mod BothLaws
 pub mod Untainted

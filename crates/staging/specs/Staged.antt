@@ -24,6 +24,10 @@ stageLane registers e base lane =
 unfoldable pub staged : Buffer → Elements → ℕ → ℕ → Buffer → Buffer
 staged registers e lanes base room = writtenAll (each (stageLane registers e base) (among (λ _. true) lanes)) room
 
+-- both sources of an instruction, the left one from byte 0 on and the right one from byte 128 on
+unfoldable pub bothStaged : Buffer → Elements → Elements → ℕ → Buffer
+bothStaged registers left right lanes = staged registers right lanes 128 (staged registers left lanes 0 emptyRoom)
+
 -- the elements of so many lanes have room in 128 bytes
 unfoldable pub elementsFit : ℕ → Elements → ℕ → Bool
 elementsFit size e lanes = leb lanes 32 && leb (e .size) size && leb (lanes * e .size) 128
