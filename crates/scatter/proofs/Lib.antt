@@ -3,4 +3,8 @@ pub mod TargetLaws
 pub mod FoundLaws
 pub mod RankLaws
 pub mod PairLaws
+pub mod WrittenLaws
+pub mod SourceLaws
+pub mod SameWrites
+pub mod RoomLaws
 pub mod Untainted

@@ -3,9 +3,10 @@
 use Prim.Native.Nat.{ℕ, _+_, _*_, _-_}
 use mathlib.Core.Bool.{Bool, _||_}
 use mathlib.Core.List.{List, []}
+use lib.ListN.{getD}
 use Rattle.cells.specs.Buffer.{Buffer, anyTainted}
 use Rattle.cells.specs.Element.{element}
-use Rattle.cells.specs.Writes.{Write, copyWrites}
+use Rattle.cells.specs.Writes.{Write, writtenAll, copyWrites}
 use Rattle.cells.specs.Over.{among, each, some}
 use Rattle.cells.specs.Effect.{Effect, unless}
 use Rattle.channels.specs.Exec.{execSize}
@@ -13,6 +14,7 @@ use Rattle.channels.specs.Prepared.{isOn}
 use Rattle.channels.specs.declared.Lanes.{Lanes}
 use Rattle.plan.specs.declared.Plan.{Plan}
 use Rattle.plan.specs.Needed.{enabledBelow, channelStride}
+use Rattle.staging.specs.Staged.{bothStaged}
 use Rattle.scatter.specs.Scatter.{Window, channelsOn, targetAddress}
 use Rattle.scatter.specs.declared.Rule.{Rule}
 use Rattle.scatter.specs.declared.Rule.the-variants as rule
@@ -49,6 +51,13 @@ rowBreaks rule room p lanes c = some (λ i. breaks rule (roomTarget room p c i))
 
 unfoldable pub someBreaks : Rule → List ℕ → Plan → Lanes → Bool
 someBreaks rule room p lanes = some (rowBreaks rule room p lanes) (channelsOn p)
+
+-- how the room comes to hold them: both addresses' elements, and 64 dwords of Src, which is the most that four channels take, in two halves
+unfoldable pub sourcesStaged : Buffer → Plan → Buffer
+sourcesStaged registers p =
+    writtenAll (copyWrites registers (getD (p .payload .at) 0 0 + 128) 384 128)
+    (writtenAll (copyWrites registers (getD (p .payload .at) 0 0) 256 128)
+    (bothStaged registers (p .left) (p .right) (execSize (p .control .exec))))
 
 unfoldable pub roomEffect : Window → Plan → Lanes → Buffer → Effect
 roomEffect w p lanes room =

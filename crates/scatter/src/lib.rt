@@ -1,11 +1,13 @@
 // SVM SCATTER4_SCALED: each enabled channel of each enabled lane writes a dword to memory.
 use channels::Lanes;
+use operands::Elements;
 use plan::Plan;
+use staging::Room;
 ghost use mathlib.Core.Path.{_≡_};
 ghost use mathlib.Core.Bool.{cond, _&&_};
 ghost use mathlib.Core.List.{[]};
 ghost use Prim.Native.Nat.{_-_, _≤_};
-ghost use lib.ListN.{length};
+ghost use lib.ListN.{length, getD};
 ghost use Rattle.cells.specs.Buffer.{buffer};
 ghost use Rattle.cells.specs.Writes.{writtenAll};
 ghost use Rattle.cells.specs.Over.{each, some};
@@ -15,7 +17,7 @@ ghost use Rattle.plan.specs.Needed.{enabledBelow};
 ghost use Rattle.scatter.specs.Scatter.{channelsOn, outside};
 ghost use Rattle.scatter.specs.Guarded.{scatterFits, scatterGuarded};
 ghost use Rattle.scatter.specs.Rules.{breaks};
-ghost use Rattle.scatter.specs.Room.{roomTarget, roomTainted, roomByte, roomPair, preparedOn, rowWrites, someBreaks, roomEffect};
+ghost use Rattle.scatter.specs.Room.{roomTarget, roomTainted, roomByte, roomPair, preparedOn, rowWrites, someBreaks, sourcesStaged, roomEffect};
 
 // Where the sources stand in the room: Address from byte 0 on, and these two.
 const OFFSETS: u16 = 128;
@@ -56,8 +58,8 @@ fn target(room: &[u8], plan: Plan, channel: u8, lane: u8) -> u64
 {
     let left = plan.left;
     let right = plan.right;
-    let address = staging::staged_number(room, left, 0, lane);
-    let element = staging::staged_number(room, right, OFFSETS, lane);
+    let address = staging::staged_number(room, left, staging::LEFT, lane);
+    let element = staging::staged_number(room, right, staging::RIGHT, lane);
     let first = std::num::wrapping_add_u64(address, element);
     std::num::wrapping_add_u64(first, 4 * (channel as u64))
 }
@@ -68,8 +70,8 @@ fn lane_tainted(taint: &[u8], plan: Plan, lanes: Lanes, lane: u8) -> bool
     let left = plan.left;
     let right = plan.right;
     if lanes.on(lane as usize) {
-        staging::staged_taint(taint, left, 0, lane)
-            | staging::staged_taint(taint, right, OFFSETS, lane)
+        staging::staged_taint(taint, left, staging::LEFT, lane)
+            | staging::staged_taint(taint, right, staging::RIGHT, lane)
     } else {
         false
     }
@@ -289,4 +291,78 @@ fn from_room(
     }
     write_pairs(room, room_taint, plan, lanes, base, memory, memory_taint);
     0
+}
+
+// Whether the lanes are no more than 16, and the elements of both addresses have room.
+fn fits(plan: Plan) -> bool
+    ensures { λ r. ⌜ r ≡ scatterFits plan ⌝ }
+{
+    let lanes = channels::split(plan.control.exec).size;
+    let left = plan.left;
+    let right = plan.right;
+    (lanes <= 16) & (staging::elements_fit(8, left, lanes) & staging::elements_fit(8, right, lanes))
+}
+
+// The register byte where an operand begins.
+fn first_byte(elements: Elements) -> u32
+    ensures { λ r. ⌜ r ≡ getD (elements .at) 0 0 ⌝ }
+{
+    let at = elements.at;
+    at[0]
+}
+
+// All sources: the addresses' elements, and the 64 dwords that are the most that four channels take, in two halves.
+fn stage_sources(registers: &[u8], register_taint: &[u8], plan: Plan) -> Room
+    ensures { λ r. ⌜ buffer (r .bytes) (r .taint) ≡ sourcesStaged (buffer (now (registers .entry)) (now («register_taint» .entry))) plan ⌝ }
+{
+    let lanes = channels::split(plan.control.exec).size;
+    let left = plan.left;
+    let right = plan.right;
+    let source = plan.payload;
+    let at = first_byte(source) as usize;
+    let room = staging::stage_both(registers, register_taint, left, right, lanes);
+    let mut bytes = room.bytes;
+    let mut taint = room.taint;
+    cells::copy(
+        registers,
+        register_taint,
+        at,
+        &mut bytes,
+        &mut taint,
+        SOURCE,
+        128,
+    );
+    cells::copy(
+        registers,
+        register_taint,
+        at + 128,
+        &mut bytes,
+        &mut taint,
+        SOURCE + 128,
+        128,
+    );
+    Room { bytes, taint }
+}
+
+// The number of a refusal, or 0 with the dwords written; 7 for a plan that no check makes.
+pub fn scatter(
+    plan: Plan,
+    mask: u32,
+    base: u64,
+    registers: &[u8],
+    register_taint: &[u8],
+    memory: &mut [u8],
+    memory_taint: &mut [u8],
+) -> u8
+    ensures { λ r. ⌜ (r ≡ scatterGuarded (record { base = base; length = length (now (memory .entry)) }) mask plan (buffer (now (registers .entry)) (now («register_taint» .entry))) .number) × (buffer (now (memory .exit)) (now («memory_taint» .exit)) ≡ writtenAll (scatterGuarded (record { base = base; length = length (now (memory .entry)) }) mask plan (buffer (now (registers .entry)) (now («register_taint» .entry))) .memory) (buffer (now (memory .entry)) (now («memory_taint» .entry)))) ⌝ }
+{
+    if !fits(plan) {
+        return 7;
+    }
+    let control = plan.control;
+    let lanes = channels::lanes_of(control.exec, control.pred, mask, plan.bits);
+    let room = stage_sources(registers, register_taint, plan);
+    let bytes = room.bytes;
+    let taint = room.taint;
+    from_room(&bytes, &taint, plan, lanes, base, memory, memory_taint)
 }

@@ -3,4 +3,5 @@ pub mod StageLaws
 pub mod StagedLaws
 pub mod FitLaws
 pub mod BothLaws
+pub mod EitherLaws
 pub mod Untainted

@@ -106,6 +106,7 @@ pub fn stage(
 
 // Where the left and the right source begin.
 pub const LEFT: u16 = 0;
+
 pub const RIGHT: u16 = 128;
 
 // Both sources of an instruction.
