@@ -9,5 +9,6 @@ pub mod AmongLaws
 pub mod LaneLaws
 pub mod LaneStayLaws
 pub mod SearchLaws
+pub mod EffectLaws
 pub mod Related
 pub mod Untainted

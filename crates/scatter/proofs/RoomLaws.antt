@@ -30,7 +30,7 @@ use Rattle.staging.specs.Staged.{elementsFit, bothStaged}
 use Rattle.staging.proofs.StagedLaws.{Stands, kept-stands}
 use Rattle.staging.proofs.FitLaws.{fit-size, fit-bytes}
 use Rattle.staging.proofs.BothLaws.{stands-element, both-bytes, both-taint, left-stands, right-stands}
-use Rattle.staging.proofs.EitherLaws.{either-is}
+use Rattle.staging.proofs.SourceLaws.{either-is}
 use Rattle.scatter.specs.declared.Rule.{Rule}
 use Rattle.scatter.specs.declared.Rule.the-variants as rule
 use Rattle.scatter.specs.Scatter.{Window, channelsOn, targetAddress, target, sourceByte, scatterPair, scatterEffect}

@@ -1,1 +1,4 @@
+pub mod RoomLaws
+pub mod LaneLaws
+pub mod GuardLaws
 pub mod Untainted

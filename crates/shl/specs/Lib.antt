@@ -1,1 +1,3 @@
 pub mod Shl
+pub mod FromRoom
+pub mod Guarded

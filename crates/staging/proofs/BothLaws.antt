@@ -1,19 +1,18 @@
 -- Both sources in the room, where they fit: each lane's two elements stand there, as the registers had them.
 use Prim.Native.Nat.{ℕ, _+_, _*_, _≤_, _<_}
-use mathlib.Core.Path.{_≡_, _∙_, sym}
+use mathlib.Core.Path.{_≡_, _∙_}
 use mathlib.Core.Logic.{inl}
 use mathlib.Core.Bool.{true}
 use native.Mathlib.Nat.{mul-le-mul-right}
 use native.Mathlib.Omega.{arith}
 use lib.ListN.{length, length-replicate}
-use Rattle.cells.specs.Buffer.{Buffer, anyTainted}
+use Rattle.cells.specs.Buffer.{Buffer}
 use Rattle.cells.specs.Element.{element}
 use Rattle.cells.proofs.NumberLaws.{element-is}
-use Rattle.cells.proofs.CopyLaws.{Room}
 use Rattle.operands.specs.declared.Elements.{Elements}
-use Rattle.staging.specs.Sources.{elementValue, elementTainted}
+use Rattle.staging.specs.Sources.{elementValue}
 use Rattle.staging.specs.Staged.{emptyRoom, staged, elementsFit, bothStaged}
-use Rattle.staging.proofs.FitLaws.{fit-size, fit-bytes}
+use Rattle.staging.proofs.FitLaws.{fit-bytes}
 use Rattle.staging.proofs.StagedLaws.{Stands, staged-bytes, staged-taint, staged-stands, stands-after}
 
 -- a lane's element as code reads it

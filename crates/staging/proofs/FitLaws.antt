@@ -7,7 +7,8 @@ use borrow.Author.Tests.{leb-true}
 use Rattle.operands.specs.declared.Elements.{Elements}
 use Rattle.staging.specs.Staged.{elementsFit}
 
-all-three : (a b c : Bool) → (a && b && c) ≡ true → (a ≡ true) × (b ≡ true) × (c ≡ true)
+-- the parts of a test in three parts
+pub all-three : (a b c : Bool) → (a && b && c) ≡ true → (a ≡ true) × (b ≡ true) × (c ≡ true)
 all-three true true true e = (refl, refl, refl)
 all-three true true false e = absurd (false≢true e)
 all-three true false c e = absurd (false≢true e)

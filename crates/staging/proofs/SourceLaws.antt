@@ -1,4 +1,4 @@
--- The taint of two elements, taken apart.
+-- The taint of two sources is that of either.
 use Prim.Native.Nat.{ℕ}
 use mathlib.Core.Path.{_≡_, refl}
 use mathlib.Core.Bool.{_||_}

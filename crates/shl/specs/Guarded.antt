@@ -1,0 +1,21 @@
+-- SHL of every plan, also of one that no check makes. A plan of `check` has integer elements of at most 4 bytes and at most 32 lanes, so that
+-- it always fits, and the guard is never the reason of an answer.
+use Prim.Native.Nat.{ℕ}
+use mathlib.Core.Bool.{Bool, not, _&&_}
+use lib.Dec.{leb}
+use Rattle.cells.specs.Buffer.{Buffer}
+use Rattle.cells.specs.Effect.{Effect, unless}
+use Rattle.channels.specs.Exec.{execSize}
+use Rattle.plan.specs.declared.Plan.{Plan}
+use Rattle.staging.specs.Lanes.{lanesOn}
+use Rattle.staging.specs.Staged.{elementsFit}
+use Rattle.shl.specs.Shl.{shlEffect}
+
+unfoldable pub shlFits : Plan → Bool
+shlFits p =
+    elementsFit 4 (p .left) (execSize (p .control .exec))
+    && elementsFit 4 (p .right) (execSize (p .control .exec))
+    && leb (p .payload .size) 4
+
+unfoldable pub shlGuarded : ℕ → Plan → Buffer → Effect
+shlGuarded mask p registers = unless (not (shlFits p)) 7 (shlEffect p (lanesOn mask p) registers)
