@@ -7,4 +7,6 @@ pub mod WrittenLaws
 pub mod SourceLaws
 pub mod SameWrites
 pub mod RoomLaws
+pub mod OrderLaws
+pub mod GuardLaws
 pub mod Untainted

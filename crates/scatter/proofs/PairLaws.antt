@@ -1,10 +1,10 @@
 -- Where the loops over lanes and channels begin and end, in the words of `Room`.
-use Prim.Native.Nat.{ℕ, _-_, _≤_}
+use Prim.Native.Nat.{ℕ, _-_}
 use mathlib.Core.Path.{_≡_, ap, _∙_}
-use mathlib.Core.Bool.{Bool, _||_}
+use mathlib.Core.Bool.{Bool}
 use mathlib.Core.List.{List}
 use Rattle.cells.specs.Over.{amongFrom, among, some}
-use Rattle.cells.proofs.SearchLaws.{some-begun, some-all}
+use Rattle.cells.proofs.SearchLaws.{some-begun}
 use Rattle.channels.specs.Bits.{bit}
 use Rattle.channels.specs.Exec.{execSize}
 use Rattle.channels.specs.Prepared.{isOn}

@@ -1,5 +1,5 @@
 -- Copies of the same bytes, from two places, write the same.
-use Prim.Native.Nat.{ℕ, zero, suc, _+_, _-_, _≤_, _<_}
+use Prim.Native.Nat.{ℕ, zero, suc, _+_, _-_, _<_}
 use mathlib.Core.Path.{_≡_, sym, ap₂, _∙_}
 use mathlib.Core.List.{_∷_}
 use native.Mathlib.Nat.{add-zero, sub-zero}

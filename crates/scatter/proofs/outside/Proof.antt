@@ -1,5 +1,4 @@
 -- `scatter::outside` meets its contract: each test settles the window.
-use borrow.Author.Needs.{needs}
 use Rattle.scatter.proofs.outside.Statement.{statement}
 use Rattle.scatter.proofs.outside.Tie as tie
 use Rattle.scatter.proofs.WindowLaws.{window-short, window-before, window-told}
