@@ -73,7 +73,7 @@ pub fn predicate_inverse(pred: u16) -> bool
 }
 
 // Bit n of a word, 0 past its end.
-fn bit_at(word: u32, n: usize) -> bool
+pub fn bit_at(word: u32, n: usize) -> bool
     ensures { λ r. ⌜ r ≡ bit word n ⌝ }
 {
     if n < 32 { (word >> n) % 2 == 1 } else { false }

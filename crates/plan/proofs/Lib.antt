@@ -2,3 +2,4 @@ pub mod TestLaws
 pub mod ScatterLaws
 pub mod PlanLaws
 pub mod Worked
+pub mod ChannelLaws

@@ -1,3 +1,14 @@
+pub mod WindowLaws
+pub mod TargetLaws
+pub mod FoundLaws
+pub mod RankLaws
+pub mod PairLaws
+pub mod WrittenLaws
+pub mod SourceLaws
+pub mod SameWrites
+pub mod RoomLaws
+pub mod OrderLaws
+pub mod GuardLaws
 pub mod Untainted
 pub mod Refusal
 pub mod Plain

@@ -22,6 +22,16 @@ stands-element registers e base lane room small s = element-is (e .size) (room .
 zeros : length (emptyRoom .bytes) ≡ 512
 zeros = length-replicate {A = ℕ} 512 0
 
+-- the room keeps its length
+module _ (registers : Buffer) (left right : Elements) (lanes : ℕ) where
+  pub both-bytes : length (bothStaged registers left right lanes .bytes) ≡ 512
+  unfolding bothStaged
+  both-bytes = staged-bytes registers right 128 lanes (staged registers left lanes 0 emptyRoom) ∙ staged-bytes registers left 0 lanes emptyRoom ∙ zeros
+
+  pub both-taint : length (bothStaged registers left right lanes .taint) ≡ 512
+  unfolding bothStaged
+  both-taint = staged-taint registers right 128 lanes (staged registers left lanes 0 emptyRoom) ∙ staged-taint registers left 0 lanes emptyRoom ∙ zeros
+
 module _ (registers : Buffer) (left right : Elements) (size lanes : ℕ) (l : elementsFit size left lanes ≡ true) (r : elementsFit size right lanes ≡ true) (lane : ℕ) (h : lane < lanes) where
   abbrev first : Buffer
   first = staged registers left lanes 0 emptyRoom

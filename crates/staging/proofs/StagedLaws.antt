@@ -27,7 +27,7 @@ pub record Stands (registers : Buffer) (e : Elements) (base lane : ℕ) (room : 
   pub taint : anyTainted (room .taint) (base + lane * e .size) (e .size) ≡ elementTainted (registers .taint) e lane
 
 -- what is the same in all bytes of the element stands there too
-kept-stands : (registers : Buffer) (e : Elements) (base lane : ℕ) (b c : Buffer) → ((k : ℕ) → k < e .size → Kept b c (base + lane * e .size + k)) → Stands registers e base lane b → Stands registers e base lane c
+pub kept-stands : (registers : Buffer) (e : Elements) (base lane : ℕ) (b c : Buffer) → ((k : ℕ) → k < e .size → Kept b c (base + lane * e .size + k)) → Stands registers e base lane b → Stands registers e base lane c
 kept-stands registers e base lane b c kept s =
     let at = base + lane * e .size in
     record {
