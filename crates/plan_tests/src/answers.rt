@@ -158,8 +158,8 @@ pub fn instruction(line: &[u8], variables: &[u8], predicates: &[u8], surfaces: &
         Decoded::Accepted(instruction, _) => {
             planned(plan_of(instruction, variables, predicates, surfaces));
         }
-        Decoded::Refused(_) => {
-            output::text(b" not decoded");
+        Decoded::Refused(number) => {
+            output::number(number as u64);
         }
     }
     output::text(b"\n");
