@@ -44,7 +44,7 @@ loop-again c =
     let l = t .before .loop in
     let s = t .before .before in
     let told = lane-told _ _ _ _ (l .lane) _ _ (s .before .lanes-of .ensures) (g .before .before .before .on .ensures) in
-    (omega arith, lanes-turn _ _ (l .lane) _ _ _ _ (t .loop-test .taken) (lane-asked _ _ _ _ _ told (g .gather-lane .ensures)) (l .inv .1), search needs, search needs)
+    (omega arith, lanes-turn _ _ (l .lane) _ _ _ _ _ (t .loop-test .taken) told (g .gather-lane .ensures) (l .inv .1), search needs, search needs)
 
 returns : tie.Need-returns Inv-loop μ-loop
 returns c =

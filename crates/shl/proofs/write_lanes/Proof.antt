@@ -36,7 +36,7 @@ loop-again c =
     let t = o .before in
     let l = t .before .loop in
     let told = lane-told _ _ _ _ (l .lane) _ _ (t .before .before .lanes-of .ensures) (o .on .ensures) in
-    (omega arith, lanes-turn _ _ (l .lane) _ _ _ _ (t .loop-test .taken) (lane-asked _ _ _ _ _ told (w .write-lane .ensures)) (l .inv .1), search needs, search needs)
+    (omega arith, lanes-turn _ _ (l .lane) _ _ _ _ _ (t .loop-test .taken) told (w .write-lane .ensures) (l .inv .1), search needs, search needs)
 
 returns : tie.Need-returns Inv-loop μ-loop
 returns c =
