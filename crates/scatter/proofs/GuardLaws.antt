@@ -18,7 +18,7 @@ use Rattle.staging.specs.Lanes.{lanesOn}
 use Rattle.staging.proofs.LanesOnLaws.{lanes-on-are}
 use Rattle.scatter.specs.Scatter.{Window, scatterEffect}
 use Rattle.scatter.specs.Guarded.{scatterFits, scatterGuarded}
-use Rattle.scatter.specs.Room.{preparedOn, sourcesStaged, roomEffect}
+use Rattle.scatter.specs.FromRoom.{preparedOn, sourcesStaged, roomEffect}
 use Rattle.scatter.proofs.OrderLaws.{Answers, refusal-answers, same-answers}
 use Rattle.scatter.proofs.RoomLaws.{from-room-is}
 

@@ -12,7 +12,7 @@ use Rattle.channels.specs.declared.Lanes.{Lanes}
 use Rattle.plan.specs.declared.Plan.{Plan}
 use Rattle.scatter.specs.declared.Rule.the-variants as rule
 use Rattle.scatter.specs.Scatter.{Window, channelsOn}
-use Rattle.scatter.specs.Room.{roomTainted, preparedOn, rowWrites, someBreaks, roomEffect}
+use Rattle.scatter.specs.FromRoom.{roomTainted, preparedOn, rowWrites, someBreaks, roomEffect}
 
 -- a call that answers with an effect's number and makes its memory writes
 abbrev pub Answers : Effect → ℕ → Buffer → Buffer → Type 0

@@ -1,4 +1,4 @@
--- Where the loops over lanes and channels begin and end, in the words of `Room`.
+-- Where the searches over lanes and channels begin, in the words of `FromRoom`.
 use Prim.Native.Nat.{ℕ, _-_}
 use mathlib.Core.Path.{_≡_, ap, _∙_}
 use mathlib.Core.Bool.{Bool}
@@ -13,7 +13,7 @@ use Rattle.plan.specs.declared.Plan.{Plan}
 use Rattle.scatter.specs.declared.Rule.{Rule}
 use Rattle.scatter.specs.Scatter.{channelsOn}
 use Rattle.scatter.specs.Rules.{breaks}
-use Rattle.scatter.specs.Room.{roomTarget, preparedOn, rowBreaks, someBreaks}
+use Rattle.scatter.specs.FromRoom.{roomTarget, preparedOn, rowBreaks, someBreaks}
 
 module _ (p : Plan) (lanes : Lanes) (count : ℕ) (size : count ≡ execSize (p .control .exec)) where
   pub lanes-search : (test : ℕ → Bool) → some test (amongFrom (isOn lanes) 0 (count - 0)) ≡ some test (preparedOn p lanes)

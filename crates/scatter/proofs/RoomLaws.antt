@@ -36,7 +36,7 @@ use Rattle.scatter.specs.declared.Rule.the-variants as rule
 use Rattle.scatter.specs.Scatter.{Window, channelsOn, targetAddress, target, sourceByte, scatterPair, scatterEffect}
 use Rattle.scatter.specs.Guarded.{scatterFits}
 use Rattle.scatter.specs.Rules.{breaks}
-use Rattle.scatter.specs.Room.{roomTarget, roomTainted, roomByte, roomPair, preparedOn, rowWrites, rowBreaks, someBreaks, sourcesStaged, roomEffect}
+use Rattle.scatter.specs.FromRoom.{roomTarget, roomTainted, roomByte, roomPair, preparedOn, rowWrites, rowBreaks, someBreaks, sourcesStaged, roomEffect}
 use Rattle.scatter.proofs.SameWrites.{same-writes}
 
 all-three : (a b c : Bool) → (a && (b && c)) ≡ true → (a ≡ true) × (b ≡ true) × (c ≡ true)

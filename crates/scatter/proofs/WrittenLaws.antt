@@ -14,7 +14,7 @@ use Rattle.channels.specs.Prepared.{isOn}
 use Rattle.channels.specs.declared.Lanes.{Lanes}
 use Rattle.plan.specs.declared.Plan.{Plan}
 use Rattle.scatter.specs.Scatter.{channelsOn}
-use Rattle.scatter.specs.Room.{roomTarget, roomByte, roomPair, preparedOn, rowWrites}
+use Rattle.scatter.specs.FromRoom.{roomTarget, roomByte, roomPair, preparedOn, rowWrites}
 
 -- what was asked is on: the writes are made
 pub on-written : (asked on : Bool) (ws : List Write) (b b′ : Buffer) → on ≡ asked → on ≡ true → b′ ≡ writtenAll ws b → b′ ≡ writtenAll (cond asked ws []) b

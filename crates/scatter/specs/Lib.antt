@@ -1,4 +1,4 @@
 pub mod Scatter
 pub mod Guarded
 pub mod Rules
-pub mod Room
+pub mod FromRoom

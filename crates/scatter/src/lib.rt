@@ -17,7 +17,7 @@ ghost use Rattle.plan.specs.Needed.{enabledBelow};
 ghost use Rattle.scatter.specs.Scatter.{channelsOn, outside};
 ghost use Rattle.scatter.specs.Guarded.{scatterFits, scatterGuarded};
 ghost use Rattle.scatter.specs.Rules.{breaks};
-ghost use Rattle.scatter.specs.Room.{roomTarget, roomTainted, roomByte, roomPair, preparedOn, rowWrites, someBreaks, sourcesStaged, roomEffect};
+ghost use Rattle.scatter.specs.FromRoom.{roomTarget, roomTainted, roomByte, roomPair, preparedOn, rowWrites, someBreaks, sourcesStaged, roomEffect};
 
 // Where the sources stand in the room: Address from byte 0 on, and these two.
 const OFFSETS: u16 = 128;
@@ -53,7 +53,7 @@ fn breaks(rule: Rule, address: u64) -> bool
 }
 
 // The address that a channel of a lane goes to, modulo 2^64.
-fn target(room: &[u8], plan: Plan, channel: u8, lane: u8) -> u64
+fn target_of(room: &[u8], plan: Plan, channel: u8, lane: u8) -> u64
     ensures { λ r. ⌜ r ≡ roomTarget (now (room .entry)) plan channel lane ⌝ }
 {
     let left = plan.left;
@@ -95,7 +95,7 @@ fn lane_breaks(room: &[u8], plan: Plan, lanes: Lanes, rule: Rule, channel: u8, l
     ensures { λ r. ⌜ r ≡ (isOn lanes lane && breaks rule (roomTarget (now (room .entry)) plan channel lane)) ⌝ }
 {
     if lanes.on(lane as usize) {
-        breaks(rule, target(room, plan, channel, lane))
+        breaks(rule, target_of(room, plan, channel, lane))
     } else {
         false
     }
@@ -176,7 +176,7 @@ fn write_lane(
 {
     if lanes.on(lane as usize) {
         let from = source_place(plan, channel, lane);
-        let to = memory_place(base, target(room, plan, channel, lane));
+        let to = memory_place(base, target_of(room, plan, channel, lane));
         cells::copy(room, room_taint, from, memory, memory_taint, to, 4);
     }
 }

@@ -6,7 +6,7 @@ use Rattle.scatter.proofs.lane_breaks.Tie as tie
 returns : tie.Need-returns
 returns c =
     let b = c .before .before in
-    rw (← b .before .on .ensures, b .if1 .taken, ← c .before .target .ensures, ← c .breaks .ensures)
+    rw (← b .before .on .ensures, b .if1 .taken, ← c .before .target-of .ensures, ← c .breaks .ensures)
 
 returns-2 : tie.Need-returns-2
 returns-2 c = rw (← c .before .on .ensures, c .if1 .left)

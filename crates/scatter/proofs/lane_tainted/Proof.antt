@@ -2,7 +2,7 @@
 use borrow.Author.Needs.{needs}
 use Rattle.scatter.proofs.lane_tainted.Statement.{statement}
 use Rattle.scatter.proofs.lane_tainted.Tie as tie
-use Rattle.scatter.specs.Room.{roomTainted}
+use Rattle.scatter.specs.FromRoom.{roomTainted}
 
 returns : tie.Need-returns
 unfolding roomTainted

@@ -13,7 +13,7 @@ use Rattle.channels.specs.Bits.{bit}
 use Rattle.channels.specs.Prepared.{isOn}
 use Rattle.channels.specs.declared.Exec.{Exec}
 use Rattle.scatter.specs.Rules.{breaks}
-use Rattle.scatter.specs.Room.{roomTarget, rowBreaks, someBreaks}
+use Rattle.scatter.specs.FromRoom.{roomTarget, rowBreaks, someBreaks}
 use Rattle.scatter.proofs.FoundLaws.{some-found}
 use Rattle.scatter.proofs.PairLaws.{row-search, channel-search}
 

@@ -10,7 +10,7 @@ use Rattle.cells.specs.Over.{amongFrom, some}
 use Rattle.cells.proofs.SearchLaws.{some-more, some-all}
 use Rattle.channels.specs.Prepared.{isOn}
 use Rattle.channels.specs.declared.Exec.{Exec}
-use Rattle.scatter.specs.Room.{roomTainted, preparedOn}
+use Rattle.scatter.specs.FromRoom.{roomTainted, preparedOn}
 use Rattle.scatter.proofs.PairLaws.{lanes-search}
 
 abbrev Inv-loop : tie.InvT-loop

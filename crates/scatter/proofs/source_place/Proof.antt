@@ -4,7 +4,7 @@ use Rattle.scatter.proofs.source_place.Statement.{statement}
 use Rattle.scatter.proofs.source_place.Tie as tie
 use native.Mathlib.Omega.{arith}
 use Rattle.staging.proofs.Products.{product-small}
-use Rattle.scatter.specs.Room.{roomByte}
+use Rattle.scatter.specs.FromRoom.{roomByte}
 
 mul-result : tie.Need-mul-result
 mul-result c = omega (arith, product-small (c .before .rank .result) (c .channel-stride .result) (omega arith) (omega arith))

@@ -10,7 +10,7 @@ returns c =
     let a = m .before .before .before in
     let t = a .before .before .before in
     on-written _ _ _ _ _ (t .before .on .ensures) (t .if1 .taken)
-    (pair-written _ _ _ _ _ _ _ _ _ _ (a .before .before .source-place .ensures) (a .before .target .ensures) (a .memory-place .ensures) (m .copy .ensures))
+    (pair-written _ _ _ _ _ _ _ _ _ _ (a .before .before .source-place .ensures) (a .before .target-of .ensures) (a .memory-place .ensures) (m .copy .ensures))
 
 returns-2 : tie.Need-returns-2
 returns-2 c = off-written _ _ _ _ (c .before .on .ensures) (c .if1 .left)

@@ -10,7 +10,7 @@ use Rattle.cells.specs.Over.{amongFrom, each}
 use Rattle.cells.proofs.LaneLaws.{lanes-turn, lanes-over}
 use Rattle.channels.specs.Bits.{bit}
 use Rattle.scatter.specs.Scatter.{channelsOn}
-use Rattle.scatter.specs.Room.{rowWrites}
+use Rattle.scatter.specs.FromRoom.{rowWrites}
 use Rattle.scatter.proofs.WrittenLaws.{rows-written}
 use Rattle.scatter.proofs.write_pairs.Statement.{statement}
 use Rattle.scatter.proofs.write_pairs.Tie as tie

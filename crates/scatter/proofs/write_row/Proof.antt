@@ -12,7 +12,7 @@ use Rattle.cells.specs.Over.{amongFrom, each}
 use Rattle.cells.proofs.LaneLaws.{lanes-turn, lanes-over}
 use Rattle.channels.specs.Prepared.{isOn}
 use Rattle.channels.specs.declared.Exec.{Exec}
-use Rattle.scatter.specs.Room.{roomPair, rowWrites}
+use Rattle.scatter.specs.FromRoom.{roomPair, rowWrites}
 use Rattle.scatter.proofs.WrittenLaws.{row-written}
 
 abbrev Inv-loop : tie.InvT-loop
