@@ -1,12 +1,12 @@
 -- The bytes of a line, by their places, and the line written for them.
 use mathlib.Core.Path.{_≡_, refl, ap, _∙_}
-use mathlib.Core.List.{List, [], _∷_}
+use mathlib.Core.List.{List, [], _∷_, _++_}
 use Prim.Native.Nat.{ℕ, zero, suc, _+_, _*_, _/_, _%_, _-_, _<_, _≤_}
 use native.Mathlib.Omega.{arith}
 use lib.ListN.{length, getD, drop, length-drop, List·getD-eq-default}
 use Rattle.little_endian.specs.LittleEndian.{numberAt}
 use Rattle.little_endian.proofs.Laws.{number-more}
-use Rattle.hex.specs.Digits.{digitOf}
+use Rattle.hex.specs.Digits.{digitOf, characterOf}
 use Rattle.hex.specs.Bytes.{hexBytes, hexOf}
 use Rattle.hex.proofs.DigitLaws.{digit-character}
 
@@ -56,3 +56,17 @@ pub length-written : (bs : List ℕ) → length (hexOf bs) ≡ 2 * length bs
 unfolding hexOf
 length-written [] = refl
 length-written (b ∷ bs) = ap (λ (n : ℕ). suc (suc n)) (length-written bs) ∙ omega arith
+
+-- what is written for bytes, one after the other
+pub hex-none : hexOf [] ≡ []
+unfolding hexOf
+hex-none = refl
+
+pub hex-more : (b : ℕ) (bs : List ℕ) → hexOf (b ∷ bs) ≡ characterOf (b / 16) ∷ characterOf (b % 16) ∷ hexOf bs
+unfolding hexOf
+hex-more b bs = refl
+
+pub hex-append : (a b : List ℕ) → hexOf (a ++ b) ≡ hexOf a ++ hexOf b
+unfolding hexOf
+hex-append [] b = refl
+hex-append (x ∷ a) b = ap (λ (l : List ℕ). characterOf (x / 16) ∷ characterOf (x % 16) ∷ l) (hex-append a b)

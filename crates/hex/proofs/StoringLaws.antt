@@ -63,3 +63,11 @@ stored-not bs buffer at e = (sym e, sym (stored-none bs buffer at e))
 
 pub place-room : (bs : List ℕ) (from at n room : ℕ) → n ≡ length (drop from bs) → at ≤ room → n ≤ room - at → at + (length bs - from) ≤ room
 place-room bs from at n room e h k = omega (arith, length-drop from bs)
+
+pub placed-none : (buffer : List ℕ) (at : ℕ) → placed buffer at [] ≡ buffer
+unfolding placed
+placed-none buffer at = refl
+
+pub placed-more : (buffer : List ℕ) (at b : ℕ) (bs : List ℕ) → placed buffer at (b ∷ bs) ≡ placed (set buffer at b) (suc at) bs
+unfolding placed
+placed-more buffer at b bs = refl
