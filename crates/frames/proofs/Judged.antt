@@ -1,5 +1,5 @@
 -- Each line is judged: it is good and counted, or it is bad and its number stands. After a bad line nothing changes.
-use mathlib.Core.Path.{_≡_, refl, sym, ap, _∙_}
+use mathlib.Core.Path.{_≡_, refl}
 use mathlib.Core.Logic.{_⊎_, inl, inr}
 use mathlib.Core.Bool.{false, _&&_}
 use mathlib.Core.List.{List}
