@@ -15,7 +15,7 @@ use Rattle.frames.specs.Reading.{Reading, Contents}
 use Rattle.frames.specs.Lines.{next, badLine, longLine, goodLine, metOf, lengthOf, counted, sized, based, masked}
 use Rattle.frames.specs.Repeated.{Variables, variables, variableRead, Predicates, predicates, predicateRead, Surfaces, surfaces, surfaceRead}
 use Rattle.frames.specs.Once.{Kept, kept, contentRead, memoryRead, maskRead, Once, once, onceRead}
-use Rattle.frames.specs.Frames.{frameRead, lineRead, longRead}
+use Rattle.frames.specs.Frames.{frameRead, lineRead}
 
 -- the first of two cases had no bad line
 abbrev pub Judged : Case → Case → Type 0
@@ -94,17 +94,17 @@ module _ (r : Reading) (h : r .case .bad ≡ 0) where
       rw none-bad
       (cond-both JudgedReading (isHex line) (λ _. frame-judged (getD (hexBytes line) 0 0) (hexBytes line)) (λ _. inr refl))
 
-  pub long-judged : Judged (r .case) (longRead r .case)
-  unfolding longRead longLine badLine
+  pub long-judged : Judged (r .case) (longLine (r .case))
+  unfolding longLine badLine
   long-judged = rw none-bad (inr refl)
 
 pub line-stays : (line : List ℕ) (r : Reading) → 0 < r .case .bad → lineRead line r ≡ r
 unfolding lineRead
 line-stays line r h = rw (lt-ltb 0 (r .case .bad) h)
 
-pub long-stays : (r : Reading) → 0 < r .case .bad → longRead r ≡ r
-unfolding longRead longLine
-long-stays r h = rw (lt-ltb 0 (r .case .bad) h)
+pub long-stays : (c : Case) → 0 < c .bad → longLine c ≡ c
+unfolding longLine
+long-stays c h = rw (lt-ltb 0 (c .bad) h)
 
 -- the number of a line, as long as it fits a ud
 pub next-is : (lines : ℕ) → lines < 4294967295 → next lines ≡ lines + 1

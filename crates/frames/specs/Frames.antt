@@ -7,7 +7,7 @@ use lib.Dec.{ltb, eqb}
 use lib.ListN.{getD}
 use Rattle.hex.specs.Bytes.{isHex, hexBytes}
 use Rattle.frames.specs.Reading.{Reading, reading, contents, tables, only}
-use Rattle.frames.specs.Lines.{badLine, longLine}
+use Rattle.frames.specs.Lines.{badLine}
 use Rattle.frames.specs.Repeated.{Variables, variables, variableRead, Predicates, predicates, predicateRead, Surfaces, surfaces, surfaceRead}
 use Rattle.frames.specs.Once.{Once, once, onceRead}
 
@@ -37,7 +37,3 @@ unfoldable pub lineRead : List ℕ → Reading → Reading
 lineRead line r =
     cond (ltb 0 (r .case .bad)) r
     (cond (isHex line) (frameRead (getD (hexBytes line) 0 0) (hexBytes line) r) (only (badLine (r .case)) r))
-
--- a line that is too long
-unfoldable pub longRead : Reading → Reading
-longRead r = only (longLine (r .case)) r

@@ -1,0 +1,5 @@
+pub mod FeedingLaws
+pub mod RowLaws
+pub mod TextLaws
+pub mod FirstBad
+pub mod Worked
