@@ -22,8 +22,28 @@ pub fn start() -> State
     }
 }
 
-// The first characters of a buffer.
-fn first(buffer: &[u8], count: usize) -> &[u8]
+// The first elements of a buffer; all of them if there are fewer.
+pub fn first_bytes(buffer: &[u8], count: usize) -> &[u8]
+    ensures { λ r. ⌜ now r ≡ take count (now (buffer .entry)) ⌝ }
+{
+    if count <= buffer.len() {
+        &buffer[..count]
+    } else {
+        buffer
+    }
+}
+
+pub fn first_words(buffer: &[u16], count: usize) -> &[u16]
+    ensures { λ r. ⌜ now r ≡ take count (now (buffer .entry)) ⌝ }
+{
+    if count <= buffer.len() {
+        &buffer[..count]
+    } else {
+        buffer
+    }
+}
+
+pub fn first_dwords(buffer: &[u32], count: usize) -> &[u32]
     ensures { λ r. ⌜ now r ≡ take count (now (buffer .entry)) ⌝ }
 {
     if count <= buffer.len() {
@@ -60,7 +80,7 @@ fn end_line(
         }
     } else {
         let c = frames::take_line(
-            first(line, state.used),
+            first_bytes(line, state.used),
             registers,
             memory,
             kernel,
