@@ -1,0 +1,10 @@
+-- A count past the end takes the whole buffer.
+use mathlib.Core.Path.{_≡_}
+use mathlib.Core.List.{List}
+use Prim.Native.Nat.{ℕ, _<_}
+use native.Mathlib.Omega.{arith}
+use lib.ListN.{length, take}
+use lib.Seq.{take-all}
+
+pub take-past : (n : ℕ) (l : List ℕ) → length l < n → take n l ≡ l
+take-past n l h = take-all n l (omega arith)

@@ -1,0 +1,125 @@
+-- Whole case files, computed: document 01's own, and one of each way to be bad.
+use mathlib.Core.Path.{_≡_, refl}
+use mathlib.Core.Bool.{false}
+use mathlib.Core.List.{List, [], _∷_}
+use Prim.Native.Nat.{ℕ}
+use lib.ListN.{replicate}
+use Rattle.little_endian.specs.LittleEndian.{numberAt}
+use Rattle.hex.specs.Digits.{isDecimal, isLetter, isDigit, digitOf, allDigits}
+use Rattle.hex.specs.Bytes.{isHex, hexBytes}
+use Rattle.hex.specs.Storing.{placed, fits, stored}
+use Rattle.frames.specs.Reading.{Reading, reading, contents, tables}
+use Rattle.frames.specs.Lines.{nothing, next, badLine, longLine, goodLine, metOf, lengthOf, counted, sized, based, masked}
+use Rattle.frames.specs.Repeated.{variableRead, predicateRead, surfaceRead}
+use Rattle.frames.specs.Once.{contentRead, memoryRead, maskRead, onceRead}
+use Rattle.frames.specs.Frames.{frameRead, lineRead}
+use Rattle.frames.specs.Verdicts.{verdict, verdictOf, taintLength}
+use Rattle.feeding.specs.Text.{linesFrom, linesOf, anyLineRead, linesRead, textRead}
+
+-- small buffers of zeros, as the caller has them: 32 bytes for registers and kernel, two variables, one predicate, one surface of 4 bytes
+abbrev zeros : Reading
+zeros =
+    reading nothing
+    (contents (replicate 32 0) (replicate 4 0) (replicate 32 0) (replicate 32 0) (replicate 4 0) (replicate 4 0))
+    (tables (replicate 2 0) (replicate 2 0) (replicate 2 0) (replicate 1 0) (replicate 4 0) (replicate 1 0))
+
+-- "Whole case, input then output": the input
+abbrev paper : List ℕ
+paper =
+    48 ∷ 49 ∷ 48 ∷ 49 ∷ 48 ∷ 48 ∷ 48 ∷ 50 ∷ 48 ∷ 48 ∷ 48 ∷ 51 ∷ 48 ∷ 48 ∷ 48 ∷ 52 ∷ 48 ∷ 48 ∷ 48 ∷ 53 ∷ 48 ∷ 48 ∷ 48 ∷ 54 ∷ 48 ∷ 48 ∷ 48 ∷ 55 ∷ 48 ∷ 48 ∷ 48 ∷ 56 ∷ 48 ∷ 48 ∷ 48 ∷ 48 ∷ 48 ∷ 48 ∷ 48 ∷ 48 ∷
+    48 ∷ 48 ∷ 48 ∷ 48 ∷ 48 ∷ 48 ∷ 48 ∷ 48 ∷ 48 ∷ 48 ∷ 48 ∷ 48 ∷ 48 ∷ 48 ∷ 48 ∷ 48 ∷ 48 ∷ 48 ∷ 48 ∷ 48 ∷ 48 ∷ 48 ∷ 48 ∷ 48 ∷ 48 ∷ 48 ∷ 10 ∷ 48 ∷ 50 ∷ 48 ∷ 50 ∷ 48 ∷ 48 ∷ 48 ∷ 48 ∷ 48 ∷ 56 ∷ 48 ∷ 48 ∷ 10 ∷
+    48 ∷ 50 ∷ 48 ∷ 50 ∷ 49 ∷ 48 ∷ 48 ∷ 48 ∷ 48 ∷ 56 ∷ 48 ∷ 48 ∷ 10 ∷ 48 ∷ 54 ∷ 48 ∷ 102 ∷ 48 ∷ 48 ∷ 48 ∷ 48 ∷ 48 ∷ 48 ∷ 10 ∷ 48 ∷ 55 ∷ 50 ∷ 52 ∷ 48 ∷ 51 ∷ 48 ∷ 48 ∷ 48 ∷ 48 ∷ 48 ∷ 48 ∷ 48 ∷ 49 ∷ 48 ∷ 48 ∷
+    48 ∷ 48 ∷ 48 ∷ 48 ∷ 48 ∷ 48 ∷ 48 ∷ 50 ∷ 48 ∷ 48 ∷ 48 ∷ 48 ∷ 48 ∷ 48 ∷ 48 ∷ 48 ∷ 48 ∷ 48 ∷ 53 ∷ 53 ∷ 48 ∷ 50 ∷ 48 ∷ 53 ∷ 48 ∷ 50 ∷ 48 ∷ 49 ∷ 48 ∷ 48 ∷ 48 ∷ 48 ∷ 48 ∷ 48 ∷ 10 ∷ 48 ∷ 56 ∷ 48 ∷ 48 ∷ 48 ∷
+    48 ∷ 48 ∷ 49 ∷ 48 ∷ 48 ∷ 48 ∷ 48 ∷ 48 ∷ 48 ∷ 48 ∷ 48 ∷ 48 ∷ 48 ∷ 48 ∷ 48 ∷ 48 ∷ 48 ∷ 48 ∷ 48 ∷ 48 ∷ 48 ∷ 48 ∷ 48 ∷ 48 ∷ 48 ∷ 48 ∷ 48 ∷ 48 ∷ 48 ∷ 48 ∷ 48 ∷ 48 ∷ 48 ∷ 48 ∷ 48 ∷ 48 ∷ 48 ∷ 48 ∷ 48 ∷ 48 ∷
+    48 ∷ 48 ∷ 48 ∷ 48 ∷ 48 ∷ 48 ∷ 48 ∷ 48 ∷ 48 ∷ 48 ∷ 48 ∷ 48 ∷ 48 ∷ 48 ∷ 48 ∷ 48 ∷ 48 ∷ 48 ∷ 48 ∷ 48 ∷ 48 ∷ 10 ∷ []
+
+-- six lines; 01, 06, 07, 08 once, 02 twice; EM 0x0f; register and kernel bytes, the taint of register byte 2
+paper-read : textRead 16386 paper zeros ≡
+    reading (record { lines = 6; bad = 0; full = false; met = 0 ∷ 1 ∷ 2 ∷ 0 ∷ 0 ∷ 0 ∷ 1 ∷ 1 ∷ 1 ∷ 0 ∷ 0 ∷ []; lengths = 0 ∷ 32 ∷ 0 ∷ 0 ∷ 0 ∷ 0 ∷ 0 ∷ 24 ∷ 32 ∷ 0 ∷ 0 ∷ []; base = 0; mask = 15 })
+    (contents (1 ∷ 0 ∷ 2 ∷ 0 ∷ 3 ∷ 0 ∷ 4 ∷ 0 ∷ 5 ∷ 0 ∷ 6 ∷ 0 ∷ 7 ∷ 0 ∷ 8 ∷ 0 ∷ 0 ∷ 0 ∷ 0 ∷ 0 ∷ 0 ∷ 0 ∷ 0 ∷ 0 ∷ 0 ∷ 0 ∷ 0 ∷ 0 ∷ 0 ∷ 0 ∷ 0 ∷ 0 ∷ [])
+    (replicate 4 0)
+    (36 ∷ 3 ∷ 0 ∷ 0 ∷ 0 ∷ 1 ∷ 0 ∷ 0 ∷ 0 ∷ 0 ∷ 2 ∷ 0 ∷ 0 ∷ 0 ∷ 0 ∷ 0 ∷ 85 ∷ 2 ∷ 5 ∷ 2 ∷ 1 ∷ 0 ∷ 0 ∷ 0 ∷ 0 ∷ 0 ∷ 0 ∷ 0 ∷ 0 ∷ 0 ∷ 0 ∷ 0 ∷ [])
+    (0 ∷ 0 ∷ 1 ∷ 0 ∷ 0 ∷ 0 ∷ 0 ∷ 0 ∷ 0 ∷ 0 ∷ 0 ∷ 0 ∷ 0 ∷ 0 ∷ 0 ∷ 0 ∷ 0 ∷ 0 ∷ 0 ∷ 0 ∷ 0 ∷ 0 ∷ 0 ∷ 0 ∷ 0 ∷ 0 ∷ 0 ∷ 0 ∷ 0 ∷ 0 ∷ 0 ∷ 0 ∷ [])
+    (replicate 4 0) (replicate 4 0))
+    (tables (2 ∷ 2 ∷ []) (0 ∷ 16 ∷ []) (8 ∷ 8 ∷ []) (replicate 1 0) (replicate 4 0) (replicate 1 0))
+unfolding numberAt isDecimal isLetter isDigit digitOf allDigits isHex hexBytes placed fits stored nothing next badLine longLine goodLine metOf lengthOf counted sized based masked variableRead predicateRead surfaceRead contentRead memoryRead maskRead onceRead frameRead lineRead linesFrom linesOf anyLineRead linesRead textRead verdictOf
+paper-read = refl
+
+record Row : Type 0 where
+  text : List ℕ
+  number : ℕ
+  position : ℕ
+
+abbrev row : List ℕ → ℕ → ℕ → Row
+row text number position = record { text = text; number = number; position = position }
+
+-- texts with lines of at most 40 characters, and what they come to
+abbrev rows : List Row
+rows =
+    -- the empty input
+    row ([]) 0 0
+    -- a bare kind, no 0x0a
+    ∷ row (48 ∷ 49 ∷ []) 0 0
+    -- a lone 0x0a
+    ∷ row (10 ∷ []) 14 1
+    -- an empty second line
+    ∷ row (48 ∷ 49 ∷ 10 ∷ 10 ∷ []) 14 2
+    -- the second 07
+    ∷ row (48 ∷ 55 ∷ 10 ∷ 48 ∷ 55 ∷ []) 14 2
+    -- an odd number of digits
+    ∷ row (48 ∷ 49 ∷ 10 ∷ 48 ∷ 49 ∷ 48 ∷ []) 14 2
+    -- upper case
+    ∷ row (48 ∷ 65 ∷ 10 ∷ []) 14 1
+    -- g
+    ∷ row (48 ∷ 103 ∷ []) 14 1
+    -- a carriage return
+    ∷ row (48 ∷ 49 ∷ 13 ∷ 10 ∷ []) 14 1
+    -- kind 0b
+    ∷ row (48 ∷ 98 ∷ []) 14 1
+    -- kind 00
+    ∷ row (48 ∷ 48 ∷ []) 14 1
+    -- a variable of four bytes
+    ∷ row (48 ∷ 50 ∷ 48 ∷ 50 ∷ 48 ∷ 48 ∷ 48 ∷ 48 ∷ 48 ∷ 56 ∷ 10 ∷ []) 14 1
+    -- a predicate of three bytes
+    ∷ row (48 ∷ 51 ∷ 48 ∷ 49 ∷ 48 ∷ 48 ∷ 48 ∷ 48 ∷ []) 14 1
+    -- EM of five bytes
+    ∷ row (48 ∷ 54 ∷ 48 ∷ 49 ∷ 48 ∷ 48 ∷ 48 ∷ 48 ∷ 48 ∷ 48 ∷ 48 ∷ 48 ∷ []) 14 1
+    -- a base of seven bytes
+    ∷ row (48 ∷ 53 ∷ 48 ∷ 48 ∷ 48 ∷ 48 ∷ 48 ∷ 48 ∷ 48 ∷ 48 ∷ 48 ∷ 48 ∷ 48 ∷ 48 ∷ 48 ∷ 48 ∷ []) 14 1
+    -- a base and no memory
+    ∷ row (48 ∷ 53 ∷ 48 ∷ 48 ∷ 48 ∷ 48 ∷ 48 ∷ 48 ∷ 48 ∷ 48 ∷ 48 ∷ 48 ∷ 48 ∷ 48 ∷ 48 ∷ 48 ∷ 48 ∷ 48 ∷ []) 0 0
+    -- a third variable
+    ∷ row (48 ∷ 50 ∷ 48 ∷ 50 ∷ 48 ∷ 48 ∷ 48 ∷ 48 ∷ 48 ∷ 56 ∷ 48 ∷ 48 ∷ 10 ∷ 48 ∷ 50 ∷ 48 ∷ 50 ∷ 48 ∷ 48 ∷ 48 ∷ 48 ∷ 48 ∷ 56 ∷ 48 ∷ 48 ∷ 10 ∷ 48 ∷ 50 ∷ 48 ∷ 50 ∷ 48 ∷ 48 ∷ 48 ∷ 48 ∷ 48 ∷ 56 ∷ 48 ∷ 48 ∷ 10 ∷ []) 13 0
+    -- and a bad line behind it
+    ∷ row (48 ∷ 50 ∷ 48 ∷ 50 ∷ 48 ∷ 48 ∷ 48 ∷ 48 ∷ 48 ∷ 56 ∷ 48 ∷ 48 ∷ 10 ∷ 48 ∷ 50 ∷ 48 ∷ 50 ∷ 48 ∷ 48 ∷ 48 ∷ 48 ∷ 48 ∷ 56 ∷ 48 ∷ 48 ∷ 10 ∷ 48 ∷ 50 ∷ 48 ∷ 50 ∷ 48 ∷ 48 ∷ 48 ∷ 48 ∷ 48 ∷ 56 ∷ 48 ∷ 48 ∷ 10 ∷ 120 ∷ []) 14 4
+    -- a second surface
+    ∷ row (48 ∷ 52 ∷ 48 ∷ 49 ∷ 10 ∷ 48 ∷ 52 ∷ 48 ∷ 50 ∷ []) 13 0
+    -- a surface of five bytes
+    ∷ row (48 ∷ 52 ∷ 48 ∷ 49 ∷ 48 ∷ 50 ∷ 48 ∷ 51 ∷ 48 ∷ 52 ∷ 48 ∷ 53 ∷ []) 13 0
+    -- memory of five bytes
+    ∷ row (48 ∷ 53 ∷ 48 ∷ 48 ∷ 48 ∷ 48 ∷ 48 ∷ 48 ∷ 48 ∷ 48 ∷ 48 ∷ 48 ∷ 48 ∷ 48 ∷ 48 ∷ 48 ∷ 48 ∷ 48 ∷ 48 ∷ 49 ∷ 48 ∷ 50 ∷ 48 ∷ 51 ∷ 48 ∷ 52 ∷ 48 ∷ 53 ∷ []) 13 0
+    -- 41 characters
+    ∷ row (48 ∷ 48 ∷ 48 ∷ 48 ∷ 48 ∷ 48 ∷ 48 ∷ 48 ∷ 48 ∷ 48 ∷ 48 ∷ 48 ∷ 48 ∷ 48 ∷ 48 ∷ 48 ∷ 48 ∷ 48 ∷ 48 ∷ 48 ∷ 48 ∷ 48 ∷ 48 ∷ 48 ∷ 48 ∷ 48 ∷ 48 ∷ 48 ∷ 48 ∷ 48 ∷ 48 ∷ 48 ∷ 48 ∷ 48 ∷ 48 ∷ 48 ∷ 48 ∷ 48 ∷ 48 ∷ 48 ∷ 48 ∷ []) 14 1
+    -- 40 characters that do not fit the memory buffer
+    ∷ row (48 ∷ 53 ∷ 48 ∷ 48 ∷ 48 ∷ 48 ∷ 48 ∷ 48 ∷ 48 ∷ 48 ∷ 48 ∷ 48 ∷ 48 ∷ 48 ∷ 48 ∷ 48 ∷ 48 ∷ 48 ∷ 48 ∷ 48 ∷ 48 ∷ 48 ∷ 48 ∷ 48 ∷ 48 ∷ 48 ∷ 48 ∷ 48 ∷ 48 ∷ 48 ∷ 48 ∷ 48 ∷ 48 ∷ 48 ∷ 48 ∷ 48 ∷ 48 ∷ 48 ∷ 48 ∷ 48 ∷ []) 13 0
+    ∷ []
+
+abbrev Holds : Row → Type 0
+Holds w = verdictOf (textRead 40 (w .text) zeros .case) ≡ verdict (w .number) (w .position)
+
+abbrev All : List Row → Type 0
+All [] = Unit
+All (w ∷ ws) = Holds w × All ws
+
+verdicts : All rows
+unfolding numberAt isDecimal isLetter isDigit digitOf allDigits isHex hexBytes placed fits stored nothing next badLine longLine goodLine metOf lengthOf counted sized based masked variableRead predicateRead surfaceRead contentRead memoryRead maskRead onceRead frameRead lineRead linesFrom linesOf anyLineRead linesRead textRead verdictOf
+verdicts = (refl, (refl, (refl, (refl, (refl, (refl, (refl, (refl, (refl, (refl, (refl, (refl, (refl, (refl, (refl, (refl, (refl, (refl, (refl, (refl, (refl, (refl, (refl, tt)))))))))))))))))))))))
+
+-- a taint frame that is there has its own length, an empty one too; an absent one has the buffer's
+taint-empty : taintLength 8 1 (textRead 40 (48 ∷ 49 ∷ 48 ∷ 50 ∷ 48 ∷ 51 ∷ 10 ∷ 48 ∷ 56 ∷ []) zeros .case) ≡ 0
+unfolding numberAt isDecimal isLetter isDigit digitOf allDigits isHex hexBytes placed fits stored nothing next badLine longLine goodLine metOf lengthOf counted sized based masked variableRead predicateRead surfaceRead contentRead memoryRead maskRead onceRead frameRead lineRead linesFrom linesOf anyLineRead linesRead textRead verdictOf taintLength
+taint-empty = refl
+
+taint-absent : taintLength 8 1 (textRead 40 (48 ∷ 49 ∷ 48 ∷ 50 ∷ 48 ∷ 51 ∷ []) zeros .case) ≡ 2
+unfolding numberAt isDecimal isLetter isDigit digitOf allDigits isHex hexBytes placed fits stored nothing next badLine longLine goodLine metOf lengthOf counted sized based masked variableRead predicateRead surfaceRead contentRead memoryRead maskRead onceRead frameRead lineRead linesFrom linesOf anyLineRead linesRead textRead verdictOf taintLength
+taint-absent = refl

@@ -1,0 +1,256 @@
+// A case file, fed in blocks of bytes: the line begun stands in a buffer of the caller's until it is whole.
+use frames::Case;
+ghost use mathlib.Core.Path.{_≡_};
+ghost use lib.ListN.{take};
+ghost use Rattle.frames.specs.Reading.{contents, tables, reading};
+ghost use Rattle.feeding.specs.Feeding.{row, machine, fresh, pushed, ended, byteFed, fed, isBegun, finished};
+
+// How many characters of the line begun stand in the line buffer, whether there were more, and what the lines before came to.
+pub struct State {
+    pub used: usize,
+    pub long: bool,
+    pub case: Case,
+}
+
+pub fn start() -> State
+    ensures { λ r. ⌜ r ≡ fresh ⌝ }
+{
+    State {
+        used: 0,
+        long: false,
+        case: frames::start(),
+    }
+}
+
+// The first elements of a buffer; all of them if there are fewer.
+pub fn first_bytes(buffer: &[u8], count: usize) -> &[u8]
+    ensures { λ r. ⌜ now r ≡ take count (now (buffer .entry)) ⌝ }
+{
+    if count <= buffer.len() {
+        &buffer[..count]
+    } else {
+        buffer
+    }
+}
+
+pub fn first_words(buffer: &[u16], count: usize) -> &[u16]
+    ensures { λ r. ⌜ now r ≡ take count (now (buffer .entry)) ⌝ }
+{
+    if count <= buffer.len() {
+        &buffer[..count]
+    } else {
+        buffer
+    }
+}
+
+pub fn first_dwords(buffer: &[u32], count: usize) -> &[u32]
+    ensures { λ r. ⌜ now r ≡ take count (now (buffer .entry)) ⌝ }
+{
+    if count <= buffer.len() {
+        &buffer[..count]
+    } else {
+        buffer
+    }
+}
+
+// The line begun is whole.
+fn end_line(
+    line: &[u8],
+    registers: &mut [u8],
+    memory: &mut [u8],
+    kernel: &mut [u8],
+    register_taint: &mut [u8],
+    surface_taint: &mut [u8],
+    memory_taint: &mut [u8],
+    types: &mut [u8],
+    starts: &mut [u16],
+    counts: &mut [u16],
+    predicate_values: &mut [u32],
+    surface_bytes: &mut [u8],
+    surface_lengths: &mut [u16],
+    state: State,
+) -> State
+    ensures { λ r. ⌜ machine (now (line .entry)) r (contents (now (registers .exit)) (now (memory .exit)) (now (kernel .exit)) (now («register_taint» .exit)) (now («surface_taint» .exit)) (now («memory_taint» .exit))) (tables (now (types .exit)) (now (starts .exit)) (now (counts .exit)) (now («predicate_values» .exit)) (now («surface_bytes» .exit)) (now («surface_lengths» .exit))) ≡ ended (machine (now (line .entry)) state (contents (now (registers .entry)) (now (memory .entry)) (now (kernel .entry)) (now («register_taint» .entry)) (now («surface_taint» .entry)) (now («memory_taint» .entry))) (tables (now (types .entry)) (now (starts .entry)) (now (counts .entry)) (now («predicate_values» .entry)) (now («surface_bytes» .entry)) (now («surface_lengths» .entry)))) ⌝ }
+{
+    if state.long {
+        State {
+            used: 0,
+            long: false,
+            case: frames::long_line(state.case),
+        }
+    } else {
+        let c = frames::take_line(
+            first_bytes(line, state.used),
+            registers,
+            memory,
+            kernel,
+            register_taint,
+            surface_taint,
+            memory_taint,
+            types,
+            starts,
+            counts,
+            predicate_values,
+            surface_bytes,
+            surface_lengths,
+            state.case,
+        );
+        State {
+            used: 0,
+            long: false,
+            case: c,
+        }
+    }
+}
+
+// One more character of the line begun.
+fn push(line: &mut [u8], byte: u8, state: State) -> State
+    ensures { λ r. ⌜ (row (now (line .exit)) (r .used) (r .long) ≡ pushed byte (row (now (line .entry)) (state .used) (state .long))) × (r .case ≡ state .case) ⌝ }
+{
+    let used = state.used;
+    if used < line.len() {
+        line[used] = byte;
+        let mut s = state;
+        s.used = used + 1;
+        s
+    } else {
+        let mut s = state;
+        s.long = true;
+        s
+    }
+}
+
+fn take_byte(
+    byte: u8,
+    line: &mut [u8],
+    registers: &mut [u8],
+    memory: &mut [u8],
+    kernel: &mut [u8],
+    register_taint: &mut [u8],
+    surface_taint: &mut [u8],
+    memory_taint: &mut [u8],
+    types: &mut [u8],
+    starts: &mut [u16],
+    counts: &mut [u16],
+    predicate_values: &mut [u32],
+    surface_bytes: &mut [u8],
+    surface_lengths: &mut [u16],
+    state: State,
+) -> State
+    ensures { λ r. ⌜ machine (now (line .exit)) r (contents (now (registers .exit)) (now (memory .exit)) (now (kernel .exit)) (now («register_taint» .exit)) (now («surface_taint» .exit)) (now («memory_taint» .exit))) (tables (now (types .exit)) (now (starts .exit)) (now (counts .exit)) (now («predicate_values» .exit)) (now («surface_bytes» .exit)) (now («surface_lengths» .exit))) ≡ byteFed byte (machine (now (line .entry)) state (contents (now (registers .entry)) (now (memory .entry)) (now (kernel .entry)) (now («register_taint» .entry)) (now («surface_taint» .entry)) (now («memory_taint» .entry))) (tables (now (types .entry)) (now (starts .entry)) (now (counts .entry)) (now («predicate_values» .entry)) (now («surface_bytes» .entry)) (now («surface_lengths» .entry)))) ⌝ }
+{
+    if byte == b'\n' {
+        end_line(
+            line,
+            registers,
+            memory,
+            kernel,
+            register_taint,
+            surface_taint,
+            memory_taint,
+            types,
+            starts,
+            counts,
+            predicate_values,
+            surface_bytes,
+            surface_lengths,
+            state,
+        )
+    } else {
+        push(line, byte, state)
+    }
+}
+
+// A block of the file; how the file is cut into blocks does not matter.
+pub fn feed(
+    block: &[u8],
+    line: &mut [u8],
+    registers: &mut [u8],
+    memory: &mut [u8],
+    kernel: &mut [u8],
+    register_taint: &mut [u8],
+    surface_taint: &mut [u8],
+    memory_taint: &mut [u8],
+    types: &mut [u8],
+    starts: &mut [u16],
+    counts: &mut [u16],
+    predicate_values: &mut [u32],
+    surface_bytes: &mut [u8],
+    surface_lengths: &mut [u16],
+    state: State,
+) -> State
+    ensures { λ r. ⌜ machine (now (line .exit)) r (contents (now (registers .exit)) (now (memory .exit)) (now (kernel .exit)) (now («register_taint» .exit)) (now («surface_taint» .exit)) (now («memory_taint» .exit))) (tables (now (types .exit)) (now (starts .exit)) (now (counts .exit)) (now («predicate_values» .exit)) (now («surface_bytes» .exit)) (now («surface_lengths» .exit))) ≡ fed (now (block .entry)) (machine (now (line .entry)) state (contents (now (registers .entry)) (now (memory .entry)) (now (kernel .entry)) (now («register_taint» .entry)) (now («surface_taint» .entry)) (now («memory_taint» .entry))) (tables (now (types .entry)) (now (starts .entry)) (now (counts .entry)) (now («predicate_values» .entry)) (now («surface_bytes» .entry)) (now («surface_lengths» .entry)))) ⌝ }
+{
+    let mut s = state;
+    let mut i = 0;
+    while i < block.len() {
+        let t = take_byte(
+            block[i],
+            line,
+            registers,
+            memory,
+            kernel,
+            register_taint,
+            surface_taint,
+            memory_taint,
+            types,
+            starts,
+            counts,
+            predicate_values,
+            surface_bytes,
+            surface_lengths,
+            s,
+        );
+        s = t;
+        i += 1;
+    }
+    s
+}
+
+// Whether a line is begun that has no end yet.
+fn is_begun(state: State) -> bool
+    ensures { λ r. ⌜ r ≡ isBegun (state .used) (state .long) ⌝ }
+{
+    state.long | (0 < state.used)
+}
+
+// The end of the file: its last line may lack the 0x0a.
+pub fn finish(
+    line: &[u8],
+    registers: &mut [u8],
+    memory: &mut [u8],
+    kernel: &mut [u8],
+    register_taint: &mut [u8],
+    surface_taint: &mut [u8],
+    memory_taint: &mut [u8],
+    types: &mut [u8],
+    starts: &mut [u16],
+    counts: &mut [u16],
+    predicate_values: &mut [u32],
+    surface_bytes: &mut [u8],
+    surface_lengths: &mut [u16],
+    state: State,
+) -> State
+    ensures { λ r. ⌜ machine (now (line .entry)) r (contents (now (registers .exit)) (now (memory .exit)) (now (kernel .exit)) (now («register_taint» .exit)) (now («surface_taint» .exit)) (now («memory_taint» .exit))) (tables (now (types .exit)) (now (starts .exit)) (now (counts .exit)) (now («predicate_values» .exit)) (now («surface_bytes» .exit)) (now («surface_lengths» .exit))) ≡ finished (machine (now (line .entry)) state (contents (now (registers .entry)) (now (memory .entry)) (now (kernel .entry)) (now («register_taint» .entry)) (now («surface_taint» .entry)) (now («memory_taint» .entry))) (tables (now (types .entry)) (now (starts .entry)) (now (counts .entry)) (now («predicate_values» .entry)) (now («surface_bytes» .entry)) (now («surface_lengths» .entry)))) ⌝ }
+{
+    if is_begun(state) {
+        end_line(
+            line,
+            registers,
+            memory,
+            kernel,
+            register_taint,
+            surface_taint,
+            memory_taint,
+            types,
+            starts,
+            counts,
+            predicate_values,
+            surface_bytes,
+            surface_lengths,
+            state,
+        )
+    } else {
+        state
+    }
+}

@@ -1,0 +1,12 @@
+-- `frames::set_base` meets its contract: at each return, what the calls and tests on the way say picks the case of the definition.
+use mathlib.Core.Path.{refl}
+use Rattle.frames.specs.Lines.{based}
+use Rattle.frames.proofs.set_base.Statement.{statement}
+use Rattle.frames.proofs.set_base.Tie as tie
+
+returns : tie.Need-returns
+unfolding based
+returns c = refl
+
+pub set-base-spec : {M : Type 1} → statement M
+set-base-spec = tie.close (tie.spec returns)

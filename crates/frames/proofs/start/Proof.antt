@@ -1,0 +1,12 @@
+-- `frames::start` meets its contract: at each return, what the calls and tests on the way say picks the case of the definition.
+use mathlib.Core.Path.{refl}
+use Rattle.frames.specs.Lines.{nothing}
+use Rattle.frames.proofs.start.Statement.{statement}
+use Rattle.frames.proofs.start.Tie as tie
+
+returns : tie.Need-returns
+unfolding nothing
+returns c = refl
+
+pub start-spec : {M : Type 1} → statement M
+start-spec = tie.close (tie.spec returns)

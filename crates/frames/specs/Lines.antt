@@ -1,0 +1,46 @@
+-- How a line changes the state of the case. Lines are counted from 1; the first bad one is number 14's position.
+use Prim.Native.Nat.{ℕ, _+_}
+use mathlib.Core.Bool.{Bool, false, cond, not, _||_}
+use mathlib.Core.List.{List}
+use lib.Dec.{ltb}
+use lib.ListN.{getD, set, replicate}
+use Rattle.frames.specs.declared.Case.{Case}
+
+-- "absent means empty, base 0, EM 0"; the two lists have a place for each kind
+unfoldable pub nothing : Case
+nothing = record { lines = 0; bad = 0; full = false; met = replicate 11 0; lengths = replicate 11 0; base = 0; mask = 0 }
+
+-- the number of the line after n lines; it stays at the largest ud
+unfoldable pub next : ℕ → ℕ
+next n = cond (ltb n 4294967295) (n + 1) 4294967295
+
+-- "Anything else .. is 14, at the first such line": a bad line
+unfoldable pub badLine : Case → Case
+badLine c = record { lines = next (c .lines); bad = next (c .lines); full = c .full; met = c .met; lengths = c .lengths; base = c .base; mask = c .mask }
+
+-- "one over 16,386 characters"; after the first bad line nothing counts
+unfoldable pub longLine : Case → Case
+longLine c = cond (ltb 0 (c .bad)) c (badLine c)
+
+-- a good line; what does not fit its buffer breaks the sizes, which is 13
+unfoldable pub goodLine : Bool → Case → Case
+goodLine fits c = record { lines = next (c .lines); bad = c .bad; full = c .full || not fits; met = c .met; lengths = c .lengths; base = c .base; mask = c .mask }
+
+-- how many frames of a kind were met, and how many bytes their contents have together; none of a kind past 0x0a
+unfoldable pub metOf : ℕ → Case → ℕ
+metOf kind c = cond (ltb kind 11) (getD (c .met) kind 0) 0
+
+unfoldable pub lengthOf : ℕ → Case → ℕ
+lengthOf kind c = cond (ltb kind 11) (getD (c .lengths) kind 0) 0
+
+unfoldable pub counted : ℕ → ℕ → Case → Case
+counted kind n c = record { lines = c .lines; bad = c .bad; full = c .full; met = set (c .met) kind n; lengths = c .lengths; base = c .base; mask = c .mask }
+
+unfoldable pub sized : ℕ → ℕ → Case → Case
+sized kind n c = record { lines = c .lines; bad = c .bad; full = c .full; met = c .met; lengths = set (c .lengths) kind n; base = c .base; mask = c .mask }
+
+unfoldable pub based : ℕ → Case → Case
+based base c = record { lines = c .lines; bad = c .bad; full = c .full; met = c .met; lengths = c .lengths; base = base; mask = c .mask }
+
+unfoldable pub masked : ℕ → Case → Case
+masked mask c = record { lines = c .lines; bad = c .bad; full = c .full; met = c .met; lengths = c .lengths; base = c .base; mask = mask }

@@ -1,0 +1,18 @@
+-- `hex::is_decimal` meets its contract: at each return, what the calls and tests on the way say picks the case of `Digits`.
+use borrow.Author.Tests.{le-leb, lt-leb}
+use Rattle.hex.specs.Digits.{isDecimal}
+use Rattle.hex.proofs.is_decimal.Statement.{statement}
+use Rattle.hex.proofs.is_decimal.Tie as tie
+
+returns : tie.Need-returns
+unfolding isDecimal
+returns c =
+    rw (le-leb _ _ (c .if1 .taken))
+
+returns-2 : tie.Need-returns-2
+unfolding isDecimal
+returns-2 c =
+    rw (lt-leb _ _ (c .if1 .left))
+
+pub is-decimal-spec : {M : Type 1} → statement M
+is-decimal-spec = tie.close (tie.spec returns returns-2)

@@ -1,0 +1,5 @@
+pub mod PageLaws
+pub mod NumberLaws
+pub mod LineLaws
+pub mod WholeLaws
+pub mod Worked
