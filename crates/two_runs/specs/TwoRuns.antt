@@ -5,7 +5,7 @@ use Prim.Native.Nat.{ℕ}
 use lib.ListN.{length, getD}
 use Rattle.cells.specs.Buffer.{Buffer}
 use Rattle.run.specs.State.{State}
-use Rattle.run.specs.Run.{Answer, Outcome}
+use Rattle.run.specs.Run.{Outcome}
 
 -- equal lengths and marks, and equal bytes wherever the mark byte is 0 or missing
 pub record Agree (b c : Buffer) : Type 0 where
