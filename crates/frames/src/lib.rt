@@ -23,7 +23,7 @@ pub struct Case {
     pub bad: u32,
     // whether a content did not fit its buffer, which is 13
     pub full: bool,
-    // for each kind, how many frames of it were met and stored, and how many bytes their contents have together
+    // for each kind, how many frames of it were met (of 02, 03 and 04: stored), and how many bytes their contents have together
     pub met: [usize; 11],
     pub lengths: [usize; 11],
     // the address of the first byte of memory, and the execution mask
