@@ -17,7 +17,7 @@ use Rattle.decoder.specs.Decoding.{instructionAt, onDecoded}
 use Rattle.decoder.proofs.DecodeEncode.{refusal-not-zero}
 use Rattle.decoder.proofs.Laws.{accepted-within}
 use Rattle.plan.specs.Checked.{checked}
-use Rattle.run.specs.State.{Setup, State, lengthsOf}
+use Rattle.run.specs.State.{Setup, constantsOf, State, lengthsOf}
 use Rattle.run.specs.Step.{planEffect, Stepped, stepAt, after}
 use Rattle.run.specs.Run.{Outcome, stopped, settled, runFrom}
 use Rattle.run.specs.Run as whole
@@ -68,7 +68,7 @@ unfolding stepAt
 step-forward x b at s e = told (instructionAt (x .kernel) at) refl e
   where
     stepped : Decoded → Stepped
-    stepped d = onDecoded d (λ n. record { next = at; effect = refused n }) (λ i c. record { next = c .at; effect = planEffect x (checked (x .tables) i) s })
+    stepped d = onDecoded d (λ n. record { next = at; effect = refused n }) (λ i c. record { next = c .at; effect = planEffect (constantsOf x) (checked (x .tables) i) s })
 
     told : (d : Decoded) → instructionAt (x .kernel) at ≡ d → stepped d .effect .number ≡ 0 → Forward (length (x .kernel)) at (stepped d .next)
     told (decoded.Refused n) q z = absurd (refusal-not-zero (x .kernel) at n b q z)

@@ -26,7 +26,7 @@ use Rattle.plan.specs.Checked.{checked}
 use Rattle.shl.proofs.Refusal.{shl-writes}
 use Rattle.gather.proofs.Refusal.{gather-writes}
 use Rattle.scatter.proofs.Refusal.{scatter-writes}
-use Rattle.run.specs.State.{Setup, State, lengthsOf}
+use Rattle.run.specs.State.{Setup, constantsOf, State, lengthsOf}
 use Rattle.run.specs.Step.{acted, planEffect, Stepped, stepAt, after}
 use Rattle.run.specs.Run.{Outcome, stopped, runFrom, run}
 use Rattle.run.specs.Ran.{Ran, ended, refusedAt, went, registersWritten, memoryWritten}
@@ -69,18 +69,18 @@ run-surfaces x s = whole-keeps (λ u. u .surfaces ≡ s .surfaces) x s (λ at u 
 -- ---- a refused instruction
 
 module _ (x : Setup) (s : State) where
-  acted-writes : (o : Operation) (p : Plan) → WritesOnlyWhenDone (acted x o p s)
+  acted-writes : (o : Operation) (p : Plan) → WritesOnlyWhenDone (acted (constantsOf x) o p s)
   unfolding acted
   acted-writes operation.Shl p = shl-writes p _ (s .registers)
   acted-writes operation.Gather p = gather-writes p _ (s .registers) (s .surfaces)
   acted-writes operation.Scatter p = scatter-writes _ p _ (s .registers)
   acted-writes operation.Send p = refused-writes 9
 
-  plan-writes : (p : Plan) → WritesOnlyWhenDone (planEffect x p s)
+  plan-writes : (p : Plan) → WritesOnlyWhenDone (planEffect (constantsOf x) p s)
   unfolding planEffect
   plan-writes p = unless-writes (not (eqb (p .number) 0)) (p .number) _ (acted-writes (p .operation) p)
 
-  decoded-writes : (at : ℕ) (d : Decoded) → WritesOnlyWhenDone (onDecoded {X = Stepped} d (λ n. record { next = at; effect = refused n }) (λ i c. record { next = c .at; effect = planEffect x (checked (x .tables) i) s }) .effect)
+  decoded-writes : (at : ℕ) (d : Decoded) → WritesOnlyWhenDone (onDecoded {X = Stepped} d (λ n. record { next = at; effect = refused n }) (λ i c. record { next = c .at; effect = planEffect (constantsOf x) (checked (x .tables) i) s }) .effect)
   decoded-writes at (decoded.Refused n) = refused-writes n
   decoded-writes at (decoded.Accepted i c) = plan-writes (checked (x .tables) i)
 

@@ -21,7 +21,7 @@ use Rattle.shl.proofs.Plain.{shl-plain}
 use Rattle.gather.proofs.Plain.{gather-plain}
 use Rattle.scatter.specs.Scatter.{scatterEffect}
 use Rattle.scatter.proofs.Plain.{scatter-plain}
-use Rattle.run.specs.State.{Setup, State}
+use Rattle.run.specs.State.{Setup, constantsOf, State}
 use Rattle.run.specs.Step.{acted, planEffect, Stepped, stepAt}
 use Rattle.run.proofs.Simulation.{SameStep}
 
@@ -34,14 +34,14 @@ module _ (x : Setup) (s u : State) (r : PlainStates s u) where
   scattered : (p : Plan) (n m : ℕ) → m ≡ n → scatterEffect (record { base = x .base; length = n }) p (lanesOn (x .mask) p) (s .registers) .number ≢ 10 → PlainEffects (scatterEffect (record { base = x .base; length = n }) p (lanesOn (x .mask) p) (s .registers)) (scatterEffect (record { base = x .base; length = m }) p (lanesOn (x .mask) p) (u .registers))
   scattered p n m e sure = rw e (scatter-plain (s .registers) (u .registers) (r .registers) p (record { base = x .base; length = n }) (lanesOn (x .mask) p) sure)
 
-  acted-plain : (o : Operation) (p : Plan) → acted x o p s .number ≢ 10 → PlainEffects (acted x o p s) (acted x o p u)
+  acted-plain : (o : Operation) (p : Plan) → acted (constantsOf x) o p s .number ≢ 10 → PlainEffects (acted (constantsOf x) o p s) (acted (constantsOf x) o p u)
   unfolding acted
   acted-plain operation.Shl p sure = shl-plain p (lanesOn (x .mask) p) (s .registers) (u .registers) (r .registers)
   acted-plain operation.Gather p sure = gather-plain (s .registers) (u .registers) (s .surfaces) (u .surfaces) (r .registers) (r .surfaces) p (lanesOn (x .mask) p)
   acted-plain operation.Scatter p sure = scattered p (length (s .memory .bytes)) (length (u .memory .bytes)) (r .memory .bytes′) sure
   acted-plain operation.Send p sure = record { number = refl; registers = none; memory = none }
 
-  plan-plain : (p : Plan) → planEffect x p s .number ≢ 10 → PlainEffects (planEffect x p s) (planEffect x p u)
+  plan-plain : (p : Plan) → planEffect (constantsOf x) p s .number ≢ 10 → PlainEffects (planEffect (constantsOf x) p s) (planEffect (constantsOf x) p u)
   unfolding planEffect
   plan-plain p sure = plain-unless (not (eqb (p .number) 0)) (p .number) 10 _ _ (acted-plain (p .operation) p) sure
 
@@ -58,7 +58,7 @@ module _ (x : Setup) (s u : State) (r : PlainStates s u) where
       }
 
   abbrev stepped : State → ℕ → Decoded → Stepped
-  stepped v at d = onDecoded d (λ n. record { next = at; effect = refused n }) (λ i c. record { next = c .at; effect = planEffect x (checked (x .tables) i) v })
+  stepped v at d = onDecoded d (λ n. record { next = at; effect = refused n }) (λ i c. record { next = c .at; effect = planEffect (constantsOf x) (checked (x .tables) i) v })
 
   decoded-plain : (at : ℕ) (d : Decoded) → stepped s at d .effect .number ≢ 10 → SameStep PlainStates (stepped s at d) (stepped u at d) s u
   decoded-plain at (decoded.Refused n) sure = step-of at (refused n) (refused n) (record { number = refl; registers = none; memory = none })

@@ -19,7 +19,7 @@ use Rattle.shl.proofs.Untainted.{shl-alike}
 use Rattle.gather.proofs.Untainted.{gather-alike}
 use Rattle.scatter.specs.Scatter.{scatterEffect}
 use Rattle.scatter.proofs.Untainted.{scatter-alike}
-use Rattle.run.specs.State.{Setup, State}
+use Rattle.run.specs.State.{Setup, constantsOf, State}
 use Rattle.run.specs.Step.{acted, planEffect, Stepped, stepAt, after}
 use Rattle.run.proofs.Simulation.{SameStep}
 
@@ -32,14 +32,14 @@ module _ (x : Setup) (s u : State) (r : AgreeingStates s u) where
   scattered : (p : Plan) (n m : ℕ) → m ≡ n → AlikeEffects (scatterEffect (record { base = x .base; length = n }) p (lanesOn (x .mask) p) (s .registers)) (scatterEffect (record { base = x .base; length = m }) p (lanesOn (x .mask) p) (u .registers))
   scattered p n m e = rw e (scatter-alike (s .registers) (u .registers) (r .registers) p (record { base = x .base; length = n }) (lanesOn (x .mask) p))
 
-  acted-alike : (o : Operation) (p : Plan) → AlikeEffects (acted x o p s) (acted x o p u)
+  acted-alike : (o : Operation) (p : Plan) → AlikeEffects (acted (constantsOf x) o p s) (acted (constantsOf x) o p u)
   unfolding acted
   acted-alike operation.Shl p = shl-alike p (lanesOn (x .mask) p) (s .registers) (u .registers) (r .registers)
   acted-alike operation.Gather p = gather-alike (s .registers) (u .registers) (s .surfaces) (u .surfaces) (r .registers) (r .surfaces) p (lanesOn (x .mask) p)
   acted-alike operation.Scatter p = scattered p (length (s .memory .bytes)) (length (u .memory .bytes)) (r .memory .bytes′)
   acted-alike operation.Send p = record { number = refl; registers = none; memory = none }
 
-  plan-alike : (p : Plan) → AlikeEffects (planEffect x p s) (planEffect x p u)
+  plan-alike : (p : Plan) → AlikeEffects (planEffect (constantsOf x) p s) (planEffect (constantsOf x) p u)
   unfolding planEffect
   plan-alike p = unless-alike (not (eqb (p .number) 0)) _ (p .number) _ _ refl (λ _. acted-alike (p .operation) p)
 
@@ -55,7 +55,7 @@ module _ (x : Setup) (s u : State) (r : AgreeingStates s u) where
         };
       }
 
-  decoded-same : (at : ℕ) (d : Decoded) → SameStep AgreeingStates (onDecoded d (λ n. record { next = at; effect = refused n }) (λ i c. record { next = c .at; effect = planEffect x (checked (x .tables) i) s })) (onDecoded d (λ n. record { next = at; effect = refused n }) (λ i c. record { next = c .at; effect = planEffect x (checked (x .tables) i) u })) s u
+  decoded-same : (at : ℕ) (d : Decoded) → SameStep AgreeingStates (onDecoded d (λ n. record { next = at; effect = refused n }) (λ i c. record { next = c .at; effect = planEffect (constantsOf x) (checked (x .tables) i) s })) (onDecoded d (λ n. record { next = at; effect = refused n }) (λ i c. record { next = c .at; effect = planEffect (constantsOf x) (checked (x .tables) i) u })) s u
   decoded-same at (decoded.Refused n) = step-of at (refused n) (refused n) (record { number = refl; registers = none; memory = none })
   decoded-same at (decoded.Accepted i c) = step-of (c .at) _ _ (plan-alike (checked (x .tables) i))
 

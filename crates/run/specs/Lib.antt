@@ -1,5 +1,6 @@
 pub mod State
 pub mod Step
+pub mod Fits
 pub mod Performed
 pub mod Run
 pub mod Ran

@@ -1,6 +1,7 @@
 -- What performing a plan, or a step, leaves: a number, where the next instruction begins, and the state.
 use Prim.Native.Nat.{ℕ}
 use Rattle.plan.specs.declared.Plan.{Plan}
+use Rattle.run.specs.declared.Constants.{Constants}
 use Rattle.run.specs.declared.Progress.{Progress}
 use Rattle.run.specs.State.{Setup, State}
 use Rattle.run.specs.Step.{planEffect, Stepped, stepAt, after}
@@ -12,8 +13,8 @@ pub record Performed : Type 0 where
 abbrev pub performed : ℕ → State → Performed
 performed number s = record { number = number; state = s }
 
-unfoldable pub planPerformed : Setup → Plan → State → Performed
-planPerformed x p s = performed (planEffect x p s .number) (after (planEffect x p s) s)
+unfoldable pub planPerformed : Constants → Plan → State → Performed
+planPerformed c p s = performed (planEffect c p s .number) (after (planEffect c p s) s)
 
 pub record Advanced : Type 0 where
   pub number : ℕ

@@ -6,6 +6,7 @@ use lib.ListN.{length}
 use Rattle.cells.specs.Buffer.{Buffer, buffer}
 use Rattle.tables.specs.declared.Lengths.{Lengths}
 use Rattle.tables.specs.Tables.{Tables}
+use Rattle.run.specs.declared.Constants.{Constants}
 
 -- what stays the same; the mask is the paper's EM
 pub record Setup : Type 0 where
@@ -13,6 +14,10 @@ pub record Setup : Type 0 where
   pub tables : Tables
   pub base : ℕ
   pub mask : ℕ
+
+-- what an instruction may see of it
+abbrev pub constantsOf : Setup → Constants
+constantsOf x = record { base = x .base; mask = x .mask }
 
 -- what instructions read and write
 pub record State : Type 0 where

@@ -15,19 +15,20 @@ use Rattle.staging.specs.Lanes.{lanesOn}
 use Rattle.shl.specs.Shl.{shlEffect}
 use Rattle.gather.specs.Gather.{gatherEffect}
 use Rattle.scatter.specs.Scatter.{scatterEffect}
-use Rattle.run.specs.State.{Setup, State}
+use Rattle.run.specs.declared.Constants.{Constants}
+use Rattle.run.specs.State.{Setup, constantsOf, State}
 
 -- no memory byte is read: memory enters by its length alone
-unfoldable pub acted : Setup → Operation → Plan → State → Effect
-acted x operation.Shl p s = shlEffect p (lanesOn (x .mask) p) (s .registers)
-acted x operation.Gather p s = gatherEffect p (lanesOn (x .mask) p) (s .registers) (s .surfaces)
-acted x operation.Scatter p s =
-    scatterEffect (record { base = x .base; length = length (s .memory .bytes) }) p (lanesOn (x .mask) p) (s .registers)
-acted x operation.Send p s = refused 9
+unfoldable pub acted : Constants → Operation → Plan → State → Effect
+acted c operation.Shl p s = shlEffect p (lanesOn (c .mask) p) (s .registers)
+acted c operation.Gather p s = gatherEffect p (lanesOn (c .mask) p) (s .registers) (s .surfaces)
+acted c operation.Scatter p s =
+    scatterEffect (record { base = c .base; length = length (s .memory .bytes) }) p (lanesOn (c .mask) p) (s .registers)
+acted c operation.Send p s = refused 9
 
 -- the tests that look at no data come first
-unfoldable pub planEffect : Setup → Plan → State → Effect
-planEffect x p s = unless (not (eqb (p .number) 0)) (p .number) (acted x (p .operation) p s)
+unfoldable pub planEffect : Constants → Plan → State → Effect
+planEffect c p s = unless (not (eqb (p .number) 0)) (p .number) (acted c (p .operation) p s)
 
 -- the effect of the instruction at a position, and where the next one begins
 pub record Stepped : Type 0 where
@@ -38,7 +39,7 @@ unfoldable pub stepAt : Setup → ℕ → State → Stepped
 stepAt x at s =
     onDecoded (instructionAt (x .kernel) at)
     (λ n. record { next = at; effect = refused n })
-    (λ i c. record { next = c .at; effect = planEffect x (checked (x .tables) i) s })
+    (λ i c. record { next = c .at; effect = planEffect (constantsOf x) (checked (x .tables) i) s })
 
 -- the state after an effect; surfaces are never written
 abbrev pub after : Effect → State → State

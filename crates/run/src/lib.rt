@@ -5,10 +5,12 @@ use plan::Plan;
 use tables::Lengths;
 use tables::TaintLengths;
 ghost use mathlib.Core.Path.{_≡_};
-ghost use Rattle.tables.specs.Tables.{tables};
-ghost use Rattle.run.specs.State.{setup, state};
+ghost use mathlib.Core.Bool.{true};
+ghost use Rattle.tables.specs.Tables.{tables, tablesGood};
+ghost use Rattle.run.specs.Fits.{Fits};
+ghost use Rattle.run.specs.State.{setup, state, lengthsOf};
 ghost use Rattle.run.specs.Performed.{performed, planPerformed, advanced, stepAdvanced};
-ghost use Rattle.run.specs.Run.{outcome, runFrom, run, plainRun};
+ghost use Rattle.run.specs.Run.{outcome, run, plainRun};
 ghost use Rattle.run.specs.Show.{isInside, partOf, shown, shownNumber};
 
 // What stays the same in a run beside the borrowed slices: the memory window's base, and the execution mask (EM).
@@ -28,6 +30,207 @@ pub struct Answer {
 pub struct Progress {
     pub number: u8,
     pub next: usize,
+}
+
+// Does what a plan says: its refusal's number with nothing written, or the instruction's own number.
+fn perform(
+    plan: Plan,
+    constants: Constants,
+    surfaces: &[u8],
+    surface_taint: &[u8],
+    registers: &mut [u8],
+    register_taint: &mut [u8],
+    memory: &mut [u8],
+    memory_taint: &mut [u8],
+) -> u8
+    requires { ⌜ Fits plan ⌝ }
+    ensures { λ r. ⌜ performed r (state (now (registers .exit)) (now («register_taint» .exit)) (now (surfaces .entry)) (now («surface_taint» .entry)) (now (memory .exit)) (now («memory_taint» .exit))) ≡ planPerformed constants plan (state (now (registers .entry)) (now («register_taint» .entry)) (now (surfaces .entry)) (now («surface_taint» .entry)) (now (memory .entry)) (now («memory_taint» .entry))) ⌝ }
+{
+    if 0 < plan.number {
+        return plan.number;
+    }
+    let operation = plan.operation;
+    match operation {
+        Operation::Shl => shl::shl(plan, constants.mask, registers, register_taint),
+        Operation::Gather => gather::gather(
+            plan,
+            constants.mask,
+            registers,
+            register_taint,
+            surfaces,
+            surface_taint,
+        ),
+        Operation::Scatter => scatter::scatter(
+            plan,
+            constants.mask,
+            constants.base,
+            registers,
+            register_taint,
+            memory,
+            memory_taint,
+        ),
+        Operation::Send => 9,
+    }
+}
+
+// One instruction: decoded, tested, performed.
+fn step(
+    kernel: &[u8],
+    types: &[u8],
+    starts: &[u16],
+    counts: &[u16],
+    predicates: &[u32],
+    surface_lengths: &[u16],
+    constants: Constants,
+    at: usize,
+    surfaces: &[u8],
+    surface_taint: &[u8],
+    registers: &mut [u8],
+    register_taint: &mut [u8],
+    memory: &mut [u8],
+    memory_taint: &mut [u8],
+) -> Progress
+    requires { ⌜ tablesGood (lengthsOf (setup (now kernel) (tables (now types) (now starts) (now counts) (now predicates) (now «surface_lengths»)) (constants .base) (constants .mask)) (state (now registers) (now «register_taint») (now surfaces) (now «surface_taint») (now memory) (now «memory_taint»))) (tables (now types) (now starts) (now counts) (now predicates) (now «surface_lengths»)) ≡ true ⌝ }
+    ensures { λ r. ⌜ advanced r (state (now (registers .exit)) (now («register_taint» .exit)) (now (surfaces .entry)) (now («surface_taint» .entry)) (now (memory .exit)) (now («memory_taint» .exit))) ≡ stepAdvanced (setup (now (kernel .entry)) (tables (now (types .entry)) (now (starts .entry)) (now (counts .entry)) (now (predicates .entry)) (now («surface_lengths» .entry))) (constants .base) (constants .mask)) at (state (now (registers .entry)) (now («register_taint» .entry)) (now (surfaces .entry)) (now («surface_taint» .entry)) (now (memory .entry)) (now («memory_taint» .entry))) ⌝ }
+{
+    match decoder::decode(kernel, at) {
+        Decoded::Accepted(instruction, cursor) => {
+            let plan = plan::check(
+                types,
+                starts,
+                counts,
+                predicates,
+                surface_lengths,
+                instruction,
+            );
+            let number = perform(
+                plan,
+                constants,
+                surfaces,
+                surface_taint,
+                registers,
+                register_taint,
+                memory,
+                memory_taint,
+            );
+            Progress {
+                number,
+                next: cursor.at,
+            }
+        }
+        Decoded::Refused(number) => Progress { number, next: at },
+    }
+}
+
+// The instructions in kernel order, up to the end or the first refusal; earlier instructions stand.
+fn run_kernel(
+    kernel: &[u8],
+    types: &[u8],
+    starts: &[u16],
+    counts: &[u16],
+    predicates: &[u32],
+    surface_lengths: &[u16],
+    constants: Constants,
+    surfaces: &[u8],
+    surface_taint: &[u8],
+    registers: &mut [u8],
+    register_taint: &mut [u8],
+    memory: &mut [u8],
+    memory_taint: &mut [u8],
+) -> Answer
+    requires { ⌜ tablesGood (lengthsOf (setup (now kernel) (tables (now types) (now starts) (now counts) (now predicates) (now «surface_lengths»)) (constants .base) (constants .mask)) (state (now registers) (now «register_taint») (now surfaces) (now «surface_taint») (now memory) (now «memory_taint»))) (tables (now types) (now starts) (now counts) (now predicates) (now «surface_lengths»)) ≡ true ⌝ }
+    ensures { λ r. ⌜ outcome r (state (now (registers .exit)) (now («register_taint» .exit)) (now (surfaces .entry)) (now («surface_taint» .entry)) (now (memory .exit)) (now («memory_taint» .exit))) ≡ run (setup (now (kernel .entry)) (tables (now (types .entry)) (now (starts .entry)) (now (counts .entry)) (now (predicates .entry)) (now («surface_lengths» .entry))) (constants .base) (constants .mask)) (state (now (registers .entry)) (now («register_taint» .entry)) (now (surfaces .entry)) (now («surface_taint» .entry)) (now (memory .entry)) (now («memory_taint» .entry))) ⌝ }
+{
+    let mut completed: usize = 0;
+    let mut at: usize = 0;
+    while at < kernel.len() {
+        let progress = step(
+            kernel,
+            types,
+            starts,
+            counts,
+            predicates,
+            surface_lengths,
+            constants,
+            at,
+            surfaces,
+            surface_taint,
+            registers,
+            register_taint,
+            memory,
+            memory_taint,
+        );
+        if 0 < progress.number {
+            return Answer {
+                number: progress.number,
+                completed,
+                position: at,
+            };
+        }
+        completed += 1;
+        at = progress.next;
+    }
+    Answer {
+        number: 0,
+        completed,
+        position: at,
+    }
+}
+
+// A run with taint. 13 comes first; then the instructions, one after the other.
+pub fn run(
+    kernel: &[u8],
+    types: &[u8],
+    starts: &[u16],
+    counts: &[u16],
+    predicates: &[u32],
+    surface_lengths: &[u16],
+    constants: Constants,
+    surfaces: &[u8],
+    surface_taint: &[u8],
+    registers: &mut [u8],
+    register_taint: &mut [u8],
+    memory: &mut [u8],
+    memory_taint: &mut [u8],
+) -> Answer
+    ensures { λ r. ⌜ outcome r (state (now (registers .exit)) (now («register_taint» .exit)) (now (surfaces .entry)) (now («surface_taint» .entry)) (now (memory .exit)) (now («memory_taint» .exit))) ≡ run (setup (now (kernel .entry)) (tables (now (types .entry)) (now (starts .entry)) (now (counts .entry)) (now (predicates .entry)) (now («surface_lengths» .entry))) (constants .base) (constants .mask)) (state (now (registers .entry)) (now («register_taint» .entry)) (now (surfaces .entry)) (now («surface_taint» .entry)) (now (memory .entry)) (now («memory_taint» .entry))) ⌝ }
+{
+    let taint = TaintLengths {
+        registers: register_taint.len(),
+        surfaces: surface_taint.len(),
+        memory: memory_taint.len(),
+    };
+    let lengths = Lengths {
+        kernel: kernel.len(),
+        registers: registers.len(),
+        surfaces: surfaces.len(),
+        memory: memory.len(),
+        base: constants.base,
+        taint,
+    };
+    if tables::tables_good(lengths, types, starts, counts, predicates, surface_lengths) {
+        run_kernel(
+            kernel,
+            types,
+            starts,
+            counts,
+            predicates,
+            surface_lengths,
+            constants,
+            surfaces,
+            surface_taint,
+            registers,
+            register_taint,
+            memory,
+            memory_taint,
+        )
+    } else {
+        Answer {
+            number: 13,
+            completed: 0,
+            position: 0,
+        }
+    }
 }
 
 // Which of the two buffers is shown.
