@@ -6,3 +6,5 @@ pub mod Kept
 pub mod Plain
 pub mod ShowLaws
 pub mod PerformLaws
+pub mod StepLaws
+pub mod RunLaws

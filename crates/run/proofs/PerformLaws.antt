@@ -53,7 +53,10 @@ module _ (k : Constants) (p : Plan) (s : State) where
       (sym (unless-refused (not (eqb (p .number) 0)) (p .number) _ (ap not (ne-eqb (p .number) 0 (omega (arith, h))))))
       refl (untouched [] _ refl) (untouched [] _ refl)
 
-  module _ (fits : Fits p) (accepted : p .number ≡ 0) where
+  module _ (fits : Fits p) (left : p .number ≤ 0) where
+    accepted : p .number ≡ 0
+    accepted = omega arith
+
     acts : (o : Operation) → p .operation ≡ o → planEffect k p s ≡ acted k o p s
     unfolding planEffect
     acts o is = unless-passed (not (eqb (p .number) 0)) (p .number) _ (ap not (eq-eqb (p .number) 0 accepted)) ∙ ap (λ (o : Operation). acted k o p s) is

@@ -6,10 +6,11 @@ use Rattle.run.proofs.perform.Lts as lts
 use Rattle.gather.proofs.gather.Reads as gather-reads
 use Rattle.scatter.proofs.scatter.Reads as scatter-reads
 use Rattle.shl.proofs.shl.Reads as shl-reads
+use Rattle.run.proofs.PerformLaws.{refusal-performs, shl-performs, gather-performs, scatter-performs, send-performs}
 
 -- src/lib.rt:50:9
 returns : tie.Need-returns
-returns c = ?
+returns c = refusal-performs _ _ _ (c .if1 .taken)
 
 -- src/lib.rt:54:58
 enum-told : tie.Need-enum-told
@@ -49,7 +50,10 @@ same-length-2 c = search needs
 
 -- src/lib.rt:36:1
 returns-2 : tie.Need-returns-2
-returns-2 c = ?
+returns-2 c =
+    let a = c .before .before .before .before in
+    let m = a .before .before .before in
+    shl-performs _ _ _ (m .before .before .before .before .before .before .before .before .before .before .pre) (m .before .before .if1 .left) _ _ (m .enum-told .given .1) (a .shl .ensures)
 
 -- src/lib.rt:36:1
 same-length-3 : tie.Need-same-length-3
@@ -61,7 +65,10 @@ same-length-4 c = search needs
 
 -- src/lib.rt:36:1
 returns-3 : tie.Need-returns-3
-returns-3 c = ?
+returns-3 c =
+    let a = c .before .before .before .before in
+    let m = a .before .before .before in
+    gather-performs _ _ _ (m .before .before .before .before .before .before .before .before .before .before .pre) (m .before .before .if1 .left) _ _ (m .enum-told2 .given .1) (a .gather .ensures)
 
 -- src/lib.rt:36:1
 same-length-5 : tie.Need-same-length-5
@@ -81,11 +88,14 @@ same-length-8 c = search needs
 
 -- src/lib.rt:36:1
 returns-4 : tie.Need-returns-4
-returns-4 c = ?
+returns-4 c =
+    let a = c .before .before .before .before in
+    let m = a .before .before .before .before .before in
+    scatter-performs _ _ _ (m .before .before .before .before .before .before .before .before .before .before .pre) (m .before .before .if1 .left) _ _ (m .enum-told3 .given .1) (a .scatter .ensures)
 
 -- src/lib.rt:36:1
 returns-5 : tie.Need-returns-5
-returns-5 c = ?
+returns-5 c = send-performs _ _ _ (c .before .before .before .before .before .before .before .before .before .before .pre) (c .before .before .if1 .left) (c .enum-told4 .given .1)
 
 pub perform-spec : {M : Type 1} → statement M
 perform-spec =

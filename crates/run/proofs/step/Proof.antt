@@ -6,6 +6,7 @@ use Rattle.run.proofs.step.Lts as lts
 use Rattle.decoder.proofs.decode.Reads as decode-reads
 use Rattle.plan.proofs.check.Reads as check-reads
 use Rattle.run.proofs.perform.Reads as perform-reads
+use Rattle.run.proofs.StepLaws.{accepted-advances, refusal-advances}
 
 -- src/lib.rt:96:11
 decode-requires : tie.Need-decode-requires
@@ -45,11 +46,15 @@ same-length-4 c = search needs
 
 -- src/lib.rt:77:1
 returns : tie.Need-returns
-returns c = ?
+returns c =
+    let a = c .before .before .before .before .before .before .before .before in
+    let b = a .before .before .before .before .before in
+    let i = b .before .before in
+    accepted-advances _ _ _ _ (i .before .before .decode .ensures) _ _ _ _ _ (i .instruction .given .1) (b .check .ensures) (a .perform .ensures)
 
 -- src/lib.rt:77:1
 returns-2 : tie.Need-returns-2
-returns-2 c = ?
+returns-2 c = refusal-advances _ _ _ _ (c .before .before .before .decode .ensures) _ (c .before .number .given .1)
 
 pub step-spec : {M : Type 1} → statement M
 step-spec =
