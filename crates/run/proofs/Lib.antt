@@ -5,3 +5,4 @@ pub mod Fuel
 pub mod Kept
 pub mod Plain
 pub mod ShowLaws
+pub mod FitsLaws
