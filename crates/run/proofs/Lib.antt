@@ -8,3 +8,4 @@ pub mod ShowLaws
 pub mod PerformLaws
 pub mod StepLaws
 pub mod RunLaws
+pub mod FitsLaws
