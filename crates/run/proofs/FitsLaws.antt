@@ -1,6 +1,6 @@
 -- The plan of a decoded and checked instruction passes the executors' guards.
 use Prim.Native.Nat.{ℕ, _≤_}
-use mathlib.Core.Path.{_≡_, sym, subst}
+use mathlib.Core.Path.{_≡_, sym, subst, _∙_}
 use mathlib.Core.Logic.{⊎-elim}
 use mathlib.Core.Bool.{true}
 use mathlib.Core.List.{List}
@@ -11,6 +11,7 @@ use Rattle.fields.proofs.ScatterExec.{EightOrSixteen}
 use Rattle.decoder.specs.declared.Control.{Control}
 use Rattle.decoder.specs.declared.Instruction.{Instruction}
 use Rattle.decoder.specs.declared.Instruction.the-variants as instruction
+use Rattle.decoder.specs.declared.Decoded.{Decoded}
 use Rattle.decoder.specs.declared.Decoded.the-variants as decoded
 use Rattle.decoder.specs.Decoding.{instructionAt}
 use Rattle.decoder.proofs.ScatterLaws.{decoded-scatter}
@@ -27,7 +28,6 @@ use Rattle.plan.proofs.InstructionLaws.{Keeps, plan-keeps}
 use Rattle.shl.proofs.SoundLaws as shl
 use Rattle.gather.proofs.SoundLaws as gather
 use Rattle.scatter.proofs.SoundLaws as scatter
-use Rattle.run.specs.State.{Setup, State, lengthsOf}
 use Rattle.run.specs.Fits.{fitsFor, Fits}
 
 -- the codes of 8 and 16 lanes
@@ -56,8 +56,7 @@ module _ (registers surfaces : ℕ) (p : Plan) (sound : Sound registers surfaces
       let lanes : execSize (p .control .exec) ≤ 16 = rw (k .control) (sixteen-lanes (c .exec) e) in
       kept operation.Scatter c k (scatter.sound-fits registers p lanes)
 
--- of any kernel, lengths and tables
-pub decoded-fits : (kernel : List ℕ) (l : Lengths) (t : Tables) (at : ℕ) (i : Instruction) (c : Cursor) → Bytes kernel → tablesGood l t ≡ true
+decoded-fits : (kernel : List ℕ) (l : Lengths) (t : Tables) (at : ℕ) (i : Instruction) (c : Cursor) → Bytes kernel → tablesGood l t ≡ true
     → instructionAt kernel at ≡ decoded.Accepted i c → checked t i .number ≡ 0 → fitsFor (checked t i .operation) (checked t i) ≡ true
 decoded-fits kernel l t at (instruction.Shl i) c b good e z =
     shl-fits (l .registers) (l .surfaces) (checked t (instruction.Shl i)) (plan-sound l t good (instruction.Shl i) z) (i .control) (plan-keeps t (instruction.Shl i) z)
@@ -68,6 +67,8 @@ decoded-fits kernel l t at (instruction.Scatter i) c b good e z =
     (decoded-scatter kernel at i c b e) (plan-keeps t (instruction.Scatter i) z)
 decoded-fits kernel l t at (instruction.RawSend i) c b good e z = absurd (plan-keeps t (instruction.RawSend i) z)
 
-pub planned-fits : (x : Setup) (s : State) (at : ℕ) (i : Instruction) (c : Cursor) → Bytes (x .kernel) → tablesGood (lengthsOf x s) (x .tables) ≡ true
-    → instructionAt (x .kernel) at ≡ decoded.Accepted i c → Fits (checked (x .tables) i)
-planned-fits x s at i c b good e = record { when-accepted = decoded-fits (x .kernel) (lengthsOf x s) (x .tables) at i c b good e }
+-- as a step meets it
+pub planned-fits : (kernel : List ℕ) (l : Lengths) (t : Tables) (at : ℕ) (d : Decoded) (i : Instruction) (c : Cursor) (p : Plan) → Bytes kernel → tablesGood l t ≡ true
+    → d ≡ instructionAt kernel at → d ≡ decoded.Accepted i c → p ≡ checked t i → Fits p
+planned-fits kernel l t at d i c p b good told is plan =
+    subst Fits (sym plan) (record { when-accepted = decoded-fits kernel l t at i c b good (sym told ∙ is) })

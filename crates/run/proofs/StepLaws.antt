@@ -1,8 +1,6 @@
 -- What one step leaves: the number, the next position and the state of the definition's step.
-use mathlib.Core.Path.{_≡_, refl, sym, ap, subst, _∙_}
-use mathlib.Core.Bool.{true}
+use mathlib.Core.Path.{_≡_, sym, ap, _∙_}
 use Prim.Native.Nat.{ℕ}
-use Rattle.little_endian.specs.LittleEndian.{Bytes}
 use Rattle.cells.specs.Effect.{refused}
 use Rattle.cells.proofs.EffectLaws.{nothing-written}
 use Rattle.reader.specs.declared.Cursor.{Cursor}
@@ -12,11 +10,8 @@ use Rattle.decoder.specs.declared.Instruction.{Instruction}
 use Rattle.decoder.specs.Decoding.{instructionAt, onDecoded}
 use Rattle.plan.specs.declared.Plan.{Plan}
 use Rattle.plan.specs.Checked.{checked}
-use Rattle.tables.specs.Tables.{tablesGood}
-use Rattle.run.specs.State.{Setup, constantsOf, State, lengthsOf}
+use Rattle.run.specs.State.{Setup, constantsOf, State}
 use Rattle.run.specs.Step.{planEffect, Stepped, stepAt, after}
-use Rattle.run.specs.Fits.{Fits}
-use Rattle.run.proofs.FitsLaws.{planned-fits}
 use Rattle.run.specs.Performed.{Performed, performed, planPerformed, Advanced, advanced, stepAdvanced}
 
 module _ (x : Setup) (at : ℕ) (s : State) where
@@ -33,9 +28,6 @@ module _ (x : Setup) (at : ℕ) (s : State) where
   unchanged n = λ i. record { registers = nothing-written (s .registers) i; surfaces = s .surfaces; memory = nothing-written (s .memory) i }
 
   module _ (d : Decoded) (told : d ≡ instructionAt (x .kernel) at) where
-    pub told-fits : (i : Instruction) (c : Cursor) (p : Plan) → d ≡ decoded.Accepted i c → p ≡ checked (x .tables) i → Bytes (x .kernel) → tablesGood (lengthsOf x s) (x .tables) ≡ true → Fits p
-    told-fits i c p is plan bytes good = subst Fits (sym plan) (planned-fits x s at i c bytes good (sym told ∙ is))
-
     pub accepted-advances : (i : Instruction) (c : Cursor) (p : Plan) (n : ℕ) (u : State) → d ≡ decoded.Accepted i c → p ≡ checked (x .tables) i → performed n u ≡ planPerformed (constantsOf x) p s
         → advanced (record { number = n; next = c .at }) u ≡ stepAdvanced x at s
     unfolding stepAdvanced planPerformed

@@ -7,7 +7,8 @@ use Rattle.run.proofs.step.Lts as lts
 use Rattle.decoder.proofs.decode.Reads as decode-reads
 use Rattle.plan.proofs.check.Reads as check-reads
 use Rattle.run.proofs.perform.Reads as perform-reads
-use Rattle.run.proofs.StepLaws.{told-fits, accepted-advances, refusal-advances}
+use Rattle.run.proofs.FitsLaws.{planned-fits}
+use Rattle.run.proofs.StepLaws.{accepted-advances, refusal-advances}
 
 -- src/lib.rt:96:11
 decode-requires : tie.Need-decode-requires
@@ -26,7 +27,7 @@ perform-requires : tie.Need-perform-requires
 perform-requires c κs =
     let a = c .before .before .before .before in
     let i = a .before .before in
-    told-fits _ _ _ _ (i .before .before .decode .ensures) _ _ _ (i .instruction .given .1) (a .check .ensures) (λ k. omega (arith, a .before .before .before .before .before .before .before .before .before .before .before .before .before .before .before .before .shared-slice-known .given k)) (a .before .before .before .before .before .before .before .before .before .before .before .before .before .before .before .before .before .pre)
+    planned-fits _ _ _ _ _ _ _ _ (λ k. omega (arith, a .before .before .before .before .before .before .before .before .before .before .before .before .before .before .before .before .shared-slice-known .given k)) (a .before .before .before .before .before .before .before .before .before .before .before .before .before .before .before .before .before .pre) (i .before .before .decode .ensures) (i .instruction .given .1) (a .check .ensures)
 
 -- src/lib.rt:121:26
 enum-known-number : tie.Need-enum-known-number
