@@ -9,3 +9,4 @@ pub mod PerformLaws
 pub mod StepLaws
 pub mod RunLaws
 pub mod FitsLaws
+pub mod PlainRunLaws
