@@ -1,3 +1,4 @@
+pub mod ByteLaws
 pub mod TakeLaws
 pub mod FeedingLaws
 pub mod RowLaws

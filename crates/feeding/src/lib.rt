@@ -2,8 +2,9 @@
 use frames::Case;
 ghost use mathlib.Core.Path.{_≡_};
 ghost use lib.ListN.{take};
+ghost use lib.Dec.{eqb};
 ghost use Rattle.frames.specs.Reading.{contents, tables, reading};
-ghost use Rattle.feeding.specs.Feeding.{row, machine, fresh, pushed, ended, byteFed, fed, isBegun, finished};
+ghost use Rattle.feeding.specs.Feeding.{row, machine, fresh, pushedIf, endedIf, fed, isBegun, finished};
 
 // How many characters of the line begun stand in the line buffer, whether there were more, and what the lines before came to.
 pub struct State {
@@ -53,8 +54,9 @@ pub fn first_dwords(buffer: &[u32], count: usize) -> &[u32]
     }
 }
 
-// The line begun is whole.
+// If the line begun is whole, it is taken.
 fn end_line(
+    whole: bool,
     line: &[u8],
     registers: &mut [u8],
     memory: &mut [u8],
@@ -70,8 +72,11 @@ fn end_line(
     surface_lengths: &mut [u16],
     state: State,
 ) -> State
-    ensures { λ r. ⌜ machine (now (line .entry)) r (contents (now (registers .exit)) (now (memory .exit)) (now (kernel .exit)) (now («register_taint» .exit)) (now («surface_taint» .exit)) (now («memory_taint» .exit))) (tables (now (types .exit)) (now (starts .exit)) (now (counts .exit)) (now («predicate_values» .exit)) (now («surface_bytes» .exit)) (now («surface_lengths» .exit))) ≡ ended (machine (now (line .entry)) state (contents (now (registers .entry)) (now (memory .entry)) (now (kernel .entry)) (now («register_taint» .entry)) (now («surface_taint» .entry)) (now («memory_taint» .entry))) (tables (now (types .entry)) (now (starts .entry)) (now (counts .entry)) (now («predicate_values» .entry)) (now («surface_bytes» .entry)) (now («surface_lengths» .entry)))) ⌝ }
+    ensures { λ r. ⌜ machine (now (line .entry)) r (contents (now (registers .exit)) (now (memory .exit)) (now (kernel .exit)) (now («register_taint» .exit)) (now («surface_taint» .exit)) (now («memory_taint» .exit))) (tables (now (types .exit)) (now (starts .exit)) (now (counts .exit)) (now («predicate_values» .exit)) (now («surface_bytes» .exit)) (now («surface_lengths» .exit))) ≡ endedIf whole (machine (now (line .entry)) state (contents (now (registers .entry)) (now (memory .entry)) (now (kernel .entry)) (now («register_taint» .entry)) (now («surface_taint» .entry)) (now («memory_taint» .entry))) (tables (now (types .entry)) (now (starts .entry)) (now (counts .entry)) (now («predicate_values» .entry)) (now («surface_bytes» .entry)) (now («surface_lengths» .entry)))) ⌝ }
 {
+    if !whole {
+        return state;
+    }
     if state.long {
         State {
             used: 0,
@@ -103,10 +108,13 @@ fn end_line(
     }
 }
 
-// One more character of the line begun.
+// One more character of the line begun, if it is not the line's end.
 fn push(line: &mut [u8], byte: u8, state: State) -> State
-    ensures { λ r. ⌜ (row (now (line .exit)) (r .used) (r .long) ≡ pushed byte (row (now (line .entry)) (state .used) (state .long))) × (r .case ≡ state .case) ⌝ }
+    ensures { λ r. ⌜ (row (now (line .exit)) (r .used) (r .long) ≡ pushedIf (eqb byte 10) byte (row (now (line .entry)) (state .used) (state .long))) × (r .case ≡ state .case) ⌝ }
 {
+    if byte == b'\n' {
+        return state;
+    }
     let used = state.used;
     if used < line.len() {
         line[used] = byte;
@@ -117,47 +125,6 @@ fn push(line: &mut [u8], byte: u8, state: State) -> State
         let mut s = state;
         s.long = true;
         s
-    }
-}
-
-fn take_byte(
-    byte: u8,
-    line: &mut [u8],
-    registers: &mut [u8],
-    memory: &mut [u8],
-    kernel: &mut [u8],
-    register_taint: &mut [u8],
-    surface_taint: &mut [u8],
-    memory_taint: &mut [u8],
-    types: &mut [u8],
-    starts: &mut [u16],
-    counts: &mut [u16],
-    predicate_values: &mut [u32],
-    surface_bytes: &mut [u8],
-    surface_lengths: &mut [u16],
-    state: State,
-) -> State
-    ensures { λ r. ⌜ machine (now (line .exit)) r (contents (now (registers .exit)) (now (memory .exit)) (now (kernel .exit)) (now («register_taint» .exit)) (now («surface_taint» .exit)) (now («memory_taint» .exit))) (tables (now (types .exit)) (now (starts .exit)) (now (counts .exit)) (now («predicate_values» .exit)) (now («surface_bytes» .exit)) (now («surface_lengths» .exit))) ≡ byteFed byte (machine (now (line .entry)) state (contents (now (registers .entry)) (now (memory .entry)) (now (kernel .entry)) (now («register_taint» .entry)) (now («surface_taint» .entry)) (now («memory_taint» .entry))) (tables (now (types .entry)) (now (starts .entry)) (now (counts .entry)) (now («predicate_values» .entry)) (now («surface_bytes» .entry)) (now («surface_lengths» .entry)))) ⌝ }
-{
-    if byte == b'\n' {
-        end_line(
-            line,
-            registers,
-            memory,
-            kernel,
-            register_taint,
-            surface_taint,
-            memory_taint,
-            types,
-            starts,
-            counts,
-            predicate_values,
-            surface_bytes,
-            surface_lengths,
-            state,
-        )
-    } else {
-        push(line, byte, state)
     }
 }
 
@@ -184,8 +151,10 @@ pub fn feed(
     let mut s = state;
     let mut i = 0;
     while i < block.len() {
-        let t = take_byte(
-            block[i],
+        let byte = block[i];
+        let begun = push(line, byte, s);
+        let t = end_line(
+            byte == b'\n',
             line,
             registers,
             memory,
@@ -199,7 +168,7 @@ pub fn feed(
             predicate_values,
             surface_bytes,
             surface_lengths,
-            s,
+            begun,
         );
         s = t;
         i += 1;
@@ -233,24 +202,21 @@ pub fn finish(
 ) -> State
     ensures { λ r. ⌜ machine (now (line .entry)) r (contents (now (registers .exit)) (now (memory .exit)) (now (kernel .exit)) (now («register_taint» .exit)) (now («surface_taint» .exit)) (now («memory_taint» .exit))) (tables (now (types .exit)) (now (starts .exit)) (now (counts .exit)) (now («predicate_values» .exit)) (now («surface_bytes» .exit)) (now («surface_lengths» .exit))) ≡ finished (machine (now (line .entry)) state (contents (now (registers .entry)) (now (memory .entry)) (now (kernel .entry)) (now («register_taint» .entry)) (now («surface_taint» .entry)) (now («memory_taint» .entry))) (tables (now (types .entry)) (now (starts .entry)) (now (counts .entry)) (now («predicate_values» .entry)) (now («surface_bytes» .entry)) (now («surface_lengths» .entry)))) ⌝ }
 {
-    if is_begun(state) {
-        end_line(
-            line,
-            registers,
-            memory,
-            kernel,
-            register_taint,
-            surface_taint,
-            memory_taint,
-            types,
-            starts,
-            counts,
-            predicate_values,
-            surface_bytes,
-            surface_lengths,
-            state,
-        )
-    } else {
-        state
-    }
+    end_line(
+        is_begun(state),
+        line,
+        registers,
+        memory,
+        kernel,
+        register_taint,
+        surface_taint,
+        memory_taint,
+        types,
+        starts,
+        counts,
+        predicate_values,
+        surface_bytes,
+        surface_lengths,
+        state,
+    )
 }

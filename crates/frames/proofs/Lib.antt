@@ -1,2 +1,4 @@
+pub mod FrameLaws
 pub mod Judged
+pub mod OnceLaws
 pub mod Room

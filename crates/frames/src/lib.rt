@@ -1,14 +1,14 @@
 // A case file's lines: each is a frame, its first byte the kind, and goes into the caller's buffers.
 ghost use mathlib.Core.Path.{_≡_};
 ghost use Prim.Native.Nat.{_<_};
-ghost use lib.ListN.{getD, drop};
+ghost use lib.ListN.{drop};
 ghost use lib.Dec.{ltb};
 ghost use Rattle.hex.specs.Bytes.{hexBytes};
 ghost use Rattle.frames.specs.Reading.{contents, tables, reading};
 ghost use Rattle.frames.specs.Lines.{nothing, next, badLine, longLine, goodLine, metOf, lengthOf, counted, sized, based, masked};
 ghost use Rattle.frames.specs.Repeated.{variables, variableRead, predicates, predicateRead, surfaces, surfaceRead};
 ghost use Rattle.frames.specs.Once.{kept, contentRead, memoryRead, maskRead, once, onceRead};
-ghost use Rattle.frames.specs.Frames.{frameRead, lineRead};
+ghost use Rattle.frames.specs.Frames.{lineRead};
 ghost use Rattle.frames.specs.Verdicts.{taintLength, verdictOf};
 
 const LAST_LINE: u32 = 4294967295;
@@ -280,48 +280,6 @@ fn take_once(
     bad_line(case)
 }
 
-// A frame of any kind.
-fn take_frame(
-    line: &[u8],
-    registers: &mut [u8],
-    memory: &mut [u8],
-    kernel: &mut [u8],
-    register_taint: &mut [u8],
-    surface_taint: &mut [u8],
-    memory_taint: &mut [u8],
-    types: &mut [u8],
-    starts: &mut [u16],
-    counts: &mut [u16],
-    predicate_values: &mut [u32],
-    surface_bytes: &mut [u8],
-    surface_lengths: &mut [u16],
-    case: Case,
-) -> Case
-    ensures { λ r. ⌜ reading r (contents (now (registers .exit)) (now (memory .exit)) (now (kernel .exit)) (now («register_taint» .exit)) (now («surface_taint» .exit)) (now («memory_taint» .exit))) (tables (now (types .exit)) (now (starts .exit)) (now (counts .exit)) (now («predicate_values» .exit)) (now («surface_bytes» .exit)) (now («surface_lengths» .exit))) ≡ frameRead (getD (hexBytes (now (line .entry))) 0 0) (hexBytes (now (line .entry))) (reading case (contents (now (registers .entry)) (now (memory .entry)) (now (kernel .entry)) (now («register_taint» .entry)) (now («surface_taint» .entry)) (now («memory_taint» .entry))) (tables (now (types .entry)) (now (starts .entry)) (now (counts .entry)) (now («predicate_values» .entry)) (now («surface_bytes» .entry)) (now («surface_lengths» .entry)))) ⌝ }
-{
-    let kind = hex::byte(line, 0);
-    if kind == 2 {
-        return put_variable(line, types, starts, counts, case);
-    }
-    if kind == 3 {
-        return put_predicate(line, predicate_values, case);
-    }
-    if kind == 4 {
-        return put_surface(line, surface_bytes, surface_lengths, case);
-    }
-    take_once(
-        line,
-        kind,
-        registers,
-        memory,
-        kernel,
-        register_taint,
-        surface_taint,
-        memory_taint,
-        case,
-    )
-}
-
 // One line's characters. After the first bad line nothing counts.
 pub fn take_line(
     line: &[u8],
@@ -344,26 +302,30 @@ pub fn take_line(
     if 0 < case.bad {
         return case;
     }
-    if hex::is_hex(line) {
-        take_frame(
-            line,
-            registers,
-            memory,
-            kernel,
-            register_taint,
-            surface_taint,
-            memory_taint,
-            types,
-            starts,
-            counts,
-            predicate_values,
-            surface_bytes,
-            surface_lengths,
-            case,
-        )
-    } else {
-        bad_line(case)
+    if !hex::is_hex(line) {
+        return bad_line(case);
     }
+    let kind = hex::byte(line, 0);
+    if kind == 2 {
+        return put_variable(line, types, starts, counts, case);
+    }
+    if kind == 3 {
+        return put_predicate(line, predicate_values, case);
+    }
+    if kind == 4 {
+        return put_surface(line, surface_bytes, surface_lengths, case);
+    }
+    take_once(
+        line,
+        kind,
+        registers,
+        memory,
+        kernel,
+        register_taint,
+        surface_taint,
+        memory_taint,
+        case,
+    )
 }
 
 // How many bytes of taint a buffer has, by the kinds of the two frames: an absent frame is as long as the buffer.
