@@ -7,6 +7,7 @@ pub mod NumberLaws
 pub mod TaintLaws
 pub mod CopyLaws
 pub mod NumberWriteLaws
+pub mod RowLaws
 pub mod AmongLaws
 pub mod LaneLaws
 pub mod LaneStayLaws

@@ -46,10 +46,10 @@ abbrev pub Outside : ℕ → ℕ → ℕ → Type 0
 Outside at n j = (j < at) ⊎ (at + n ≤ j)
 
 module _ (at n j : ℕ) (out : Outside at (suc n) j) where
-  first-apart : eqb at j ≡ false
+  pub first-apart : eqb at j ≡ false
   first-apart = ne-eqb at j (λ (e : at ≡ j). ⊎-elim (λ (h : j < at). omega arith) (λ (h : at + suc n ≤ j). omega arith) out)
 
-  rest-apart : Outside (suc at) n j
+  pub rest-apart : Outside (suc at) n j
   rest-apart = ⊎-elim (λ (h : j < at). inl (omega arith)) (λ (h : at + suc n ≤ j). inr (omega arith)) out
 
 pub number-writes-outside : (n at mark value j : ℕ) → Outside at n j → writesAt (numberWrites at n mark value) j ≡ false

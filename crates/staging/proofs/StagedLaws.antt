@@ -79,7 +79,7 @@ module _ (registers : Buffer) (e : Elements) (base : ℕ) where
   pub staged-outside : (lanes : ℕ) (room : Buffer) (j : ℕ) → Outside base (lanes * e .size) j → Kept room (staged registers e lanes base room) j
   unfolding staged
   staged-outside lanes room j out =
-      stays (each (stageLane registers e base) (among (λ _. true) lanes)) room j (lanes-outside (stageLane registers e base) (λ _. true) lanes j (λ k h. lane-outside k j (apart k h)))
+      stays (each (stageLane registers e base) (among (λ _. true) lanes)) room j (lanes-outside (stageLane registers e base) (λ _. true) lanes j (λ k h _. lane-outside k j (apart k h)))
     where
       apart : (k : ℕ) → k < lanes → Outside (base + k * e .size) (e .size) j
       apart k h =
@@ -89,7 +89,7 @@ module _ (registers : Buffer) (e : Elements) (base : ℕ) where
   pub staged-stands : (lanes lane : ℕ) (room : Buffer) → Room room base (lanes * e .size) → lane < lanes → Stands registers e base lane (staged registers e lanes base room)
   unfolding staged
   staged-stands lanes lane room fits h =
-      kept-stands registers e base lane _ _ (λ k g. lane-stays (stageLane registers e base) (λ _. true) lane lanes room (base + lane * e .size + k) h refl (later k g)) (lane-stands lane before here)
+      kept-stands registers e base lane _ _ (λ k g. lane-stays (stageLane registers e base) (λ _. true) lane lanes room (base + lane * e .size + k) h refl (λ i a b _. later k g i a b)) (lane-stands lane before here)
     where
       before : Buffer
       before = writtenAll (each (stageLane registers e base) (among (λ _. true) lane)) room
