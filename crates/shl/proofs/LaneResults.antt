@@ -11,12 +11,10 @@ use Rattle.cells.specs.Element.{element}
 use Rattle.cells.specs.Writes.{writtenAll}
 use Rattle.cells.specs.Over.{each}
 use Rattle.cells.proofs.NumberLaws.{element-is}
-use Rattle.cells.proofs.WriteLaws.{bytes-kept, taint-kept}
-use Rattle.cells.proofs.CopyLaws.{Room}
 use Rattle.cells.proofs.StayLaws.{Kept, Outside}
-use Rattle.cells.proofs.RowLaws.{Holds, row, number-row, number-held}
+use Rattle.cells.proofs.RowLaws.{Holds, row, number-row}
+use Rattle.cells.proofs.NumberWriteLaws.{number-held}
 use Rattle.channels.specs.Exec.{execSize}
-use Rattle.channels.proofs.LaneLaws.{on-below-size}
 use Rattle.shift.proofs.SpanLaws.{span-bytes}
 use Rattle.shift.proofs.ShiftLaws.{shifted-small}
 use Rattle.plan.specs.declared.Plan.{Plan}
@@ -52,27 +50,22 @@ module _ (registers mask : ℕ) (p : Plan) (few : execSize (p .control .exec) �
         apart = λ i k h g. sound .apart .each i k h (omega arith);
       }
 
-  lane-row : (lane : ℕ) → shlLane b p lane ≡ row (λ k. shlValue (b .bytes) p lane / 256 ^ k % 256) (λ _. shlMark (b .taint) p lane) (destination p lane) (p .payload .size)
+  lane-row : (lane : ℕ) → shlLane b p lane ≡ row (λ k. shlValue (b .bytes) p lane / 256 ^ k % 256) (λ _. shlMark (b .taint) p lane) (destination p lane) 0 (p .payload .size)
   unfolding shlLane
-  lane-row lane = number-row (p .payload .size) (destination p lane) (shlMark (b .taint) p lane) (shlValue (b .bytes) p lane)
+  lane-row lane = number-row (destination p lane) (shlMark (b .taint) p lane) (shlValue (b .bytes) p lane) (p .payload .size)
 
   lane-holds : (lane : ℕ) → Enabled mask p lane → LaneHolds p b after lane
   lane-holds lane enabled =
       record {
         value =
             element-is (p .payload .size) (after .bytes) (destination p lane) (omega (arith, sound .payload .size .1))
-            ∙ number-held (p .payload .size) (destination p lane) (shlValue (b .bytes) p lane) after room (λ k h. each-byte k h .byte)
+            ∙ number-held (p .payload .size) (after .bytes) (destination p lane) (shlValue (b .bytes) p lane) (λ k h. each-byte k h .byte)
             ∙ mod-eq-of-lt (value-small (b .bytes) p lane);
         each-byte = each-byte;
       }
     where
       each-byte : (k : ℕ) → k < p .payload .size → Holds after (destination p lane + k) (shlValue (b .bytes) p lane / 256 ^ k % 256) (shlMark (b .taint) p lane)
       each-byte = lanes-hold mask p (p .payload .size) b (shlLane b p) (λ i k. shlValue (b .bytes) p i / 256 ^ k % 256) (λ i _. shlMark (b .taint) p i) lane-row apart lane enabled
-
-      room : Room after (destination p lane) (p .payload .size)
-      room =
-          let here = apart .inside lane (on-below-size (p .control .exec) (p .control .pred) mask (p .bits) lane enabled) in
-          record { bytes = rw (bytes-kept (each (shlLane b p) (lanesOn mask p)) b) (here .bytes); taint = rw (taint-kept (each (shlLane b p) (lanesOn mask p)) b) (here .taint) }
 
   pub shl-results : LanesHold mask p b (writtenAll (shlEffect p (lanesOn mask p) b .registers) b)
   unfolding shlEffect

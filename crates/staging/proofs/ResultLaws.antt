@@ -11,9 +11,8 @@ use Rattle.cells.specs.Buffer.{Buffer}
 use Rattle.cells.specs.Writes.{Write, writtenAll}
 use Rattle.cells.specs.Over.{among, each}
 use Rattle.cells.proofs.WriteLaws.{bytes-kept, taint-kept}
-use Rattle.cells.proofs.CopyLaws.{Room}
 use Rattle.cells.proofs.StayLaws.{Kept, Outside, writesAt, stays}
-use Rattle.cells.proofs.RowLaws.{Holds, row, row-outside, row-holds, kept-holds}
+use Rattle.cells.proofs.RowLaws.{Room, Holds, row, row-outside, row-holds, kept-holds}
 use Rattle.cells.proofs.LaneStayLaws.{lanes-outside, lane-stays}
 use Rattle.channels.specs.Exec.{execSize}
 use Rattle.channels.specs.Lanes.{laneOn}
@@ -34,7 +33,7 @@ pub record Destinations (p : Plan) (size : ℕ) (b : Buffer) : Type 0 where
   pub inside : (lane : ℕ) → lane < execSize (p .control .exec) → Room b (destination p lane) size
   pub apart : (i k : ℕ) → i < k → k < execSize (p .control .exec) → destination p i + size ≤ destination p k
 
-module _ (mask : ℕ) (p : Plan) (size : ℕ) (b : Buffer) (f : ℕ → List Write) (byte mark : ℕ → ℕ → ℕ) (rows : (lane : ℕ) → f lane ≡ row (byte lane) (mark lane) (destination p lane) size) where
+module _ (mask : ℕ) (p : Plan) (size : ℕ) (b : Buffer) (f : ℕ → List Write) (byte mark : ℕ → ℕ → ℕ) (rows : (lane : ℕ) → f lane ≡ row (byte lane) (mark lane) (destination p lane) 0 size) where
   abbrev on : ℕ → Bool
   on = laneOn (p .control .exec) (p .control .pred) mask (p .bits)
 

@@ -13,9 +13,10 @@ use Rattle.cells.specs.Over.{among, each}
 use Rattle.cells.proofs.WriteLaws.{bytes-kept, taint-kept}
 use Rattle.cells.proofs.NumberLaws.{number-local}
 use Rattle.cells.proofs.TaintLaws.{tainted-local}
-use Rattle.cells.proofs.CopyLaws.{Room, copied-number, copied-taint}
-use Rattle.cells.proofs.NumberWriteLaws.{written-number, written-untainted}
-use Rattle.cells.proofs.StayLaws.{Kept, Outside, writesAt, stays, number-writes-outside, copy-writes-outside}
+use Rattle.cells.proofs.RowLaws.{Room}
+use Rattle.cells.proofs.CopyLaws.{copy-writes-outside, copied-number, copied-taint}
+use Rattle.cells.proofs.NumberWriteLaws.{number-writes-outside, written-number, written-untainted}
+use Rattle.cells.proofs.StayLaws.{Kept, Outside, writesAt, stays}
 use Rattle.cells.proofs.LaneStayLaws.{lanes-outside, lane-stays}
 use Rattle.operands.specs.declared.Elements.{Elements}
 use Rattle.staging.specs.Sources.{elementValue, elementTainted}
