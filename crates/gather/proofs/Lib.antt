@@ -7,3 +7,4 @@ pub mod AddressLaws
 pub mod RoomLaws
 pub mod GuardLaws
 pub mod SoundLaws
+pub mod LaneResults

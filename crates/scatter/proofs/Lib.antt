@@ -14,3 +14,4 @@ pub mod Refusal
 pub mod Plain
 pub mod DataLaws
 pub mod SoundLaws
+pub mod PairResults

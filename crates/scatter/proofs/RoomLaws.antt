@@ -14,8 +14,9 @@ use Rattle.cells.specs.Writes.{writtenAll, copyWrites}
 use Rattle.cells.specs.Over.{each, some}
 use Rattle.cells.specs.Effect.{unless}
 use Rattle.cells.proofs.WriteLaws.{bytes-kept, taint-kept}
-use Rattle.cells.proofs.StayLaws.{Kept, stays, copy-writes-outside}
-use Rattle.cells.proofs.CopyLaws.{Room, Copied, copied}
+use Rattle.cells.proofs.StayLaws.{Kept, stays}
+use Rattle.cells.proofs.RowLaws.{Room}
+use Rattle.cells.proofs.CopyLaws.{Copied, copy-writes-outside, copied}
 use Rattle.cells.proofs.SearchLaws.{some-alike}
 use Rattle.cells.proofs.LaneLaws.{lanes-alike}
 use Rattle.channels.specs.Bits.{bit}

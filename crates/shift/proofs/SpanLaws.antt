@@ -1,5 +1,5 @@
 -- Laws of `span`: it is a power of two that divides 2^64, and small for at most four bytes.
-use mathlib.Core.Path.{_≡_, ap, _∙_}
+use mathlib.Core.Path.{_≡_, refl, ap, _∙_}
 use Prim.Native.Nat.{ℕ, zero, suc, _+_, _*_, _-_, _%_, _^_, _≤_, _<_}
 use native.Mathlib.Omega.{arith}
 use native.Mathlib.Nat.{mod-lt, one-le-pow, pow-le-pow-right, pow-suc, pow-zero, mul-assoc, mod-mod-of-dvd, dvd-mul-right}
@@ -18,6 +18,14 @@ power-sum m (suc n) =
 pub span-some : (size : ℕ) → 0 < span size
 unfolding span
 span-some size = power-some (8 * size)
+
+-- 256 to the number of bytes
+pub span-bytes : (size : ℕ) → span size ≡ 256 ^ size
+unfolding span
+span-bytes zero = refl
+span-bytes (suc size) =
+    let e : 8 * suc size ≡ 8 * size + 8 = omega arith in
+    rw (e, power-sum (8 * size) 8, pow-suc 256 size) (ap (λ (n : ℕ). n * 256) (span-bytes size))
 
 pub span-small : (size : ℕ) → size ≤ 4 → span size ≤ 2 ^ 32
 unfolding span

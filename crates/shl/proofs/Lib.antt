@@ -5,3 +5,4 @@ pub mod Untainted
 pub mod Refusal
 pub mod Plain
 pub mod SoundLaws
+pub mod LaneResults

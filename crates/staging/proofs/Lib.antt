@@ -6,5 +6,6 @@ pub mod StagedLaws
 pub mod FitLaws
 pub mod BothLaws
 pub mod SourceLaws
+pub mod ResultLaws
 pub mod Untainted
 pub mod Plain

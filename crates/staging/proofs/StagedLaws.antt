@@ -13,9 +13,10 @@ use Rattle.cells.specs.Over.{among, each}
 use Rattle.cells.proofs.WriteLaws.{bytes-kept, taint-kept}
 use Rattle.cells.proofs.NumberLaws.{number-local}
 use Rattle.cells.proofs.TaintLaws.{tainted-local}
-use Rattle.cells.proofs.CopyLaws.{Room, copied-number, copied-taint}
-use Rattle.cells.proofs.NumberWriteLaws.{written-number, written-untainted}
-use Rattle.cells.proofs.StayLaws.{Kept, Outside, writesAt, stays, number-writes-outside, copy-writes-outside}
+use Rattle.cells.proofs.RowLaws.{Room}
+use Rattle.cells.proofs.CopyLaws.{copy-writes-outside, copied-number, copied-taint}
+use Rattle.cells.proofs.NumberWriteLaws.{number-writes-outside, written-number, written-untainted}
+use Rattle.cells.proofs.StayLaws.{Kept, Outside, writesAt, stays}
 use Rattle.cells.proofs.LaneStayLaws.{lanes-outside, lane-stays}
 use Rattle.operands.specs.declared.Elements.{Elements}
 use Rattle.staging.specs.Sources.{elementValue, elementTainted}
@@ -79,7 +80,7 @@ module _ (registers : Buffer) (e : Elements) (base : ℕ) where
   pub staged-outside : (lanes : ℕ) (room : Buffer) (j : ℕ) → Outside base (lanes * e .size) j → Kept room (staged registers e lanes base room) j
   unfolding staged
   staged-outside lanes room j out =
-      stays (each (stageLane registers e base) (among (λ _. true) lanes)) room j (lanes-outside (stageLane registers e base) (λ _. true) lanes j (λ k h. lane-outside k j (apart k h)))
+      stays (each (stageLane registers e base) (among (λ _. true) lanes)) room j (lanes-outside (stageLane registers e base) (λ _. true) lanes j (λ k h _. lane-outside k j (apart k h)))
     where
       apart : (k : ℕ) → k < lanes → Outside (base + k * e .size) (e .size) j
       apart k h =
@@ -89,7 +90,7 @@ module _ (registers : Buffer) (e : Elements) (base : ℕ) where
   pub staged-stands : (lanes lane : ℕ) (room : Buffer) → Room room base (lanes * e .size) → lane < lanes → Stands registers e base lane (staged registers e lanes base room)
   unfolding staged
   staged-stands lanes lane room fits h =
-      kept-stands registers e base lane _ _ (λ k g. lane-stays (stageLane registers e base) (λ _. true) lane lanes room (base + lane * e .size + k) h refl (later k g)) (lane-stands lane before here)
+      kept-stands registers e base lane _ _ (λ k g. lane-stays (stageLane registers e base) (λ _. true) lane lanes room (base + lane * e .size + k) h refl (λ i a b _. later k g i a b)) (lane-stands lane before here)
     where
       before : Buffer
       before = writtenAll (each (stageLane registers e base) (among (λ _. true) lane)) room
