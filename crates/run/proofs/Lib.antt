@@ -5,3 +5,8 @@ pub mod Fuel
 pub mod Kept
 pub mod Plain
 pub mod ShowLaws
+pub mod PerformLaws
+pub mod StepLaws
+pub mod RunLaws
+pub mod FitsLaws
+pub mod PlainRunLaws
