@@ -25,7 +25,7 @@ use Rattle.run.specs.Ran.{Ran, ended, refusedAt, went, wentCount}
 use Rattle.run.proofs.Whole.{run-is}
 
 -- a step that goes on goes forward, and not past the end
-abbrev Forward : ℕ → ℕ → ℕ → Type 0
+abbrev pub Forward : ℕ → ℕ → ℕ → Type 0
 Forward end at next = (at < next) × (next ≤ end)
 
 module _ (step : ℕ → State → Stepped) (end : ℕ) (forward : (at : ℕ) (s : State) → step at s .effect .number ≡ 0 → Forward end at (step at s .next)) where
@@ -63,7 +63,7 @@ module _ (step : ℕ → State → Stepped) (end : ℕ) (forward : (at : ℕ) (s
       rw (lt-ltb at end h, e) (ran-only rest fuel (omega (arith, f .0, enough)))
 
 -- what decoding accepts ends past its start and within the kernel, and a refusal's number is not 0
-step-forward : (x : Setup) → Bytes (x .kernel) → (at : ℕ) (s : State) → stepAt x at s .effect .number ≡ 0 → Forward (length (x .kernel)) at (stepAt x at s .next)
+pub step-forward : (x : Setup) → Bytes (x .kernel) → (at : ℕ) (s : State) → stepAt x at s .effect .number ≡ 0 → Forward (length (x .kernel)) at (stepAt x at s .next)
 unfolding stepAt
 step-forward x b at s e = told (instructionAt (x .kernel) at) refl e
   where
