@@ -2,3 +2,4 @@ pub mod DecodeEncode
 pub mod EncodeDecode
 pub mod Laws
 pub mod FormatLaws
+pub mod ScatterLaws

@@ -80,7 +80,7 @@ one-good : (f : Field) → fieldRefusal f ≡ 0 → layoutRefusal (f ∷ []) ≡
 unfolding layoutRefusal
 one-good f e = rw e
 
-good-one : (f : Field) → layoutRefusal (f ∷ []) ≡ 0 → fieldRefusal f ≡ 0
+pub good-one : (f : Field) → layoutRefusal (f ∷ []) ≡ 0 → fieldRefusal f ≡ 0
 unfolding layoutRefusal
 good-one f e = told (eqb (fieldRefusal f) 0) refl e
   where

@@ -6,3 +6,4 @@ pub mod DwordLaws
 pub mod AddressLaws
 pub mod RoomLaws
 pub mod GuardLaws
+pub mod SoundLaws

@@ -1,6 +1,6 @@
--- GATHER_SCALED is not refused once it is run.
-use mathlib.Core.Path.{refl}
-use mathlib.Core.List.{List}
+-- GATHER_SCALED is not refused once it is run, and writes registers only.
+use mathlib.Core.Path.{_≡_, refl}
+use mathlib.Core.List.{List, []}
 use Prim.Native.Nat.{ℕ}
 use Rattle.cells.specs.Buffer.{Buffer}
 use Rattle.cells.proofs.RefusalLaws.{WritesOnlyWhenDone, done-writes}
@@ -10,3 +10,7 @@ use Rattle.gather.specs.Gather.{gatherEffect}
 pub gather-writes : (p : Plan) (lanes : List ℕ) (b f : Buffer) → WritesOnlyWhenDone (gatherEffect p lanes b f)
 unfolding gatherEffect
 gather-writes p lanes b f = done-writes _ refl
+
+pub gather-spares-memory : (p : Plan) (lanes : List ℕ) (b f : Buffer) → gatherEffect p lanes b f .memory ≡ []
+unfolding gatherEffect
+gather-spares-memory p lanes b f = refl

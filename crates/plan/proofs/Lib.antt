@@ -3,3 +3,4 @@ pub mod ScatterLaws
 pub mod PlanLaws
 pub mod Worked
 pub mod ChannelLaws
+pub mod InstructionLaws

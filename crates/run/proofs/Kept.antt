@@ -36,7 +36,7 @@ use Rattle.run.proofs.Fuel.{run-ran}
 
 -- ---- lengths and surfaces
 
-after-lengths : (x : Setup) (e : Effect) (s : State) → lengthsOf x (after e s) ≡ lengthsOf x s
+pub after-lengths : (x : Setup) (e : Effect) (s : State) → lengthsOf x (after e s) ≡ lengthsOf x s
 after-lengths x e s =
     λ i.
     record {

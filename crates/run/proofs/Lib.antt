@@ -6,3 +6,8 @@ pub mod Within
 pub mod Kept
 pub mod Plain
 pub mod ShowLaws
+pub mod PerformLaws
+pub mod StepLaws
+pub mod RunLaws
+pub mod FitsLaws
+pub mod PlainRunLaws

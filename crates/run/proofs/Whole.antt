@@ -7,7 +7,8 @@ use lib.ListN.{length}
 use Rattle.tables.specs.Tables.{tablesGood}
 use Rattle.run.specs.State.{Setup, State, lengthsOf}
 use Rattle.run.specs.Step.{stepAt}
-use Rattle.run.specs.Run.{stopped, runFrom, run, unmarked, plainRun}
+use Rattle.run.specs.Run.{stopped, runFrom, run}
+use Rattle.run.specs.PlainRun.{unmarked, plainRun}
 
 pub run-is : (x : Setup) (s : State) → run x s ≡ cond (tablesGood (lengthsOf x s) (x .tables)) (runFrom (stepAt x) (length (x .kernel)) (length (x .kernel)) 0 0 s) (stopped 13 0 0 s)
 unfolding run

@@ -3,5 +3,6 @@ pub mod Step
 pub mod Fits
 pub mod Performed
 pub mod Run
+pub mod PlainRun
 pub mod Ran
 pub mod Show

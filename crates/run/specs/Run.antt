@@ -2,10 +2,8 @@
 -- (or the end). 13 answers 0 and 0. Earlier instructions stand."
 use Prim.Native.Nat.{ℕ, zero, suc}
 use mathlib.Core.Bool.{cond}
-use mathlib.Core.List.{List}
-use lib.ListN.{length, replicate}
+use lib.ListN.{length}
 use lib.Dec.{ltb}
-use Rattle.cells.specs.Buffer.{Buffer}
 use Rattle.tables.specs.Tables.{tablesGood}
 use Rattle.run.specs.declared.Answer.{Answer}
 use Rattle.run.specs.State.{Setup, State, lengthsOf}
@@ -40,11 +38,3 @@ run x s =
     cond (tablesGood (lengthsOf x s) (x .tables))
     (runFrom (stepAt x) (length (x .kernel)) (length (x .kernel)) 0 0 s)
     (stopped 13 0 0 s)
-
--- "A plain run equals a marked run with no marks."
-abbrev pub unmarked : List ℕ → Buffer
-unmarked bytes = record { bytes = bytes; taint = replicate (length bytes) 0 }
-
-unfoldable pub plainRun : Setup → List ℕ → List ℕ → List ℕ → Outcome
-plainRun x registers surfaces memory =
-    run x (record { registers = unmarked registers; surfaces = unmarked surfaces; memory = unmarked memory })

@@ -10,7 +10,8 @@ ghost use Rattle.tables.specs.Tables.{tables, tablesGood};
 ghost use Rattle.run.specs.Fits.{Fits};
 ghost use Rattle.run.specs.State.{setup, state, lengthsOf};
 ghost use Rattle.run.specs.Performed.{performed, planPerformed, advanced, stepAdvanced};
-ghost use Rattle.run.specs.Run.{outcome, run, plainRun};
+ghost use Rattle.run.specs.Run.{outcome, run};
+ghost use Rattle.run.specs.PlainRun.{plainRun, plainOutcome, withoutMarks, tooLong};
 ghost use Rattle.run.specs.Show.{isInside, partOf, shown, shownNumber};
 
 // What stays the same in a run beside the borrowed slices: the memory window's base, and the execution mask (EM).
@@ -231,6 +232,57 @@ pub fn run(
             position: 0,
         }
     }
+}
+
+fn too_long(registers: usize, surfaces: usize, memory: usize) -> bool
+    ensures { λ r. ⌜ r ≡ tooLong registers surfaces memory ⌝ }
+{
+    (4096 < registers) | ((8192 < surfaces) | (4096 < memory))
+}
+
+// A run without taint: the run over taint that is all zero.
+pub fn plain_run(
+    kernel: &[u8],
+    types: &[u8],
+    starts: &[u16],
+    counts: &[u16],
+    predicates: &[u32],
+    surface_lengths: &[u16],
+    constants: Constants,
+    surfaces: &[u8],
+    registers: &mut [u8],
+    memory: &mut [u8],
+) -> Answer
+    ensures { λ r. ⌜ plainOutcome r (now (registers .exit)) (now (memory .exit)) ≡ withoutMarks (plainRun (setup (now (kernel .entry)) (tables (now (types .entry)) (now (starts .entry)) (now (counts .entry)) (now (predicates .entry)) (now («surface_lengths» .entry))) (constants .base) (constants .mask)) (now (registers .entry)) (now (surfaces .entry)) (now (memory .entry))) ⌝ }
+{
+    let register_count = registers.len();
+    let surface_count = surfaces.len();
+    let memory_count = memory.len();
+    if too_long(register_count, surface_count, memory_count) {
+        return Answer {
+            number: 13,
+            completed: 0,
+            position: 0,
+        };
+    }
+    let mut register_taint = [0u8; 4096];
+    let surface_taint = [0u8; 8192];
+    let mut memory_taint = [0u8; 4096];
+    run(
+        kernel,
+        types,
+        starts,
+        counts,
+        predicates,
+        surface_lengths,
+        constants,
+        surfaces,
+        &surface_taint[..surface_count],
+        registers,
+        &mut register_taint[..register_count],
+        memory,
+        &mut memory_taint[..memory_count],
+    )
 }
 
 // Which of the two buffers is shown.

@@ -13,3 +13,4 @@ pub mod Untainted
 pub mod Refusal
 pub mod Plain
 pub mod DataLaws
+pub mod SoundLaws

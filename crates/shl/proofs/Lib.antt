@@ -4,3 +4,4 @@ pub mod GuardLaws
 pub mod Untainted
 pub mod Refusal
 pub mod Plain
+pub mod SoundLaws

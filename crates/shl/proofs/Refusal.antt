@@ -1,6 +1,6 @@
--- SHL is not refused once it is run.
-use mathlib.Core.Path.{refl}
-use mathlib.Core.List.{List}
+-- SHL is not refused once it is run, and writes registers only.
+use mathlib.Core.Path.{_≡_, refl}
+use mathlib.Core.List.{List, []}
 use Prim.Native.Nat.{ℕ}
 use Rattle.cells.specs.Buffer.{Buffer}
 use Rattle.cells.proofs.RefusalLaws.{WritesOnlyWhenDone, done-writes}
@@ -10,3 +10,7 @@ use Rattle.shl.specs.Shl.{shlEffect}
 pub shl-writes : (p : Plan) (lanes : List ℕ) (b : Buffer) → WritesOnlyWhenDone (shlEffect p lanes b)
 unfolding shlEffect
 shl-writes p lanes b = done-writes _ refl
+
+pub shl-spares-memory : (p : Plan) (lanes : List ℕ) (b : Buffer) → shlEffect p lanes b .memory ≡ []
+unfolding shlEffect
+shl-spares-memory p lanes b = refl

@@ -1,9 +1,11 @@
--- What the test of fitting elements says: how many lanes there are, and how large their elements.
+-- What the test of fitting elements says: how many lanes there are, and how large their elements; and which elements pass it.
 use Prim.Native.Nat.{ℕ, _*_, _≤_}
 use mathlib.Core.Path.{_≡_, refl}
 use mathlib.Core.Bool.{Bool, true, false, _&&_, false≢true}
 use lib.Dec.{leb}
-use borrow.Author.Tests.{leb-true}
+use native.Mathlib.Nat.{mul-le-mul-left}
+use native.Mathlib.Omega.{arith}
+use borrow.Author.Tests.{leb-true, le-leb}
 use Rattle.operands.specs.declared.Elements.{Elements}
 use Rattle.staging.specs.Staged.{elementsFit}
 
@@ -27,3 +29,10 @@ module _ (size : ℕ) (e : Elements) (lanes : ℕ) (fit : elementsFit size e lan
 
   pub fit-bytes : lanes * e .size ≤ 128
   fit-bytes = leb-true (lanes * e .size) 128 (parts .2)
+
+-- elements of at most this size, in lanes for which there is room if they have all of it
+pub elements-fit : (size : ℕ) (e : Elements) (lanes : ℕ) → lanes ≤ 32 → e .size ≤ size → lanes * size ≤ 128 → elementsFit size e lanes ≡ true
+unfolding elementsFit
+elements-fit size e lanes few small room =
+    let bytes : lanes * e .size ≤ 128 = omega (arith, mul-le-mul-left lanes small) in
+    rw (le-leb lanes 32 few, le-leb (e .size) size small, le-leb (lanes * e .size) 128 bytes)

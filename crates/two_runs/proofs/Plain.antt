@@ -13,7 +13,8 @@ use Rattle.tables.proofs.Limits.{Limited}
 use Rattle.tables.proofs.Laws.{limited}
 use Rattle.run.specs.State.{Setup, State, lengthsOf}
 use Rattle.run.specs.Step.{stepAt, after}
-use Rattle.run.specs.Run.{Outcome, stopped, runFrom, run, unmarked}
+use Rattle.run.specs.Run.{Outcome, stopped, runFrom, run}
+use Rattle.run.specs.PlainRun.{unmarked}
 use Rattle.run.proofs.Simulation.{run-keeps, runs-same-where}
 use Rattle.run.proofs.Kept.{refused-step-keeps}
 use Rattle.run.proofs.Plain.{PlainStates, step-plain}

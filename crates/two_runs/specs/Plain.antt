@@ -4,7 +4,8 @@ use mathlib.Core.Path.{_≡_}
 use Prim.Native.Nat.{ℕ}
 use lib.ListN.{getD}
 use Rattle.run.specs.State.{Setup, State}
-use Rattle.run.specs.Run.{Outcome, plainRun}
+use Rattle.run.specs.Run.{Outcome}
+use Rattle.run.specs.PlainRun.{plainRun}
 
 -- no byte is marked
 pub record NoMarks (s : State) : Type 0 where

@@ -4,7 +4,8 @@ use mathlib.Core.List.{List, [], _∷_}
 use Prim.Native.Nat.{ℕ, zero, suc, _/_, _%_, _^_}
 use lib.ListN.{replicate}
 use Rattle.tables.specs.Tables.{Tables}
-use Rattle.run.specs.Run.{Outcome, plainRun}
+use Rattle.run.specs.Run.{Outcome}
+use Rattle.run.specs.PlainRun.{plainRun}
 
 -- n bytes, written as one number in hex, the first byte first, as the paper writes them
 unfoldable pub hex : ℕ → ℕ → List ℕ

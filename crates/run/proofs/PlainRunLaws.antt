@@ -1,0 +1,72 @@
+-- The plain run's two ways: buffers too long for any tables, and the run over taint that is all zero.
+use mathlib.Core.Path.{_≡_, refl, sym, ap, _∙_}
+use mathlib.Core.Bool.{Bool, true, false, true≢false, _||_}
+use mathlib.Core.List.{List, []}
+use Prim.Native.Nat.{ℕ, zero, suc, _≤_}
+use native.Mathlib.Omega.{arith}
+use lib.ListN.{length, take, replicate, length-replicate}
+use lib.Dec.{ltb}
+use borrow.Author.Tests.{ltb-true, ltb-false, le-ltb}
+use Rattle.tables.specs.declared.Lengths.{Lengths}
+use Rattle.tables.specs.Tables.{Tables, tablesGood}
+use Rattle.tables.proofs.Laws.{limited, surfaces-small}
+use Rattle.run.specs.declared.Answer.{Answer}
+use Rattle.run.specs.State.{Setup, State, state, lengthsOf}
+use Rattle.run.specs.Run.{Outcome, outcome, stopped, run}
+use Rattle.run.specs.PlainRun.{plainRun, plainOutcome, withoutMarks, tooLong}
+use Rattle.run.proofs.Whole.{tables-refused, plain-run-is}
+
+pub zeros : (n m : ℕ) → n ≤ m → take {A = ℕ} n (replicate m 0) ≡ replicate n 0
+zeros zero m h = refl
+zeros (suc n) zero h = absurd (omega arith)
+zeros (suc n) (suc m) h = rw (zeros n m (omega arith))
+
+pub zeros-length : (n m : ℕ) → n ≤ m → n ≡ length (take {A = ℕ} n (replicate m 0))
+zeros-length n m h = sym (ap length (zeros n m h) ∙ length-replicate {A = ℕ} n 0)
+
+-- what the test leaves
+pub record Short (registers surfaces memory : ℕ) : Type 0 where
+  pub registers-short : registers ≤ 4096
+  pub surfaces-short : surfaces ≤ 8192
+  pub memory-short : memory ≤ 4096
+
+or-false : (a b c : Bool) → (a || (b || c)) ≡ false → (a ≡ false) × ((b ≡ false) × (c ≡ false))
+or-false true b c e = absurd (true≢false e)
+or-false false true c e = absurd (true≢false e)
+or-false false false true e = absurd (true≢false e)
+or-false false false false e = (refl, (refl, refl))
+
+pub short-told : (registers surfaces memory : ℕ) → tooLong registers surfaces memory ≡ false → Short registers surfaces memory
+unfolding tooLong
+short-told registers surfaces memory e =
+    let h = or-false (ltb 4096 registers) (ltb 8192 surfaces) (ltb 4096 memory) e in
+    record {
+      registers-short = ltb-false 4096 registers (h .0);
+      surfaces-short = ltb-false 8192 surfaces (h .1 .0);
+      memory-short = ltb-false 4096 memory (h .1 .1);
+    }
+
+-- good tables have none of these lengths
+good-short : (l : Lengths) (t : Tables) → tablesGood l t ≡ true → tooLong (l .registers) (l .surfaces) (l .memory) ≡ false
+unfolding tooLong
+good-short l t good =
+    let limits = limited l t good in
+    rw (le-ltb 4096 (l .registers) (limits .registers-small), le-ltb 8192 (l .surfaces) (surfaces-small l t good), le-ltb 4096 (l .memory) (limits .memory-small))
+
+module _ (x : Setup) (registers surfaces memory : List ℕ) where
+  abbrev start : State
+  start = state registers (replicate (length registers) 0) surfaces (replicate (length surfaces) 0) memory (replicate (length memory) 0)
+
+  pub too-long-answers : tooLong (length registers) (length surfaces) (length memory) ≡ true → plainOutcome (record { number = 13; completed = 0; position = 0 }) registers memory ≡ withoutMarks (plainRun x registers surfaces memory)
+  too-long-answers long = ap withoutMarks (sym (plain-run-is x registers surfaces memory ∙ tables-refused x start (told (tablesGood (lengthsOf x start) (x .tables)) refl)))
+    where
+      told : (q : Bool) → tablesGood (lengthsOf x start) (x .tables) ≡ q → q ≡ false
+      told false e = refl
+      told true e = absurd (true≢false (sym long ∙ good-short (lengthsOf x start) (x .tables) e))
+
+  -- the run over zeros, of which the taint is dropped
+  pub zeros-answer : (a b c : List ℕ) (r : Answer) (s : State) → a ≡ replicate (length registers) 0 → b ≡ replicate (length surfaces) 0 → c ≡ replicate (length memory) 0
+      → outcome r s ≡ run x (state registers a surfaces b memory c) → plainOutcome r (s .registers .bytes) (s .memory .bytes) ≡ withoutMarks (plainRun x registers surfaces memory)
+  zeros-answer a b c r s za zb zc ran =
+      ap withoutMarks
+      (ran ∙ (λ i. run x (state registers (za i) surfaces (zb i) memory (zc i))) ∙ sym (plain-run-is x registers surfaces memory))

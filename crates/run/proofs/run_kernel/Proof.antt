@@ -1,0 +1,110 @@
+use mathlib.Core.Path.{_≡_, sym, ap, _∙_}
+use Prim.Native.Nat.{_-_}
+use native.Mathlib.Omega.{arith}
+use borrow.Author.Needs.{needs}
+use lib.ListN.{length}
+use Rattle.tables.specs.declared.Lengths.{Lengths}
+use Rattle.tables.specs.Tables.{tables}
+use Rattle.run.specs.State.{setup, state}
+use Rattle.run.proofs.RunLaws.{Reached, begins, still-good, ends, stops, goes}
+use Rattle.run.proofs.run_kernel.Statement.{statement}
+use Rattle.run.proofs.run_kernel.Tie as tie
+use Rattle.run.proofs.run_kernel.Reads as reads
+use Rattle.run.proofs.run_kernel.Lts as lts
+use Rattle.run.proofs.step.Reads as step-reads
+
+abbrev Inv-loop : tie.InvT-loop
+Inv-loop kernel types starts counts predicates surface-lengths constants surfaces surface-taint registers₀ register-taint₀ memory₀ memory-taint₀ completed₀ at₀ registers register-taint memory memory-taint completed at =
+    Reached (setup kernel (tables types starts counts predicates surface-lengths) (constants .base) (constants .mask)) (state registers₀ register-taint₀ surfaces surface-taint memory₀ memory-taint₀) completed at (state registers register-taint surfaces surface-taint memory memory-taint)
+
+abbrev μ-loop : tie.MeasureT-loop
+μ-loop kernel types starts counts predicates surface-lengths constants surfaces surface-taint registers₀ register-taint₀ memory₀ memory-taint₀ completed₀ at₀ registers register-taint memory memory-taint completed at =
+    length kernel - at
+
+-- src/lib.rt:146:5
+loop-holds : tie.Need-loop-holds Inv-loop μ-loop
+loop-holds c = begins _ _ (c .before .before .before .before .before .before .before .before .before .before .before .before .pre)
+
+-- src/lib.rt:147:13
+step-requires : tie.Need-step-requires Inv-loop μ-loop
+step-requires c κs = let l = c .before .before .before .before .before in still-good _ _ _ _ _ (l .loop .inv) (l .before .before .before .before .before .before .before .before .before .before .before .before .before .pre)
+
+-- src/lib.rt:164:13
+same-length : tie.Need-same-length Inv-loop μ-loop
+same-length c = let a = c .before .before .before .before .before .before .before .before .before .before in a .step .kept .1 .1 .1 .1 .1 .1 .1 .1 .1 .1 .0 ∙ ap (λ (l : Lengths). l .registers) (a .before .before .before .before .before .before .loop .inv .lengths)
+
+-- src/lib.rt:164:13
+same-length-2 : tie.Need-same-length-2 Inv-loop μ-loop
+same-length-2 c = let a = c .before .before .before .before .before .before .before .before .before .before in a .step .kept .1 .1 .1 .1 .1 .1 .1 .1 .1 .1 .1 .0 ∙ ap (λ (l : Lengths). l .taint .registers) (a .before .before .before .before .before .before .loop .inv .lengths)
+
+-- src/lib.rt:164:13
+same-length-3 : tie.Need-same-length-3 Inv-loop μ-loop
+same-length-3 c = let a = c .before .before .before .before .before .before .before .before .before .before in a .step .kept .1 .1 .1 .1 .1 .1 .1 .1 .1 .1 .1 .1 .0 ∙ ap (λ (l : Lengths). l .memory) (a .before .before .before .before .before .before .loop .inv .lengths)
+
+-- src/lib.rt:164:13
+same-length-4 : tie.Need-same-length-4 Inv-loop μ-loop
+same-length-4 c = let a = c .before .before .before .before .before .before .before .before .before .before in a .step .kept .1 .1 .1 .1 .1 .1 .1 .1 .1 .1 .1 .1 .1 .0 ∙ ap (λ (l : Lengths). l .taint .memory) (a .before .before .before .before .before .before .loop .inv .lengths)
+
+-- src/lib.rt:164:13
+returns : tie.Need-returns Inv-loop μ-loop
+returns c = let a = c .before .before .before .before .before .before .before .before .before .before in stops _ _ _ _ _ (a .before .before .before .before .before .before .loop .inv) (a .before .before .before .before .before .loop-test .taken) _ _ (a .step .ensures) (c .if1 .taken)
+
+-- src/lib.rt:170:9
+add-completed : tie.Need-add-completed Inv-loop μ-loop
+add-completed c =
+    let a = c .before .before .before .before .before .before .before .before .before .before in
+    omega (arith, a .before .before .before .before .before .before .loop .inv .few, a .before .before .before .before .before .loop-test .taken, a .before .before .before .before .before .before .before .before .before .before .before .before .before .before .before .before .before .before .before .good .0 .0)
+
+-- src/lib.rt:146:5
+loop-less : tie.Need-loop-less Inv-loop μ-loop
+loop-less c =
+    let a = c .before .before .before .before .before .before .before .before .before .before in
+    omega
+    (arith, a .before .before .before .before .before .loop-test .taken, goes _ _ _ _ _ (a .before .before .before .before .before .before .loop .inv) (a .before .before .before .before .before .loop-test .taken) _ _ (a .step .ensures) (λ k. omega (arith, a .before .before .before .before .before .before .before .before .before .before .before .before .before .before .before .before .before .before .shared-slice-known .given k)) (c .if1 .left) .forward)
+
+-- src/lib.rt:146:5
+loop-again : tie.Need-loop-again Inv-loop μ-loop
+loop-again c = let a = c .before .before .before .before .before .before .before .before .before .before in
+    goes _ _ _ _ _ (a .before .before .before .before .before .before .loop .inv) (a .before .before .before .before .before .loop-test .taken) _ _ (a .step .ensures) (λ k. omega (arith, a .before .before .before .before .before .before .before .before .before .before .before .before .before .before .before .before .before .before .shared-slice-known .given k)) (c .if1 .left) .reached
+
+-- src/lib.rt:126:1
+same-length-5 : tie.Need-same-length-5 Inv-loop μ-loop
+same-length-5 c = ap (λ (l : Lengths). l .registers) (c .before .loop .inv .lengths)
+
+-- src/lib.rt:126:1
+same-length-6 : tie.Need-same-length-6 Inv-loop μ-loop
+same-length-6 c = ap (λ (l : Lengths). l .taint .registers) (c .before .loop .inv .lengths)
+
+-- src/lib.rt:126:1
+same-length-7 : tie.Need-same-length-7 Inv-loop μ-loop
+same-length-7 c = ap (λ (l : Lengths). l .memory) (c .before .loop .inv .lengths)
+
+-- src/lib.rt:126:1
+same-length-8 : tie.Need-same-length-8 Inv-loop μ-loop
+same-length-8 c = ap (λ (l : Lengths). l .taint .memory) (c .before .loop .inv .lengths)
+
+-- src/lib.rt:126:1
+returns-2 : tie.Need-returns-2 Inv-loop μ-loop
+returns-2 c = ends _ _ _ _ _ (c .before .loop .inv) (c .loop-test .left)
+
+pub run-kernel-spec : {M : Type 1} → statement M
+run-kernel-spec =
+    tie.close
+    (tie.spec
+    Inv-loop
+    μ-loop
+    loop-holds
+    step-requires
+    same-length
+    same-length-2
+    same-length-3
+    same-length-4
+    returns
+    add-completed
+    loop-less
+    loop-again
+    same-length-5
+    same-length-6
+    same-length-7
+    same-length-8
+    returns-2)
