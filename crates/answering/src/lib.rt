@@ -13,7 +13,7 @@ ghost use Rattle.output.specs.Output.{bufferLines, outputBytes};
 ghost use Rattle.run.specs.State.{state};
 ghost use Rattle.run.specs.Run.{outcome, run};
 ghost use Rattle.answering.specs.Setting.{taintOf, setupOf};
-ghost use Rattle.answering.specs.Bench.{goodOutput, caseOutput};
+ghost use Rattle.answering.specs.Bench.{outcomeOutput, goodOutput, caseOutput};
 
 // As many bytes as a frame of this kind has, and no more than a buffer of 4,096.
 fn content_length(kind: u8, case: Case) -> usize
@@ -117,6 +117,51 @@ fn write_outcome(
     )
 }
 
+// The run, and the lines of its outcome, over buffers that are cut to what was read.
+fn run_and_write(
+    case: Case,
+    kernel: &[u8],
+    types: &[u8],
+    starts: &[u16],
+    counts: &[u16],
+    predicate_values: &[u32],
+    surface_lengths: &[u16],
+    surfaces: &[u8],
+    surface_taint: &[u8],
+    registers: &mut [u8],
+    register_taint: &mut [u8],
+    memory: &mut [u8],
+    memory_taint: &mut [u8],
+    out: &mut [u8],
+) -> usize
+    ensures { λ r. ⌜ page (now (out .exit)) r ≡ written (outcomeOutput (case .base) (run (setupOf case (now (kernel .entry)) (tables (now (types .entry)) (now (starts .entry)) (now (counts .entry)) (now («predicate_values» .entry)) (now (surfaces .entry)) (now («surface_lengths» .entry)))) (state (now (registers .entry)) (now («register_taint» .entry)) (now (surfaces .entry)) (now («surface_taint» .entry)) (now (memory .entry)) (now («memory_taint» .entry))))) (page (now (out .entry)) 0) ⌝ }
+{
+    let answer = run_case(
+        case,
+        kernel,
+        types,
+        starts,
+        counts,
+        predicate_values,
+        surface_lengths,
+        surfaces,
+        surface_taint,
+        registers,
+        register_taint,
+        memory,
+        memory_taint,
+    );
+    write_outcome(
+        out,
+        answer,
+        case.base,
+        registers,
+        memory,
+        register_taint,
+        memory_taint,
+    )
+}
+
 // A case without a bad line, whose contents fit.
 fn answer_good(
     case: Case,
@@ -136,14 +181,14 @@ fn answer_good(
 ) -> usize
     ensures { λ r. ⌜ page (now (out .exit)) r ≡ written (goodOutput (reading case (contents registers memory (now (kernel .entry)) «register_taint» «surface_taint» «memory_taint») (tables (now (types .entry)) (now (starts .entry)) (now (counts .entry)) (now («predicate_values» .entry)) (now («surface_bytes» .entry)) (now («surface_lengths» .entry))))) (page (now (out .entry)) 0) ⌝ }
 {
-    let r = content_length(1, case);
-    let m = content_length(5, case);
-    let t = taint_length(8, 1, case);
-    let u = taint_length(10, 5, case);
-    let mut tr = taint_or_zeros(8, case, register_taint);
-    let mut tm = taint_or_zeros(10, case, memory_taint);
-    let ts = surface_taint_or_zeros(case, surface_taint);
-    let answer = run_case(
+    let file = content_length(1, case);
+    let window = content_length(5, case);
+    let file_taint = taint_length(8, 1, case);
+    let window_taint = taint_length(10, 5, case);
+    let mut of_registers = taint_or_zeros(8, case, register_taint);
+    let mut of_memory = taint_or_zeros(10, case, memory_taint);
+    let of_surfaces = surface_taint_or_zeros(case, surface_taint);
+    run_and_write(
         case,
         kernel,
         types,
@@ -152,20 +197,12 @@ fn answer_good(
         predicate_values,
         surface_lengths,
         feeding::first_bytes(surface_bytes, frames::length_of(4, case)),
-        feeding::first_bytes(&ts, frames::taint_length(9, 4, case)),
-        &mut registers[..r],
-        &mut tr[..t],
-        &mut memory[..m],
-        &mut tm[..u],
-    );
-    write_outcome(
+        feeding::first_bytes(&of_surfaces, frames::taint_length(9, 4, case)),
+        &mut registers[..file],
+        &mut of_registers[..file_taint],
+        &mut memory[..window],
+        &mut of_memory[..window_taint],
         out,
-        answer,
-        case.base,
-        &registers[..r],
-        &memory[..m],
-        &tr[..t],
-        &tm[..u],
     )
 }
 
