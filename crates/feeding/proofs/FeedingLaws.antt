@@ -5,12 +5,22 @@ use Prim.Native.Nat.{ℕ, _+_, _≤_, _<_}
 use native.Mathlib.Numerals.{add-one}
 use lib.ListN.{length, getD, drop, drop-of-length-le}
 use lib.Seq.{drop-cons}
-use Rattle.feeding.specs.Feeding.{Machine, byteFed, fed}
+use borrow.Author.Tests.{eq-eqb, ne-eqb}
+use Rattle.feeding.specs.Feeding.{Row, Machine, pushed, ended, byteFed, fed}
 
 -- one byte more of those from i on
 pub fed-turn : (block : List ℕ) (i : ℕ) (m n : Machine) → i < length block → n ≡ byteFed (getD block i 0) m → fed (drop (i + 1) block) n ≡ fed (drop i block) m
 unfolding fed
 fed-turn block i m n h e = rw (add-one i, drop-cons block i 0 h, e)
+
+-- a byte is a character of the line begun, or the line's end
+pub character-fed : (b : ℕ) (m : Machine) (w : Row) → (b ≡ 10 → ⊥) → w ≡ pushed b (m .row) → record { row = w; reading = m .reading } ≡ byteFed b m
+unfolding byteFed
+character-fed b m w n e = rw (ne-eqb b 10 n, e)
+
+pub end-fed : (b : ℕ) (m n : Machine) → b ≡ 10 → n ≡ ended m → n ≡ byteFed b m
+unfolding byteFed
+end-fed b m n t e = rw (eq-eqb b 10 t, e)
 
 pub fed-over : (block : List ℕ) (i : ℕ) (m : Machine) → length block ≤ i → fed (drop i block) m ≡ m
 unfolding fed

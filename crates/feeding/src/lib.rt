@@ -3,7 +3,7 @@ use frames::Case;
 ghost use mathlib.Core.Path.{_≡_};
 ghost use lib.ListN.{take};
 ghost use Rattle.frames.specs.Reading.{contents, tables, reading};
-ghost use Rattle.feeding.specs.Feeding.{row, machine, fresh, pushed, ended, byteFed, fed, isBegun, finished};
+ghost use Rattle.feeding.specs.Feeding.{row, machine, fresh, pushed, ended, fed, isBegun, finished};
 
 // How many characters of the line begun stand in the line buffer, whether there were more, and what the lines before came to.
 pub struct State {
@@ -103,61 +103,24 @@ fn end_line(
     }
 }
 
-// One more character of the line begun.
-fn push(line: &mut [u8], byte: u8, state: State) -> State
-    ensures { λ r. ⌜ (row (now (line .exit)) (r .used) (r .long) ≡ pushed byte (row (now (line .entry)) (state .used) (state .long))) × (r .case ≡ state .case) ⌝ }
-{
-    let used = state.used;
-    if used < line.len() {
-        line[used] = byte;
-        let mut s = state;
-        s.used = used + 1;
-        s
-    } else {
-        let mut s = state;
-        s.long = true;
-        s
-    }
+// Of the line begun, how many characters stand in the line buffer, and whether there were more.
+struct Begun {
+    used: usize,
+    long: bool,
 }
 
-fn take_byte(
-    byte: u8,
-    line: &mut [u8],
-    registers: &mut [u8],
-    memory: &mut [u8],
-    kernel: &mut [u8],
-    register_taint: &mut [u8],
-    surface_taint: &mut [u8],
-    memory_taint: &mut [u8],
-    types: &mut [u8],
-    starts: &mut [u16],
-    counts: &mut [u16],
-    predicate_values: &mut [u32],
-    surface_bytes: &mut [u8],
-    surface_lengths: &mut [u16],
-    state: State,
-) -> State
-    ensures { λ r. ⌜ machine (now (line .exit)) r (contents (now (registers .exit)) (now (memory .exit)) (now (kernel .exit)) (now («register_taint» .exit)) (now («surface_taint» .exit)) (now («memory_taint» .exit))) (tables (now (types .exit)) (now (starts .exit)) (now (counts .exit)) (now («predicate_values» .exit)) (now («surface_bytes» .exit)) (now («surface_lengths» .exit))) ≡ byteFed byte (machine (now (line .entry)) state (contents (now (registers .entry)) (now (memory .entry)) (now (kernel .entry)) (now («register_taint» .entry)) (now («surface_taint» .entry)) (now («memory_taint» .entry))) (tables (now (types .entry)) (now (starts .entry)) (now (counts .entry)) (now («predicate_values» .entry)) (now («surface_bytes» .entry)) (now («surface_lengths» .entry)))) ⌝ }
+// One more character of the line begun.
+fn push(line: &mut [u8], byte: u8, used: usize, long: bool) -> Begun
+    ensures { λ r. ⌜ row (now (line .exit)) (r .used) (r .long) ≡ pushed byte (row (now (line .entry)) used long) ⌝ }
 {
-    if byte == b'\n' {
-        end_line(
-            line,
-            registers,
-            memory,
-            kernel,
-            register_taint,
-            surface_taint,
-            memory_taint,
-            types,
-            starts,
-            counts,
-            predicate_values,
-            surface_bytes,
-            surface_lengths,
-            state,
-        )
+    if used < line.len() {
+        line[used] = byte;
+        Begun {
+            used: used + 1,
+            long,
+        }
     } else {
-        push(line, byte, state)
+        Begun { used, long: true }
     }
 }
 
@@ -184,8 +147,15 @@ pub fn feed(
     let mut s = state;
     let mut i = 0;
     while i < block.len() {
-        let t = take_byte(
-            block[i],
+        let byte = block[i];
+        i += 1;
+        if byte != b'\n' {
+            let begun = push(line, byte, s.used, s.long);
+            s.used = begun.used;
+            s.long = begun.long;
+            continue;
+        }
+        let t = end_line(
             line,
             registers,
             memory,
@@ -202,7 +172,6 @@ pub fn feed(
             s,
         );
         s = t;
-        i += 1;
     }
     s
 }

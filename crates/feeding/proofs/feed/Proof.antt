@@ -7,7 +7,7 @@ use borrow.Author.Needs.{needs}
 use lib.ListN.{length, drop}
 use Rattle.frames.specs.Reading.{contents, tables}
 use Rattle.feeding.specs.Feeding.{machine, fed}
-use Rattle.feeding.proofs.FeedingLaws.{fed-turn, fed-over}
+use Rattle.feeding.proofs.FeedingLaws.{fed-turn, character-fed, end-fed, fed-over}
 use Rattle.feeding.proofs.feed.Statement.{statement}
 use Rattle.feeding.proofs.feed.Tie as tie
 
@@ -24,20 +24,58 @@ loop-holds : tie.Need-loop-holds Inv-loop μ-loop
 loop-holds c = (omega arith, refl, refl, refl, refl, refl, refl, refl, refl, refl, refl, refl, refl, refl, refl)
 
 add-i : tie.Need-add-i Inv-loop μ-loop
-add-i c =
-    let t = c .before .before .before .before .before .before .before .before .before .before .before .before .before .before .before .before .before .before .before .before .before .before .before .before .before .before .before .before .before .before .before .before .before .before .before .before .before .before .before .before .before in
-    omega (arith, t .loop-test .taken, t .before .before .before .before .before .before .before .before .before .before .before .before .before .before .before .before .good .0 .0)
+add-i c = omega (arith, c .before .loop-test .taken, c .before .before .before .before .before .before .before .before .before .before .before .before .before .before .before .before .before .good .0 .0)
 
 loop-less : tie.Need-loop-less Inv-loop μ-loop
-loop-less c = let t = c .before .before .before .before .before .before .before .before .before .before .before .before .before .before .before .before .before .before .before .before .before .before .before .before .before .before .before .before .before .before .before .before .before .before .before .before .before .before .before .before .before in omega (arith, t .loop-test .taken)
+loop-less c = omega (arith, c .before .before .before .before .before .before .loop-test .taken)
 
 loop-again : tie.Need-loop-again Inv-loop μ-loop
 loop-again c =
-    let a = c .before .before .before .before .before .before .before .before .before .before .before .before .before .before .before .before .before .before .before .before .before .before .before .before .before .before in
-    let s = a .take-byte in
-    let t = a .before .before .before .before .before .before .before .before .before .before .before .before .before .before .before in
-    let l = t .before .loop in
-    (omega (arith, t .loop-test .taken), fed-turn _ (l .i) _ _ (t .loop-test .taken) (s .ensures) ∙ l .inv .1, s .kept .1 .0 ∙ l .inv .2, s .kept .1 .1 .0 ∙ l .inv .3, s .kept .1 .1 .1 .0 ∙ l .inv .4, s .kept .1 .1 .1 .1 .0 ∙ l .inv .5, s .kept .1 .1 .1 .1 .1 .0 ∙ l .inv .6, s .kept .1 .1 .1 .1 .1 .1 .0 ∙ l .inv .7, s .kept .1 .1 .1 .1 .1 .1 .1 .0 ∙ l .inv .8, s .kept .1 .1 .1 .1 .1 .1 .1 .1 .0 ∙ l .inv .9, s .kept .1 .1 .1 .1 .1 .1 .1 .1 .1 .0 ∙ l .inv .10, s .kept .1 .1 .1 .1 .1 .1 .1 .1 .1 .1 .0 ∙ l .inv .11, s .kept .1 .1 .1 .1 .1 .1 .1 .1 .1 .1 .1 .0 ∙ l .inv .12, s .kept .1 .1 .1 .1 .1 .1 .1 .1 .1 .1 .1 .1 .0 ∙ l .inv .13, s .kept .1 .1 .1 .1 .1 .1 .1 .1 .1 .1 .1 .1 .1 .0 ∙ l .inv .14)
+    let p = c .before .before .push in
+    let t = c .before .before .before .before .before .before in
+    let l = t .before .loop in (
+      omega (arith, t .loop-test .taken),
+      fed-turn _ (l .i) _ _ (t .loop-test .taken) (character-fed _ _ _ (c .before .before .before .before .if1 .taken) (p .ensures)) ∙ l .inv .1,
+      p .kept .0 ∙ l .inv .2,
+      l .inv .3,
+      l .inv .4,
+      l .inv .5,
+      l .inv .6,
+      l .inv .7,
+      l .inv .8,
+      l .inv .9,
+      l .inv .10,
+      l .inv .11,
+      l .inv .12,
+      l .inv .13,
+      l .inv .14,
+    )
+
+loop-less-2 : tie.Need-loop-less-2 Inv-loop μ-loop
+loop-less-2 c = omega (arith, c .before .before .before .before .before .before .before .before .before .before .before .before .before .before .before .before .before .before .before .before .before .before .before .before .before .before .before .before .before .before .before .before .before .before .before .before .before .before .before .before .loop-test .taken)
+
+loop-again-2 : tie.Need-loop-again-2 Inv-loop μ-loop
+loop-again-2 c =
+    let e = c .before .before .before .before .before .before .before .before .before .before .before .before .before .before .before .before .before .before .before .before .before .before .before .before .end-line in
+    let b = c .before .before .before .before .before .before .before .before .before .before .before .before .before .before .before .before .before .before .before .before .before .before .before .before .before .before .before .before .before .before .before .before .before .before .before .before .before .before in
+    let t = b .before .before in
+    let l = t .before .loop in (
+      omega (arith, t .loop-test .taken),
+      fed-turn _ (l .i) _ _ (t .loop-test .taken) (end-fed _ _ _ (b .if1 .left) (e .ensures)) ∙ l .inv .1,
+      l .inv .2,
+      e .kept .1 .0 ∙ l .inv .3,
+      e .kept .1 .1 .0 ∙ l .inv .4,
+      e .kept .1 .1 .1 .0 ∙ l .inv .5,
+      e .kept .1 .1 .1 .1 .0 ∙ l .inv .6,
+      e .kept .1 .1 .1 .1 .1 .0 ∙ l .inv .7,
+      e .kept .1 .1 .1 .1 .1 .1 .0 ∙ l .inv .8,
+      e .kept .1 .1 .1 .1 .1 .1 .1 .0 ∙ l .inv .9,
+      e .kept .1 .1 .1 .1 .1 .1 .1 .1 .0 ∙ l .inv .10,
+      e .kept .1 .1 .1 .1 .1 .1 .1 .1 .1 .0 ∙ l .inv .11,
+      e .kept .1 .1 .1 .1 .1 .1 .1 .1 .1 .1 .0 ∙ l .inv .12,
+      e .kept .1 .1 .1 .1 .1 .1 .1 .1 .1 .1 .1 .0 ∙ l .inv .13,
+      e .kept .1 .1 .1 .1 .1 .1 .1 .1 .1 .1 .1 .1 .0 ∙ l .inv .14,
+    )
 
 returns : tie.Need-returns Inv-loop μ-loop
 returns c = sym (fed-over _ _ _ (c .loop-test .left)) ∙ c .before .loop .inv .1
@@ -45,4 +83,4 @@ returns c = sym (fed-over _ _ _ (c .loop-test .left)) ∙ c .before .loop .inv .
 pub feed-spec : {M : Type 1} → statement M
 feed-spec =
     tie.close
-    (tie.spec Inv-loop μ-loop loop-holds (λ c. omega (arith, c .before .loop-test .taken)) (λ c κs. search needs) add-i loop-less loop-again (λ c. c .before .loop .inv .2) (λ c. c .before .loop .inv .3) (λ c. c .before .loop .inv .4) (λ c. c .before .loop .inv .5) (λ c. c .before .loop .inv .6) (λ c. c .before .loop .inv .7) (λ c. c .before .loop .inv .8) (λ c. c .before .loop .inv .9) (λ c. c .before .loop .inv .10) (λ c. c .before .loop .inv .11) (λ c. c .before .loop .inv .12) (λ c. c .before .loop .inv .13) (λ c. c .before .loop .inv .14) returns)
+    (tie.spec Inv-loop μ-loop loop-holds (λ c. omega (arith, c .before .loop-test .taken)) add-i (λ c κs. search needs) loop-less loop-again (λ c κs. search needs) loop-less-2 loop-again-2 (λ c. c .before .loop .inv .2) (λ c. c .before .loop .inv .3) (λ c. c .before .loop .inv .4) (λ c. c .before .loop .inv .5) (λ c. c .before .loop .inv .6) (λ c. c .before .loop .inv .7) (λ c. c .before .loop .inv .8) (λ c. c .before .loop .inv .9) (λ c. c .before .loop .inv .10) (λ c. c .before .loop .inv .11) (λ c. c .before .loop .inv .12) (λ c. c .before .loop .inv .13) (λ c. c .before .loop .inv .14) returns)
