@@ -1,19 +1,16 @@
 -- How long the output is at most: buffers are written only where 13 does not refuse their lengths.
 use mathlib.Core.Path.{_≡_, refl, ap}
 use mathlib.Core.Bool.{Bool, true, false, cond}
-use mathlib.Core.List.{List}
 use Prim.Native.Nat.{ℕ, _≤_}
 use native.Mathlib.Omega.{arith}
 use lib.Dec.{ltb}
-use lib.ListN.{length, take}
+use lib.ListN.{length}
 use Rattle.tables.specs.declared.Lengths.{Lengths}
 use Rattle.tables.specs.Tables.{tablesGood}
 use Rattle.tables.proofs.Laws.{limited}
 use Rattle.frames.specs.Reading.{Reading}
 use Rattle.frames.specs.Verdicts.{verdictOf}
-use Rattle.output.specs.Page.{Page, page, written}
 use Rattle.output.specs.Output.{answerLine, bufferLines}
-use Rattle.output.proofs.PageLaws.{written-whole}
 use Rattle.output.proofs.LengthLaws.{length-answer, length-buffers, length-output, length-13}
 use Rattle.run.specs.State.{Setup, State, lengthsOf}
 use Rattle.run.specs.Run.{run}
