@@ -33,7 +33,7 @@ caseOutput r =
     (goodOutput r)
 
 -- before the first line: "absent means empty", in buffers of document 01's sizes ("Tables and sizes")
-unfoldable pub unread : Reading
+abbrev pub unread : Reading
 unread =
     reading nothing
     (contents (replicate 4096 0) (replicate 4096 0) (replicate 4096 0) (replicate 4096 0) (replicate 8192 0) (replicate 4096 0))

@@ -1,5 +1,9 @@
 // The bench: a case file from standard input, its answer to standard output.
 use feeding::State;
+ghost use Rattle.io.specs.Counts.{Counts};
+ghost use Rattle.frames.specs.Reading.{contents, tables};
+ghost use Rattle.feeding.specs.Feeding.{machine, fresh};
+ghost use Rattle.bench.specs.Program.{Reads, Answers};
 
 // What one read gave: how many bytes, and whether it failed. A failed read is not the end of the input.
 struct Got {
@@ -7,7 +11,9 @@ struct Got {
     failed: bool,
 }
 
-fn read_block(block: &mut [u8; 65536]) -> Got {
+fn read_block(block: &mut [u8; 65536]) -> Got
+    ensures { λ r. ⌜ Counts (r .count) (now (block .exit)) ⌝ }
+{
     let got = libc::read(0, block);
     let count = io::count(got, block);
     Got {
@@ -37,13 +43,15 @@ fn read_all(
     predicate_values: &mut [u32],
     surface_bytes: &mut [u8],
     surface_lengths: &mut [u16],
-) -> Input {
+) -> Input
+    ensures { λ r. ⌜ Reads (machine (now (line .entry)) fresh (contents (now (registers .entry)) (now (memory .entry)) (now (kernel .entry)) (now («register_taint» .entry)) (now («surface_taint» .entry)) (now («memory_taint» .entry))) (tables (now (types .entry)) (now (starts .entry)) (now (counts .entry)) (now («predicate_values» .entry)) (now («surface_bytes» .entry)) (now («surface_lengths» .entry)))) (machine (now (line .exit)) (r .state) (contents (now (registers .exit)) (now (memory .exit)) (now (kernel .exit)) (now («register_taint» .exit)) (now («surface_taint» .exit)) (now («memory_taint» .exit))) (tables (now (types .exit)) (now (starts .exit)) (now (counts .exit)) (now («predicate_values» .exit)) (now («surface_bytes» .exit)) (now («surface_lengths» .exit)))) ⌝ }
+{
     let mut block = [0u8; 65536];
     let mut state = feeding::start();
     let mut turns = u64::MAX;
     let mut count: usize = 1;
     let mut failed = false;
-    while 0 < turns && 0 < count {
+    while (0 < turns) & (0 < count) {
         let got = read_block(&mut block);
         count = got.count;
         failed = got.failed;
@@ -69,12 +77,15 @@ fn read_all(
     }
     Input {
         state,
-        ended: count == 0 && !failed,
+        ended: (count == 0) & !failed,
     }
 }
 
 // The answer to standard input, to the output buffer's start, and how many bytes it has: none if the input could not be read to its end.
-fn answer_input(out: &mut [u8; 32813]) -> usize {
+fn answer_input(out: &mut [u8; 32813]) -> usize
+    ensures { λ r. ⌜ Counts r (now (out .exit)) ⌝ }
+    ensures { λ r. ⌜ Answers r (now (out .exit)) ⌝ }
+{
     let mut line = [0u8; 16386];
     let mut registers = [0u8; 4096];
     let mut memory = [0u8; 4096];

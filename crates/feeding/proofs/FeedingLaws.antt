@@ -26,6 +26,10 @@ pub fed-over : (block : List ℕ) (i : ℕ) (m : Machine) → length block ≤ i
 unfolding fed
 fed-over block i m h = rw (drop-of-length-le block h)
 
+pub fed-none : (m : Machine) → fed [] m ≡ m
+unfolding fed
+fed-none m = refl
+
 pub fed-append : (a b : List ℕ) (m : Machine) → fed (a ++ b) m ≡ fed b (fed a m)
 unfolding fed
 fed-append [] b m = refl
