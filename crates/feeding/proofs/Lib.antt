@@ -1,5 +1,5 @@
-pub mod ByteLaws
 pub mod TakeLaws
+pub mod EndLaws
 pub mod FeedingLaws
 pub mod RowLaws
 pub mod TextLaws

@@ -34,19 +34,12 @@ pushed b w =
     (row (set (w .line) (w .used) b) (w .used + 1) (w .long))
     (row (w .line) (w .used) true)
 
--- the same unless the byte is the line's end
-unfoldable pub pushedIf : Bool → ℕ → Row → Row
-pushedIf end b w = cond end w (pushed b w)
-
 unfoldable pub ended : Machine → Machine
 ended m =
     record {
       row = row (m .row .line) 0 false;
       reading = cond (m .row .long) (only (longLine (m .reading .case)) (m .reading)) (lineRead (take (m .row .used) (m .row .line)) (m .reading));
     }
-
-unfoldable pub endedIf : Bool → Machine → Machine
-endedIf whole m = cond whole (ended m) m
 
 -- "A line ends in 0x0a"
 unfoldable pub byteFed : ℕ → Machine → Machine

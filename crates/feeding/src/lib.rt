@@ -2,9 +2,8 @@
 use frames::Case;
 ghost use mathlib.Core.Path.{_≡_};
 ghost use lib.ListN.{take};
-ghost use lib.Dec.{eqb};
 ghost use Rattle.frames.specs.Reading.{contents, tables, reading};
-ghost use Rattle.feeding.specs.Feeding.{row, machine, fresh, pushedIf, endedIf, fed, isBegun, finished};
+ghost use Rattle.feeding.specs.Feeding.{row, machine, fresh, pushed, ended, fed, isBegun, finished};
 
 // How many characters of the line begun stand in the line buffer, whether there were more, and what the lines before came to.
 pub struct State {
@@ -54,9 +53,8 @@ pub fn first_dwords(buffer: &[u32], count: usize) -> &[u32]
     }
 }
 
-// If the line begun is whole, it is taken.
+// The line begun is whole.
 fn end_line(
-    whole: bool,
     line: &[u8],
     registers: &mut [u8],
     memory: &mut [u8],
@@ -72,11 +70,8 @@ fn end_line(
     surface_lengths: &mut [u16],
     state: State,
 ) -> State
-    ensures { λ r. ⌜ machine (now (line .entry)) r (contents (now (registers .exit)) (now (memory .exit)) (now (kernel .exit)) (now («register_taint» .exit)) (now («surface_taint» .exit)) (now («memory_taint» .exit))) (tables (now (types .exit)) (now (starts .exit)) (now (counts .exit)) (now («predicate_values» .exit)) (now («surface_bytes» .exit)) (now («surface_lengths» .exit))) ≡ endedIf whole (machine (now (line .entry)) state (contents (now (registers .entry)) (now (memory .entry)) (now (kernel .entry)) (now («register_taint» .entry)) (now («surface_taint» .entry)) (now («memory_taint» .entry))) (tables (now (types .entry)) (now (starts .entry)) (now (counts .entry)) (now («predicate_values» .entry)) (now («surface_bytes» .entry)) (now («surface_lengths» .entry)))) ⌝ }
+    ensures { λ r. ⌜ machine (now (line .entry)) r (contents (now (registers .exit)) (now (memory .exit)) (now (kernel .exit)) (now («register_taint» .exit)) (now («surface_taint» .exit)) (now («memory_taint» .exit))) (tables (now (types .exit)) (now (starts .exit)) (now (counts .exit)) (now («predicate_values» .exit)) (now («surface_bytes» .exit)) (now («surface_lengths» .exit))) ≡ ended (machine (now (line .entry)) state (contents (now (registers .entry)) (now (memory .entry)) (now (kernel .entry)) (now («register_taint» .entry)) (now («surface_taint» .entry)) (now («memory_taint» .entry))) (tables (now (types .entry)) (now (starts .entry)) (now (counts .entry)) (now («predicate_values» .entry)) (now («surface_bytes» .entry)) (now («surface_lengths» .entry)))) ⌝ }
 {
-    if !whole {
-        return state;
-    }
     if state.long {
         State {
             used: 0,
@@ -108,23 +103,24 @@ fn end_line(
     }
 }
 
-// One more character of the line begun, if it is not the line's end.
-fn push(line: &mut [u8], byte: u8, state: State) -> State
-    ensures { λ r. ⌜ (row (now (line .exit)) (r .used) (r .long) ≡ pushedIf (eqb byte 10) byte (row (now (line .entry)) (state .used) (state .long))) × (r .case ≡ state .case) ⌝ }
+// Of the line begun, how many characters stand in the line buffer, and whether there were more.
+struct Begun {
+    used: usize,
+    long: bool,
+}
+
+// One more character of the line begun.
+fn push(line: &mut [u8], byte: u8, used: usize, long: bool) -> Begun
+    ensures { λ r. ⌜ row (now (line .exit)) (r .used) (r .long) ≡ pushed byte (row (now (line .entry)) used long) ⌝ }
 {
-    if byte == b'\n' {
-        return state;
-    }
-    let used = state.used;
     if used < line.len() {
         line[used] = byte;
-        let mut s = state;
-        s.used = used + 1;
-        s
+        Begun {
+            used: used + 1,
+            long,
+        }
     } else {
-        let mut s = state;
-        s.long = true;
-        s
+        Begun { used, long: true }
     }
 }
 
@@ -152,9 +148,14 @@ pub fn feed(
     let mut i = 0;
     while i < block.len() {
         let byte = block[i];
-        let begun = push(line, byte, s);
+        i += 1;
+        if byte != b'\n' {
+            let begun = push(line, byte, s.used, s.long);
+            s.used = begun.used;
+            s.long = begun.long;
+            continue;
+        }
         let t = end_line(
-            byte == b'\n',
             line,
             registers,
             memory,
@@ -168,10 +169,9 @@ pub fn feed(
             predicate_values,
             surface_bytes,
             surface_lengths,
-            begun,
+            s,
         );
         s = t;
-        i += 1;
     }
     s
 }
@@ -202,21 +202,24 @@ pub fn finish(
 ) -> State
     ensures { λ r. ⌜ machine (now (line .entry)) r (contents (now (registers .exit)) (now (memory .exit)) (now (kernel .exit)) (now («register_taint» .exit)) (now («surface_taint» .exit)) (now («memory_taint» .exit))) (tables (now (types .exit)) (now (starts .exit)) (now (counts .exit)) (now («predicate_values» .exit)) (now («surface_bytes» .exit)) (now («surface_lengths» .exit))) ≡ finished (machine (now (line .entry)) state (contents (now (registers .entry)) (now (memory .entry)) (now (kernel .entry)) (now («register_taint» .entry)) (now («surface_taint» .entry)) (now («memory_taint» .entry))) (tables (now (types .entry)) (now (starts .entry)) (now (counts .entry)) (now («predicate_values» .entry)) (now («surface_bytes» .entry)) (now («surface_lengths» .entry)))) ⌝ }
 {
-    end_line(
-        is_begun(state),
-        line,
-        registers,
-        memory,
-        kernel,
-        register_taint,
-        surface_taint,
-        memory_taint,
-        types,
-        starts,
-        counts,
-        predicate_values,
-        surface_bytes,
-        surface_lengths,
-        state,
-    )
+    if is_begun(state) {
+        end_line(
+            line,
+            registers,
+            memory,
+            kernel,
+            register_taint,
+            surface_taint,
+            memory_taint,
+            types,
+            starts,
+            counts,
+            predicate_values,
+            surface_bytes,
+            surface_lengths,
+            state,
+        )
+    } else {
+        state
+    }
 }

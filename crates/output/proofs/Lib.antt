@@ -2,4 +2,5 @@ pub mod PageLaws
 pub mod NumberLaws
 pub mod LineLaws
 pub mod WholeLaws
+pub mod LengthLaws
 pub mod Worked

@@ -69,7 +69,8 @@ fn put_qword(out: &mut [u8], at: usize, value: u64) -> usize
     put_four(out, middle, value / 4294967296)
 }
 
-fn put_answer(out: &mut [u8], at: usize, number: u8, completed: u16, position: u32) -> usize
+// The 40 line.
+pub fn put_answer(out: &mut [u8], at: usize, number: u8, completed: u16, position: u32) -> usize
     ensures { λ r. ⌜ page (now (out .exit)) r ≡ written (answerLine number completed position) (page (now (out .entry)) at) ⌝ }
 {
     let first = put_byte(out, at, 0x40);

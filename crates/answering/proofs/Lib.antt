@@ -1,0 +1,4 @@
+pub mod CutLaws
+pub mod WrittenLaws
+pub mod SizeLaws
+pub mod BenchLaws

@@ -1,0 +1,248 @@
+// Answers a case that was read: judges it, runs it, and writes the output's lines.
+use frames::Case;
+use run::Answer;
+use run::Constants;
+ghost use mathlib.Core.Path.{_≡_};
+ghost use Prim.Native.Nat.{_≤_, min};
+ghost use lib.ListN.{length};
+ghost use Rattle.frames.specs.Reading.{contents, tables, reading};
+ghost use Rattle.frames.specs.Lines.{lengthOf};
+ghost use Rattle.frames.specs.Verdicts.{taintLength};
+ghost use Rattle.output.specs.Page.{page, written};
+ghost use Rattle.output.specs.Output.{bufferLines, outputBytes};
+ghost use Rattle.run.specs.State.{state};
+ghost use Rattle.run.specs.Run.{outcome, run};
+ghost use Rattle.answering.specs.Setting.{taintOf, setupOf};
+ghost use Rattle.answering.specs.Bench.{outcomeOutput, goodOutput, caseOutput};
+
+// As many bytes as a frame of this kind has, and no more than a buffer of 4,096.
+fn content_length(kind: u8, case: Case) -> usize
+    ensures { λ r. ⌜ r ≡ min (lengthOf kind case) 4096 ⌝ }
+{
+    let n = frames::length_of(kind, case);
+    if n < 4096 { n } else { 4096 }
+}
+
+// As many bytes of taint as a frame of this kind has, or the buffer if it is absent.
+fn taint_length(taint: u8, buffer: u8, case: Case) -> usize
+    ensures { λ r. ⌜ r ≡ min (taintLength taint buffer case) 4096 ⌝ }
+{
+    let n = frames::taint_length(taint, buffer, case);
+    if n < 4096 { n } else { 4096 }
+}
+
+// The taint of a frame; zeros if it is absent.
+fn taint_or_zeros(kind: u8, case: Case, taint: [u8; 4096]) -> [u8; 4096]
+    ensures { λ r. ⌜ r ≡ taintOf 4096 kind case taint ⌝ }
+{
+    if 0 < frames::met_of(kind, case) {
+        taint
+    } else {
+        [0; 4096]
+    }
+}
+
+fn surface_taint_or_zeros(case: Case, taint: [u8; 8192]) -> [u8; 8192]
+    ensures { λ r. ⌜ r ≡ taintOf 8192 9 case taint ⌝ }
+{
+    if 0 < frames::met_of(9, case) {
+        taint
+    } else {
+        [0; 8192]
+    }
+}
+
+// The run, over tables and a kernel that are cut to what was read.
+fn run_case(
+    case: Case,
+    kernel: &[u8],
+    types: &[u8],
+    starts: &[u16],
+    counts: &[u16],
+    predicate_values: &[u32],
+    surface_lengths: &[u16],
+    surfaces: &[u8],
+    surface_taint: &[u8],
+    registers: &mut [u8],
+    register_taint: &mut [u8],
+    memory: &mut [u8],
+    memory_taint: &mut [u8],
+) -> Answer
+    ensures { λ r. ⌜ (outcome r (state (now (registers .exit)) (now («register_taint» .exit)) (now (surfaces .entry)) (now («surface_taint» .entry)) (now (memory .exit)) (now («memory_taint» .exit))) ≡ run (setupOf case (now (kernel .entry)) (tables (now (types .entry)) (now (starts .entry)) (now (counts .entry)) (now («predicate_values» .entry)) (now (surfaces .entry)) (now («surface_lengths» .entry)))) (state (now (registers .entry)) (now («register_taint» .entry)) (now (surfaces .entry)) (now («surface_taint» .entry)) (now (memory .entry)) (now («memory_taint» .entry)))) × (r .completed ≤ 4096) × (r .position ≤ 4096) ⌝ }
+{
+    let constants = Constants {
+        base: case.base,
+        mask: case.mask,
+    };
+    let variables = frames::met_of(2, case);
+    run::run(
+        feeding::first_bytes(kernel, frames::length_of(7, case)),
+        feeding::first_bytes(types, variables),
+        feeding::first_words(starts, variables),
+        feeding::first_words(counts, variables),
+        feeding::first_dwords(predicate_values, frames::met_of(3, case)),
+        feeding::first_words(surface_lengths, frames::met_of(4, case)),
+        constants,
+        surfaces,
+        surface_taint,
+        registers,
+        register_taint,
+        memory,
+        memory_taint,
+    )
+}
+
+fn write_outcome(
+    out: &mut [u8],
+    answer: Answer,
+    base: u64,
+    registers: &[u8],
+    memory: &[u8],
+    register_taint: &[u8],
+    memory_taint: &[u8],
+) -> usize
+    requires { ⌜ (answer .completed ≤ 4096) × (answer .position ≤ 4096) ⌝ }
+    ensures { λ r. ⌜ page (now (out .exit)) r ≡ written (outputBytes (answer .number) (answer .completed) (answer .position) (bufferLines base (now (registers .entry)) (now (memory .entry)) (now («register_taint» .entry)) (now («memory_taint» .entry)))) (page (now (out .entry)) 0) ⌝ }
+{
+    output::write(
+        out,
+        answer.number,
+        answer.completed as u16,
+        answer.position as u32,
+        base,
+        registers,
+        memory,
+        register_taint,
+        memory_taint,
+    )
+}
+
+// The run, and the lines of its outcome, over buffers that are cut to what was read.
+fn run_and_write(
+    case: Case,
+    kernel: &[u8],
+    types: &[u8],
+    starts: &[u16],
+    counts: &[u16],
+    predicate_values: &[u32],
+    surface_lengths: &[u16],
+    surfaces: &[u8],
+    surface_taint: &[u8],
+    registers: &mut [u8],
+    register_taint: &mut [u8],
+    memory: &mut [u8],
+    memory_taint: &mut [u8],
+    out: &mut [u8],
+) -> usize
+    ensures { λ r. ⌜ page (now (out .exit)) r ≡ written (outcomeOutput (case .base) (run (setupOf case (now (kernel .entry)) (tables (now (types .entry)) (now (starts .entry)) (now (counts .entry)) (now («predicate_values» .entry)) (now (surfaces .entry)) (now («surface_lengths» .entry)))) (state (now (registers .entry)) (now («register_taint» .entry)) (now (surfaces .entry)) (now («surface_taint» .entry)) (now (memory .entry)) (now («memory_taint» .entry))))) (page (now (out .entry)) 0) ⌝ }
+{
+    let answer = run_case(
+        case,
+        kernel,
+        types,
+        starts,
+        counts,
+        predicate_values,
+        surface_lengths,
+        surfaces,
+        surface_taint,
+        registers,
+        register_taint,
+        memory,
+        memory_taint,
+    );
+    write_outcome(
+        out,
+        answer,
+        case.base,
+        registers,
+        memory,
+        register_taint,
+        memory_taint,
+    )
+}
+
+// A case without a bad line, whose contents fit.
+fn answer_good(
+    case: Case,
+    mut registers: [u8; 4096],
+    mut memory: [u8; 4096],
+    kernel: &[u8],
+    register_taint: [u8; 4096],
+    surface_taint: [u8; 8192],
+    memory_taint: [u8; 4096],
+    types: &[u8],
+    starts: &[u16],
+    counts: &[u16],
+    predicate_values: &[u32],
+    surface_bytes: &[u8],
+    surface_lengths: &[u16],
+    out: &mut [u8],
+) -> usize
+    ensures { λ r. ⌜ page (now (out .exit)) r ≡ written (goodOutput (reading case (contents registers memory (now (kernel .entry)) «register_taint» «surface_taint» «memory_taint») (tables (now (types .entry)) (now (starts .entry)) (now (counts .entry)) (now («predicate_values» .entry)) (now («surface_bytes» .entry)) (now («surface_lengths» .entry))))) (page (now (out .entry)) 0) ⌝ }
+{
+    let file = content_length(1, case);
+    let window = content_length(5, case);
+    let file_taint = taint_length(8, 1, case);
+    let window_taint = taint_length(10, 5, case);
+    let mut of_registers = taint_or_zeros(8, case, register_taint);
+    let mut of_memory = taint_or_zeros(10, case, memory_taint);
+    let of_surfaces = surface_taint_or_zeros(case, surface_taint);
+    run_and_write(
+        case,
+        kernel,
+        types,
+        starts,
+        counts,
+        predicate_values,
+        surface_lengths,
+        feeding::first_bytes(surface_bytes, frames::length_of(4, case)),
+        feeding::first_bytes(&of_surfaces, frames::taint_length(9, 4, case)),
+        &mut registers[..file],
+        &mut of_registers[..file_taint],
+        &mut memory[..window],
+        &mut of_memory[..window_taint],
+        out,
+    )
+}
+
+// The whole answer to a case and the buffers that it was read into, to the output buffer's start, and how many bytes it has.
+pub fn answer(
+    case: Case,
+    registers: [u8; 4096],
+    memory: [u8; 4096],
+    kernel: &[u8],
+    register_taint: [u8; 4096],
+    surface_taint: [u8; 8192],
+    memory_taint: [u8; 4096],
+    types: &[u8],
+    starts: &[u16],
+    counts: &[u16],
+    predicate_values: &[u32],
+    surface_bytes: &[u8],
+    surface_lengths: &[u16],
+    out: &mut [u8],
+) -> usize
+    ensures { λ r. ⌜ page (now (out .exit)) r ≡ written (caseOutput (reading case (contents registers memory (now (kernel .entry)) «register_taint» «surface_taint» «memory_taint») (tables (now (types .entry)) (now (starts .entry)) (now (counts .entry)) (now («predicate_values» .entry)) (now («surface_bytes» .entry)) (now («surface_lengths» .entry))))) (page (now (out .entry)) 0) ⌝ }
+{
+    let verdict = frames::judge(case);
+    if 0 < verdict.number {
+        return output::put_answer(out, 0, verdict.number, 0, verdict.position);
+    }
+    answer_good(
+        case,
+        registers,
+        memory,
+        kernel,
+        register_taint,
+        surface_taint,
+        memory_taint,
+        types,
+        starts,
+        counts,
+        predicate_values,
+        surface_bytes,
+        surface_lengths,
+        out,
+    )
+}
