@@ -3,6 +3,7 @@ pub mod Untainted
 pub mod Whole
 pub mod Fuel
 pub mod Kept
+pub mod Results
 pub mod Plain
 pub mod ShowLaws
 pub mod PerformLaws
