@@ -1,6 +1,6 @@
 -- What GATHER_SCALED leaves, for a plan that `check` accepts: every enabled lane's dword is the defined one, each byte under its defined mark,
 -- and no other byte of the registers changes, nor its mark.
-use Prim.Native.Nat.{ℕ, zero, suc, _+_, _*_, _≤_, _<_}
+use Prim.Native.Nat.{ℕ, zero, suc, _+_, _≤_, _<_}
 use mathlib.Core.Path.{_≡_, sym, ap, _∙_}
 use mathlib.Core.Bool.{Bool}
 use mathlib.Core.List.{List, _∷_}

@@ -4,6 +4,7 @@ pub mod Whole
 pub mod Fuel
 pub mod Within
 pub mod Kept
+pub mod Results
 pub mod Plain
 pub mod ShowLaws
 pub mod PerformLaws
