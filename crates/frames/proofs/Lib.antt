@@ -2,3 +2,4 @@ pub mod FrameLaws
 pub mod Judged
 pub mod OnceLaws
 pub mod Room
+pub mod VariableLaws
