@@ -1,0 +1,34 @@
+-- Document 01's whole case, input then output: computed from the definitions.
+use mathlib.Core.Path.{_≡_, refl}
+use mathlib.Core.List.{_++_}
+use Rattle.little_endian.specs.LittleEndian.{bytesOf}
+use Rattle.hex.specs.Digits.{isDecimal, isLetter, isDigit, digitOf, allDigits, characterOf}
+use Rattle.hex.specs.Bytes.{isHex, hexBytes, hexOf}
+use Rattle.hex.specs.Storing.{placed, fits, stored}
+use Rattle.frames.specs.Lines.{nothing, next, badLine, longLine, goodLine, metOf, lengthOf, counted, sized, based, masked}
+use Rattle.frames.specs.Repeated.{variableRead, predicateRead, surfaceRead}
+use Rattle.frames.specs.Once.{contentRead, memoryRead, maskRead, onceRead}
+use Rattle.frames.specs.Frames.{frameRead, lineRead}
+use Rattle.frames.specs.Verdicts.{verdictOf, taintLength}
+use Rattle.feeding.specs.Text.{linesFrom, linesOf, anyLineRead, linesRead, textRead}
+use Rattle.output.specs.Output.{lineOf, answerLine, contentLine, memoryLine, bufferLines, outputBytes}
+use Rattle.answering.specs.Setting.{setupOf, taintOf, stateOf}
+use Rattle.answering.specs.Bench.{outcomeOutput, goodOutput, caseOutput, benchOutput}
+use Rattle.worked.specs.Case.{hex}
+use Rattle.worked.proofs.Opened.{opened}
+
+pub whole-case :
+    benchOutput
+    (lineOf (hex 33 0x010100020003000400050006000700080000000000000000000000000000000000)
+    ++ lineOf (hex 6 0x020200000800)
+    ++ lineOf (hex 6 0x020210000800)
+    ++ lineOf (hex 5 0x060f000000)
+    ++ lineOf (hex 25 0x07240300000001000000000200000000005502050201000000)
+    ++ lineOf (hex 33 0x080000010000000000000000000000000000000000000000000000000000000000))
+    ≡ lineOf (hex 8 0x4000010018000000)
+    ++ lineOf (hex 33 0x010100020003000400050006000700080002000400060008000000000000000000)
+    ++ lineOf (hex 9 0x050000000000000000)
+    ++ lineOf (hex 33 0x080000010000000000000000000000000000000101000000000000000000000000)
+    ++ lineOf (hex 1 0x0a)
+unfolding opened hex bytesOf isDecimal isLetter isDigit digitOf allDigits characterOf isHex hexBytes hexOf placed fits stored nothing next badLine longLine goodLine metOf lengthOf counted sized based masked variableRead predicateRead surfaceRead contentRead memoryRead maskRead onceRead frameRead lineRead verdictOf taintLength linesFrom linesOf anyLineRead linesRead textRead lineOf answerLine contentLine memoryLine bufferLines outputBytes setupOf taintOf stateOf outcomeOutput goodOutput caseOutput benchOutput
+whole-case = refl
