@@ -5,7 +5,7 @@ use mathlib.Core.List.{List}
 use Prim.Native.Nat.{ℕ, _≤_}
 use lib.ListN.{getD}
 use lib.Dec.{eqb}
-use borrow.Author.Tests.{le-ltb}
+use borrow.Author.Tests.{le-ltb, not-true, not-false}
 use Rattle.hex.specs.Bytes.{isHex, hexBytes}
 use Rattle.frames.specs.declared.Case.{Case}
 use Rattle.frames.specs.Reading.{Contents, Tables, tables, reading}
@@ -14,37 +14,29 @@ use Rattle.frames.specs.Repeated.{variables, variableRead, predicates, p
 use Rattle.frames.specs.Once.{once, onceRead}
 use Rattle.frames.specs.Frames.{frameRead, lineRead}
 
-denied : (b : Bool) → not b ≡ true → b ≡ false
-denied true e = sym e
-denied false e = refl
-
-granted : (b : Bool) → not b ≡ false → b ≡ true
-granted true e = refl
-granted false e = sym e
-
 module _ (line : List ℕ) (case c : Case) (o : Contents) (t : Tables) (hex : Bool) (none : case .bad ≤ 0) (h : hex ≡ isHex line) where
   pub no-frame : not hex ≡ true → c ≡ badLine case → reading c o t ≡ lineRead line (reading case o t)
   unfolding lineRead
-  no-frame bad e = rw (le-ltb 0 (case .bad) none, ← h, denied hex bad, e)
+  no-frame bad e = rw (le-ltb 0 (case .bad) none, ← h, not-true hex bad, e)
 
   module _ (good : not hex ≡ false) (kind : ℕ) (f : kind ≡ getD (hexBytes line) 0 0) where
     pub variable-frame : (types starts counts : List ℕ) → kind ≡ 2 →
         variables c types starts counts ≡ variableRead (hexBytes line) (variables case (t .types) (t .starts) (t .counts)) →
         reading c o (tables types starts counts (t .predicates) (t .surfaces) (t .lengths)) ≡ lineRead line (reading case o t)
     unfolding lineRead frameRead
-    variable-frame types starts counts k e = rw (le-ltb 0 (case .bad) none, ← h, granted hex good, ← f, k, ← e)
+    variable-frame types starts counts k e = rw (le-ltb 0 (case .bad) none, ← h, not-false hex good, ← f, k, ← e)
 
     pub predicate-frame : (values : List ℕ) → kind ≡ 3 → predicates c values ≡ predicateRead (hexBytes line) (predicates case (t .predicates)) →
         reading c o (tables (t .types) (t .starts) (t .counts) values (t .surfaces) (t .lengths)) ≡ lineRead line (reading case o t)
     unfolding lineRead frameRead
-    predicate-frame values k e = rw (le-ltb 0 (case .bad) none, ← h, granted hex good, ← f, k, ← e)
+    predicate-frame values k e = rw (le-ltb 0 (case .bad) none, ← h, not-false hex good, ← f, k, ← e)
 
     pub surface-frame : (buffer lengths : List ℕ) → kind ≡ 4 → surfaces c buffer lengths ≡ surfaceRead (hexBytes line) (surfaces case (t .surfaces) (t .lengths)) →
         reading c o (tables (t .types) (t .starts) (t .counts) (t .predicates) buffer lengths) ≡ lineRead line (reading case o t)
     unfolding lineRead frameRead
-    surface-frame buffer lengths k e = rw (le-ltb 0 (case .bad) none, ← h, granted hex good, ← f, k, ← e)
+    surface-frame buffer lengths k e = rw (le-ltb 0 (case .bad) none, ← h, not-false hex good, ← f, k, ← e)
 
     pub once-frame : (p : Contents) → eqb kind 2 ≡ false → eqb kind 3 ≡ false → eqb kind 4 ≡ false → once c p ≡ onceRead kind (hexBytes line) (once case o) →
         reading c p t ≡ lineRead line (reading case o t)
     unfolding lineRead frameRead
-    once-frame p k₂ k₃ k₄ e = rw (le-ltb 0 (case .bad) none, ← h, granted hex good, ← f, k₂, k₃, k₄, ← e)
+    once-frame p k₂ k₃ k₄ e = rw (le-ltb 0 (case .bad) none, ← h, not-false hex good, ← f, k₂, k₃, k₄, ← e)

@@ -2,6 +2,7 @@
 use Prim.Native.Nat.{ℕ}
 use mathlib.Core.Path.{_≡_, refl, sym, ap, _∙_}
 use mathlib.Core.Bool.{Bool, true, false, not}
+use borrow.Author.Tests.{not-true, not-false}
 use Rattle.cells.specs.Buffer.{Buffer}
 use Rattle.cells.specs.Writes.{writtenAll}
 use Rattle.cells.specs.Over.{each}
@@ -19,14 +20,6 @@ use Rattle.shl.specs.Shl.{shlLane, shlEffect}
 use Rattle.shl.specs.FromRoom.{roomLane}
 use Rattle.shl.specs.Guarded.{shlFits, shlGuarded}
 use Rattle.shl.proofs.RoomLaws.{room-lane-is}
-
-not-false : (t : Bool) → not t ≡ false → t ≡ true
-not-false true e = refl
-not-false false e = sym e
-
-not-true : (t : Bool) → not t ≡ true → t ≡ false
-not-true true e = sym e
-not-true false e = refl
 
 module _ (mask : ℕ) (p : Plan) (b : Buffer) where
   pub guard-refuses : shlFits p ≡ false → shlGuarded mask p b ≡ refused 7
