@@ -1,16 +1,16 @@
 // An instruction from numbers that nothing judges: it may have a field that no kernel's bytes give.
-use decoder::Access;
-use decoder::Control;
 use decoder::Gather;
-use decoder::General;
-use decoder::Immediate;
 use decoder::Instruction;
-use decoder::Message;
-use decoder::Operand;
-use decoder::Raw;
 use decoder::RawSend;
 use decoder::Scatter;
 use decoder::Shl;
+use field_groups::Access;
+use field_groups::Control;
+use field_groups::General;
+use field_groups::Immediate;
+use field_groups::Message;
+use field_groups::Operand;
+use field_groups::Raw;
 use reader::Cursor;
 use reader::ReadByte;
 use reader::ReadDword;

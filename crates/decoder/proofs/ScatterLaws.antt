@@ -1,27 +1,31 @@
 -- A decoded scatter has 8 or 16 lanes.
-use mathlib.Core.Path.{_≡_}
+use mathlib.Core.Path.{_≡_, subst}
 use mathlib.Core.List.{List, [], _∷_}
 use Prim.Native.Nat.{ℕ}
 use Rattle.little_endian.specs.LittleEndian.{Bytes}
 use Rattle.reader.specs.declared.Cursor.{Cursor}
 use Rattle.fields.specs.declared.ByteRule.the-variants as byte
+use Rattle.fields.specs.declared.Field.{Field}
 use Rattle.fields.specs.declared.Field.the-variants.{Byte}
 use Rattle.fields.specs.Layout.{layoutRefusal}
 use Rattle.fields.proofs.Laws.{good-append}
 use Rattle.fields.proofs.ScatterExec.{EightOrSixteen, scatter-exec}
+use Rattle.field_groups.specs.Layout.{controlFields}
+use Rattle.field_groups.proofs.LayoutLaws.{control-fields}
 use Rattle.decoder.specs.declared.Scatter.{Scatter}
 use Rattle.decoder.specs.declared.Instruction.the-variants as instruction
 use Rattle.decoder.specs.declared.Decoded.the-variants as decoded
 use Rattle.decoder.specs.Decoding.{instructionAt}
-use Rattle.decoder.specs.Format.{controlFields, scatterFields, instructionFields}
+use Rattle.decoder.specs.Format.{scatterFields, instructionFields}
 use Rattle.decoder.proofs.DecodeEncode.{decode-encode}
 
 -- the exec byte stands after opcode and sub-opcode
 good-exec : (x : Scatter) → layoutRefusal (scatterFields x) ≡ 0 → EightOrSixteen (x .control .exec)
-unfolding scatterFields controlFields
+unfolding scatterFields
 good-exec x g =
     let opcodes = Byte byte.Free 0x4e ∷ Byte byte.Free 0x07 ∷ [] in
-    scatter-exec (x .control .exec) _ (good-append opcodes _ g .1)
+    let control = controlFields byte.ScatterExec (x .control) in
+    scatter-exec (x .control .exec) _ (subst (λ (fs : List Field). layoutRefusal fs ≡ 0) (control-fields byte.ScatterExec (x .control)) (good-append control _ (good-append opcodes _ g .1) .0))
 
 pub decoded-scatter : (s : List ℕ) (at : ℕ) (x : Scatter) (c : Cursor) → Bytes s → instructionAt s at ≡ decoded.Accepted (instruction.Scatter x) c → EightOrSixteen (x .control .exec)
 unfolding instructionFields

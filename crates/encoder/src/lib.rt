@@ -1,16 +1,16 @@
 // The encoder: an instruction into the caller's buffer, each field judged by the rule that decoding judges it by.
-use decoder::Access;
-use decoder::Control;
 use decoder::Gather;
-use decoder::General;
-use decoder::Immediate;
 use decoder::Instruction;
-use decoder::Message;
-use decoder::Operand;
-use decoder::Raw;
 use decoder::RawSend;
 use decoder::Scatter;
 use decoder::Shl;
+use field_groups::Access;
+use field_groups::Control;
+use field_groups::General;
+use field_groups::Immediate;
+use field_groups::Message;
+use field_groups::Operand;
+use field_groups::Raw;
 use fields::ByteRule;
 use fields::Field;
 use fields::WordRule;
@@ -19,8 +19,9 @@ ghost use mathlib.Core.List.{_++_};
 ghost use Prim.Native.Nat.{_≤_};
 ghost use lib.ListN.{length, take, drop};
 ghost use Rattle.little_endian.specs.LittleEndian.{bytesOf};
-ghost use Rattle.decoder.specs.declared.Operand.the-variants as operand;
-ghost use Rattle.decoder.specs.Format.{controlFields, highField, operandFields, rawFields, accessFields, messageFields, shlFields, gatherFields, scatterFields, rawSendFields, instructionFields};
+ghost use Rattle.field_groups.specs.declared.Operand.the-variants as operand;
+ghost use Rattle.field_groups.specs.Layout.{controlFields, highField, operandFields, rawFields, accessFields, messageFields};
+ghost use Rattle.decoder.specs.Format.{shlFields, gatherFields, scatterFields, rawSendFields, instructionFields};
 ghost use Rattle.encoder.specs.Draft.{emptyDraft, withByte, withBytes, withRefusal, withField, withFields};
 ghost use Rattle.encoder.specs.Encoding.{encodedIn, encodedInto, numberOf};
 

@@ -128,6 +128,11 @@ byte-some rule v fs = omega (arith, length-append (bytesOf 1 v) (layoutBytes fs)
 
 -- ---- backward
 
+-- at `at` stand the bytes of these fields, all of them good, and then `t`
+pub record Stands (s : List ℕ) (at : ℕ) (fs : List Field) (t : List ℕ) : Type 0 where
+  pub good : layoutRefusal fs ≡ 0
+  pub bytes : drop at s ≡ layoutBytes fs ++ t
+
 -- the answer `r` of a read at `at`: `got` with the cursor past these bytes, where `t` stands
 pub record There {A : Type 0} (r : A) (got : Cursor → A) (s : List ℕ) (at : ℕ) (fs : List Field) (t : List ℕ) : Type 0 where
   pub next : Cursor
@@ -135,12 +140,29 @@ pub record There {A : Type 0} (r : A) (got : Cursor → A) (s : List ℕ) (at : 
   pub end : next .at ≡ at + length (layoutBytes fs)
   pub rest : drop (next .at) s ≡ t
 
+-- no field is left
+pub there-end : {A : Type 0} {got : Cursor → A} {s : List ℕ} (c : Cursor) {t : List ℕ} → Stands s (c .at) [] t → There (got c) got s (c .at) [] t
+unfolding layoutBytes
+there-end c h = record { next = c; is = refl; end = omega arith; rest = h .bytes }
+
 -- the bytes of two lists of fields, and what follows them
-pub layout-parts : (fs gs : List Field) (t : List ℕ) → layoutBytes (fs ++ gs) ++ t ≡ layoutBytes fs ++ (layoutBytes gs ++ t)
+layout-parts : (fs gs : List Field) (t : List ℕ) → layoutBytes (fs ++ gs) ++ t ≡ layoutBytes fs ++ (layoutBytes gs ++ t)
 layout-parts fs gs t = ap (λ (l : List ℕ). l ++ t) (layout-append fs gs) ∙ append-assoc (layoutBytes fs) (layoutBytes gs) t
 
-pub ends : (fs gs : List Field) (at : ℕ) (c d : Cursor) → c .at ≡ at + length (layoutBytes fs) → d .at ≡ c .at + length (layoutBytes gs) → d .at ≡ at + length (layoutBytes (fs ++ gs))
+ends : (fs gs : List Field) (at : ℕ) (c d : Cursor) → c .at ≡ at + length (layoutBytes fs) → d .at ≡ c .at + length (layoutBytes gs) → d .at ≡ at + length (layoutBytes (fs ++ gs))
 ends fs gs at c d p q = rw (layout-append fs gs, length-append (layoutBytes fs) (layoutBytes gs)) (omega arith)
+
+-- some fields, and then the others: `on` goes on from the answer of the first ones
+pub there-then : {A X : Type 0} (on : A → X) {r : A} {got : Cursor → A} {done : Cursor → X} {s : List ℕ} {at : ℕ} {fs gs : List Field} {t : List ℕ} → (Stands s at fs (layoutBytes gs ++ t) → There r got s at fs (layoutBytes gs ++ t)) → Stands s at (fs ++ gs) t → ((c : Cursor) → Stands s (c .at) gs t → There (on (got c)) done s (c .at) gs t) → There (on r) done s at (fs ++ gs) t
+there-then on {at = at} {fs = fs} {gs = gs} {t = t} first h others =
+    let g = good-append fs gs (h .good) in
+    let a = first (record { good = g .0; bytes = h .bytes ∙ layout-parts fs gs t }) in
+    let b = others (a .next) (record { good = g .1; bytes = a .rest }) in
+    record { next = b .next; is = ap on (a .is) ∙ b .is; end = ends fs gs at (a .next) (b .next) (a .end) (b .end); rest = b .rest }
+
+-- the last fields
+pub there-last : {A X : Type 0} (on : A → X) {r : A} {got : Cursor → A} {s : List ℕ} {at : ℕ} {fs : List Field} {t : List ℕ} → There r got s at fs t → There (on r) (λ c. on (got c)) s at fs t
+there-last on a = record { next = a .next; is = ap on (a .is); end = a .end; rest = a .rest }
 
 -- the high word of an immediate whose type lacks it is 0
 pub lacking-zero : (v : ℕ) → layoutRefusal (field.Lacking v ∷ []) ≡ 0 → v ≡ 0
@@ -151,39 +173,47 @@ lacking-zero v g = told (eqb v 0) refl (good-one (field.Lacking v) g)
     told true t h = eqb-true v 0 t
     told false t h = absurd (omega arith)
 
-pub lacking-rest : (v : ℕ) (t : List ℕ) → layoutBytes (field.Lacking v ∷ []) ++ t ≡ t
+-- a high word that the type lacks takes no byte
+pub lacking-there : {A : Type 0} (got : Cursor → A) {s : List ℕ} (c : Cursor) {t : List ℕ} (v : ℕ) → Stands s (c .at) (field.Lacking v ∷ []) t → There (got c) got s (c .at) (field.Lacking v ∷ []) t
 unfolding layoutBytes fieldBytes
-lacking-rest v t = refl
-
-pub lacking-end : (v at : ℕ) → at ≡ at + length (layoutBytes (field.Lacking v ∷ []))
-unfolding layoutBytes fieldBytes
-lacking-end v at = omega arith
+lacking-there got c v h = record { next = c; is = refl; end = omega arith; rest = h .bytes }
 
 -- one field whose bytes stand there is whole and good
-module _ (s : List ℕ) (at : ℕ) (t : List ℕ) where
-  field-end : (n : ℕ) (f : Field) → length (fieldBytes f) ≡ n → at + n ≡ at + length (layoutBytes (f ∷ []))
-  field-end n f e = ap (λ (k : ℕ). at + k) (sym e ∙ ap length (sym (one-bytes f)))
+field-end : (at n : ℕ) (f : Field) → length (fieldBytes f) ≡ n → at + n ≡ at + length (layoutBytes (f ∷ []))
+field-end at n f e = ap (λ (k : ℕ). at + k) (sym e ∙ ap length (sym (one-bytes f)))
 
-  field-there : (f : Field) → drop at s ≡ layoutBytes (f ∷ []) ++ t → drop at s ≡ fieldBytes f ++ t
-  field-there f e = e ∙ ap (λ (l : List ℕ). l ++ t) (one-bytes f)
+module _ {s : List ℕ} {at : ℕ} {t : List ℕ} where
+  field-bytes : (f : Field) → Stands s at (f ∷ []) t → drop at s ≡ fieldBytes f ++ t
+  field-bytes f h = h .bytes ∙ ap (λ (l : List ℕ). l ++ t) (one-bytes f)
 
-  pub byte-field-next : (rule : ByteRule) (v : ℕ) → layoutRefusal (field.Byte rule v ∷ []) ≡ 0 → drop at s ≡ layoutBytes (field.Byte rule v ∷ []) ++ t → There (byteFieldAt rule s at) (λ c. byte.Got v c) s at (field.Byte rule v ∷ []) t
+  byte-field-there : (rule : ByteRule) (v : ℕ) → Stands s at (field.Byte rule v ∷ []) t → There (byteFieldAt rule s at) (λ c. byte.Got v c) s at (field.Byte rule v ∷ []) t
   unfolding byteFieldAt fieldBytes fieldRefusal
-  byte-field-next rule v g e =
+  byte-field-there rule v h =
       let f = field.Byte rule v in
-      let r = byte-next s at v t (field-there f e) in
-      record { next = cursor (at + 1); is = rw (r .0, good-one f g); end = field-end 1 f (length-bytes 1 v); rest = r .1 }
+      let r = byte-next s at v t (field-bytes f h) in
+      record { next = cursor (at + 1); is = rw (r .0, good-one f (h .good)); end = field-end at 1 f (length-bytes 1 v); rest = r .1 }
 
-  pub word-field-next : (rule : WordRule) (v : ℕ) → layoutRefusal (field.Word rule v ∷ []) ≡ 0 → drop at s ≡ layoutBytes (field.Word rule v ∷ []) ++ t → There (wordFieldAt rule s at) (λ c. word.Got v c) s at (field.Word rule v ∷ []) t
+  word-field-there : (rule : WordRule) (v : ℕ) → Stands s at (field.Word rule v ∷ []) t → There (wordFieldAt rule s at) (λ c. word.Got v c) s at (field.Word rule v ∷ []) t
   unfolding wordFieldAt fieldBytes fieldRefusal
-  word-field-next rule v g e =
+  word-field-there rule v h =
       let f = field.Word rule v in
-      let r = word-next s at v t (field-there f e) in
-      record { next = cursor (at + 2); is = rw (r .0, good-one f g); end = field-end 2 f (length-bytes 2 v); rest = r .1 }
+      let r = word-next s at v t (field-bytes f h) in
+      record { next = cursor (at + 2); is = rw (r .0, good-one f (h .good)); end = field-end at 2 f (length-bytes 2 v); rest = r .1 }
 
-  pub dword-field-next : (v : ℕ) → drop at s ≡ layoutBytes (field.Dword v ∷ []) ++ t → There (dwordFieldAt s at) (λ c. dword.Got v c) s at (field.Dword v ∷ []) t
+  dword-field-there : (v : ℕ) → Stands s at (field.Dword v ∷ []) t → There (dwordFieldAt s at) (λ c. dword.Got v c) s at (field.Dword v ∷ []) t
   unfolding dwordFieldAt fieldBytes fieldRefusal
-  dword-field-next v e =
+  dword-field-there v h =
       let f = field.Dword v in
-      let r = dword-next s at v t (field-there f e) in
-      record { next = cursor (at + 4); is = rw (r .0); end = field-end 4 f (length-bytes 4 v); rest = r .1 }
+      let r = dword-next s at v t (field-bytes f h) in
+      record { next = cursor (at + 4); is = rw (r .0); end = field-end at 4 f (length-bytes 4 v); rest = r .1 }
+
+-- one field, and then the others
+module _ {X : Type 0} (refused : ℕ → X) (got : ℕ → Cursor → X) {done : Cursor → X} {s : List ℕ} {at : ℕ} {gs : List Field} {t : List ℕ} where
+  pub byte-field-next : (rule : ByteRule) (v : ℕ) → Stands s at (field.Byte rule v ∷ gs) t → ((c : Cursor) → Stands s (c .at) gs t → There (got v c) done s (c .at) gs t) → There (onByteField (byteFieldAt rule s at) refused got) done s at (field.Byte rule v ∷ gs) t
+  byte-field-next rule v h on = there-then (λ r. onByteField r refused got) (byte-field-there rule v) h on
+
+  pub word-field-next : (rule : WordRule) (v : ℕ) → Stands s at (field.Word rule v ∷ gs) t → ((c : Cursor) → Stands s (c .at) gs t → There (got v c) done s (c .at) gs t) → There (onWordField (wordFieldAt rule s at) refused got) done s at (field.Word rule v ∷ gs) t
+  word-field-next rule v h on = there-then (λ r. onWordField r refused got) (word-field-there rule v) h on
+
+  pub dword-field-next : (v : ℕ) → Stands s at (field.Dword v ∷ gs) t → ((c : Cursor) → Stands s (c .at) gs t → There (got v c) done s (c .at) gs t) → There (onDwordField (dwordFieldAt s at) refused got) done s at (field.Dword v ∷ gs) t
+  dword-field-next v h on = there-then (λ r. onDwordField r refused got) (dword-field-there v) h on

@@ -7,7 +7,7 @@ use native.Mathlib.Nat.{div-one, mod-one}
 use lib.Dec.{leb, eqb}
 use borrow.Author.Tests.{leb-true, eqb-false, not-false}
 use Rattle.tables.proofs.All.{left, right, all4}
-use Rattle.decoder.specs.declared.General.{General}
+use Rattle.field_groups.specs.declared.General.{General}
 use Rattle.operands.specs.declared.Role.{Role}
 use Rattle.operands.specs.declared.Role.the-variants as role
 use Rattle.operands.specs.declared.Grid.{Grid}

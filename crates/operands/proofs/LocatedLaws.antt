@@ -13,11 +13,11 @@ use Rattle.tables.specs.Lengths.{registerSize}
 use Rattle.tables.proofs.All.{left, right, all3}
 use Rattle.tables.proofs.Placement.{Placed}
 use Rattle.channels.specs.Exec.{execSize}
-use Rattle.decoder.specs.declared.General.{General}
-use Rattle.decoder.specs.declared.Immediate.{Immediate}
-use Rattle.decoder.specs.declared.Raw.{Raw}
-use Rattle.decoder.specs.declared.Operand.{Operand}
-use Rattle.decoder.specs.declared.Operand.the-variants as operand
+use Rattle.field_groups.specs.declared.General.{General}
+use Rattle.field_groups.specs.declared.Immediate.{Immediate}
+use Rattle.field_groups.specs.declared.Raw.{Raw}
+use Rattle.field_groups.specs.declared.Operand.{Operand}
+use Rattle.field_groups.specs.declared.Operand.the-variants as operand
 use Rattle.operands.specs.declared.Role.{Role}
 use Rattle.operands.specs.declared.Role.the-variants as role
 use Rattle.operands.specs.declared.TypeRule.{TypeRule}

@@ -6,7 +6,7 @@ use native.Mathlib.Omega.{arith}
 use native.Mathlib.Nat.{mul-le-mul-right, mul-add-div-right, mul-add-mod-self-right, div-eq-of-lt, mod-eq-of-lt}
 use borrow.Author.Tests.{leb-true}
 use Rattle.tables.specs.Lengths.{registerSize}
-use Rattle.decoder.specs.declared.General.{General}
+use Rattle.field_groups.specs.declared.General.{General}
 use Rattle.operands.specs.declared.Role.the-variants as role
 use Rattle.operands.specs.Regions.{widthCode, strideOf, sourceElement, elementOf}
 use Rattle.operands.specs.Reach.{lowest, highest, twoRegisters, reachGood}

@@ -6,7 +6,7 @@ use native.Mathlib.Omega.{arith}
 use lib.Dec.{ltb, leb, eqb}
 use Rattle.types.specs.Types.{UD, UW, F, sizeOf}
 use Rattle.types.proofs.Sizes.{sizes}
-use Rattle.decoder.specs.declared.General.{General}
+use Rattle.field_groups.specs.declared.General.{General}
 use Rattle.operands.specs.declared.Role.{Role}
 use Rattle.operands.specs.declared.Role.the-variants as role
 use Rattle.operands.specs.declared.TypeRule.{TypeRule}

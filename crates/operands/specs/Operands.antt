@@ -5,11 +5,11 @@ use mathlib.Core.Bool.{Bool, cond, not, _&&_}
 use lib.Dec.{leb, eqb}
 use Rattle.types.specs.Types.{sizeOf}
 use Rattle.channels.specs.Exec.{execSize}
-use Rattle.decoder.specs.declared.General.{General}
-use Rattle.decoder.specs.declared.Immediate.{Immediate}
-use Rattle.decoder.specs.declared.Raw.{Raw}
-use Rattle.decoder.specs.declared.Operand.{Operand}
-use Rattle.decoder.specs.declared.Operand.the-variants as operand
+use Rattle.field_groups.specs.declared.General.{General}
+use Rattle.field_groups.specs.declared.Immediate.{Immediate}
+use Rattle.field_groups.specs.declared.Raw.{Raw}
+use Rattle.field_groups.specs.declared.Operand.{Operand}
+use Rattle.field_groups.specs.declared.Operand.the-variants as operand
 use Rattle.operands.specs.declared.Role.{Role}
 use Rattle.operands.specs.declared.Role.the-variants as role
 use Rattle.operands.specs.declared.TypeRule.{TypeRule}

@@ -4,7 +4,7 @@ use Prim.Native.Nat.{ℕ, _+_, _*_, _/_, _%_}
 use mathlib.Core.Bool.{Bool, cond, _&&_}
 use lib.Dec.{leb, eqb}
 use Rattle.tables.specs.Lengths.{registerSize}
-use Rattle.decoder.specs.declared.General.{General}
+use Rattle.field_groups.specs.declared.General.{General}
 use Rattle.operands.specs.declared.Role.{Role}
 use Rattle.operands.specs.declared.Role.the-variants as role
 

@@ -1,8 +1,8 @@
 // One operand of an instruction: refused by its tests, or where its elements are.
-use decoder::General;
-use decoder::Immediate;
-use decoder::Operand;
-use decoder::Raw;
+use field_groups::General;
+use field_groups::Immediate;
+use field_groups::Operand;
+use field_groups::Raw;
 ghost use mathlib.Core.Path.{_≡_};
 ghost use Prim.Native.Nat.{_+_, _*_, _<_};
 ghost use lib.ListN.{getD};

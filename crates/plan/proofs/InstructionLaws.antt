@@ -6,7 +6,7 @@ use native.Mathlib.Omega.{arith}
 use lib.Dec.{ltb}
 use lib.ListN.{length}
 use Rattle.tables.specs.Tables.{Tables}
-use Rattle.decoder.specs.declared.Control.{Control}
+use Rattle.field_groups.specs.declared.Control.{Control}
 use Rattle.decoder.specs.declared.Shl.{Shl}
 use Rattle.decoder.specs.declared.Gather.{Gather}
 use Rattle.decoder.specs.declared.Scatter.{Scatter}

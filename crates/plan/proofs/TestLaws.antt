@@ -6,7 +6,7 @@ use native.Mathlib.Omega.{arith}
 use lib.Dec.{ltb}
 use borrow.Author.Tests.{ltb-true, ltb-false}
 use Rattle.channels.specs.Exec.{execSize, execOffset}
-use Rattle.decoder.specs.declared.Control.{Control}
+use Rattle.field_groups.specs.declared.Control.{Control}
 use Rattle.operands.proofs.ReachLaws.{cond-either}
 use Rattle.plan.specs.declared.Plan.{Plan}
 use Rattle.plan.specs.Control.{controlRefusal}

@@ -6,7 +6,7 @@ use lib.Dec.{ltb, leb}
 use lib.ListN.{length, getD}
 use Rattle.channels.specs.Exec.{execSize, execOffset}
 use Rattle.channels.specs.Predicate.{hasPredicate, predicateId}
-use Rattle.decoder.specs.declared.Control.{Control}
+use Rattle.field_groups.specs.declared.Control.{Control}
 use Rattle.decoder.specs.declared.Instruction.{Instruction}
 use Rattle.decoder.specs.declared.Instruction.the-variants as instruction
 

@@ -3,7 +3,7 @@ use Prim.Native.Nat.{ℕ}
 use mathlib.Core.Bool.{cond, false}
 use lib.Dec.{ltb}
 use lib.ListN.{replicate}
-use Rattle.decoder.specs.declared.Control.{Control}
+use Rattle.field_groups.specs.declared.Control.{Control}
 use Rattle.operands.specs.declared.Elements.{Elements}
 use Rattle.plan.specs.declared.Part.{Part}
 use Rattle.plan.specs.declared.Plan.{Plan}

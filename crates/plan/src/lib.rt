@@ -1,10 +1,10 @@
 // All that a run tests of an instruction before it reads data, and what is left to run of one that passes.
-use decoder::Control;
 use decoder::Gather;
 use decoder::Instruction;
 use decoder::RawSend;
 use decoder::Scatter;
 use decoder::Shl;
+use field_groups::Control;
 use operands::Elements;
 use operands::Role;
 use operands::TypeRule;

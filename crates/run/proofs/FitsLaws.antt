@@ -8,7 +8,7 @@ use native.Mathlib.Omega.{arith}
 use Rattle.little_endian.specs.LittleEndian.{Bytes}
 use Rattle.reader.specs.declared.Cursor.{Cursor}
 use Rattle.fields.proofs.ScatterExec.{EightOrSixteen}
-use Rattle.decoder.specs.declared.Control.{Control}
+use Rattle.field_groups.specs.declared.Control.{Control}
 use Rattle.decoder.specs.declared.Instruction.{Instruction}
 use Rattle.decoder.specs.declared.Instruction.the-variants as instruction
 use Rattle.decoder.specs.declared.Decoded.{Decoded}

@@ -13,11 +13,7 @@ returns c =
     let e = d .before .before in
     let f = e .before .before in
     let g = f .before .before in
-    let h = g .before .before in
-    let i = h .before .before in
-    let j = i .before .before in
-    let k = j .before .before in
-    rw (← k .control-field .ensures, j .control .given .1, ← i .access-field .ensures, h .access .given .1, ← g .operand-field .ensures, f .offset .given .1, ← e .raw-field .ensures, d .element-offset .given .1, ← b .raw-field2 .ensures, a .destination .given .1)
+    rw (← g .control-field .ensures, f .control .given .1, ← e .access-field .ensures, d .access .given .1, ← b .scalar-and-raws-field .ensures, a .offset .given .1)
 
 returns-2 : tie.Need-returns-2
 unfolding gatherAt
@@ -28,11 +24,7 @@ returns-2 c =
     let e = d .before .before in
     let f = e .before .before in
     let g = f .before .before in
-    let h = g .before .before in
-    let i = h .before .before in
-    let j = i .before .before in
-    let k = j .before .before in
-    rw (← k .control-field .ensures, j .control .given .1, ← i .access-field .ensures, h .access .given .1, ← g .operand-field .ensures, f .offset .given .1, ← e .raw-field .ensures, d .element-offset .given .1, ← b .raw-field2 .ensures, a .number .given .1)
+    rw (← g .control-field .ensures, f .control .given .1, ← e .access-field .ensures, d .access .given .1, ← b .scalar-and-raws-field .ensures, a .number .given .1)
 
 returns-3 : tie.Need-returns-3
 unfolding gatherAt
@@ -41,38 +33,14 @@ returns-3 c =
     let b = a .before .before in
     let d = b .before .before in
     let e = d .before .before in
-    let f = e .before .before in
-    let g = f .before .before in
-    let h = g .before .before in
-    let i = h .before .before in
-    rw (← i .control-field .ensures, h .control .given .1, ← g .access-field .ensures, f .access .given .1, ← e .operand-field .ensures, d .offset .given .1, ← b .raw-field .ensures, a .number2 .given .1)
+    rw (← e .control-field .ensures, d .control .given .1, ← b .access-field .ensures, a .number2 .given .1)
 
 returns-4 : tie.Need-returns-4
 unfolding gatherAt
 returns-4 c =
     let a = c .before in
     let b = a .before .before in
-    let d = b .before .before in
-    let e = d .before .before in
-    let f = e .before .before in
-    let g = f .before .before in
-    rw (← g .control-field .ensures, f .control .given .1, ← e .access-field .ensures, d .access .given .1, ← b .operand-field .ensures, a .number3 .given .1)
-
-returns-5 : tie.Need-returns-5
-unfolding gatherAt
-returns-5 c =
-    let a = c .before in
-    let b = a .before .before in
-    let d = b .before .before in
-    let e = d .before .before in
-    rw (← e .control-field .ensures, d .control .given .1, ← b .access-field .ensures, a .number4 .given .1)
-
-returns-6 : tie.Need-returns-6
-unfolding gatherAt
-returns-6 c =
-    let a = c .before in
-    let b = a .before .before in
-    rw (← b .control-field .ensures, a .number5 .given .1)
+    rw (← b .control-field .ensures, a .number3 .given .1)
 
 pub gather-fields-spec : {M : Type 1} → statement M
-gather-fields-spec = tie.close (tie.spec (λ c κs. search needs) (λ c. search needs) (λ c κs. search needs) (λ c. search needs) (λ c κs. search needs) (λ c. search needs) (λ c κs. search needs) (λ c. search needs) (λ c κs. search needs) (λ c. search needs) (λ c. search needs) (λ c. search needs) (λ c. search needs) (λ c. search needs) (λ c. search needs) returns returns-2 returns-3 returns-4 returns-5 returns-6)
+gather-fields-spec = tie.close (tie.spec (λ c κs. search needs) (λ c. search needs) (λ c κs. search needs) (λ c. search needs) (λ c κs. search needs) (λ c. search needs) (λ c. search needs) (λ c. search needs) (λ c. search needs) returns returns-2 returns-3 returns-4)

@@ -15,11 +15,7 @@ returns c =
     let g = f .before .before in
     let h = g .before .before in
     let i = h .before .before in
-    let j = i .before .before in
-    let k = j .before .before in
-    let l = k .before .before in
-    let m = l .before .before in
-    rw (← m .byte-field .ensures, l .modifiers .given .1, ← k .control-field .ensures, j .control .given .1, ← i .message-field .ensures, h .message .given .1, ← g .operand-field .ensures, f .descriptor .given .1, ← e .raw-field .ensures, d .source .given .1, ← b .raw-field2 .ensures, a .destination .given .1)
+    rw (← i .byte-field .ensures, h .modifiers .given .1, ← g .control-field .ensures, f .control .given .1, ← e .message-field .ensures, d .message .given .1, ← b .scalar-and-raws-field .ensures, a .descriptor .given .1)
 
 returns-2 : tie.Need-returns-2
 unfolding rawSendAt
@@ -32,11 +28,7 @@ returns-2 c =
     let g = f .before .before in
     let h = g .before .before in
     let i = h .before .before in
-    let j = i .before .before in
-    let k = j .before .before in
-    let l = k .before .before in
-    let m = l .before .before in
-    rw (← m .byte-field .ensures, l .modifiers .given .1, ← k .control-field .ensures, j .control .given .1, ← i .message-field .ensures, h .message .given .1, ← g .operand-field .ensures, f .descriptor .given .1, ← e .raw-field .ensures, d .source .given .1, ← b .raw-field2 .ensures, a .number .given .1)
+    rw (← i .byte-field .ensures, h .modifiers .given .1, ← g .control-field .ensures, f .control .given .1, ← e .message-field .ensures, d .message .given .1, ← b .scalar-and-raws-field .ensures, a .number .given .1)
 
 returns-3 : tie.Need-returns-3
 unfolding rawSendAt
@@ -47,11 +39,7 @@ returns-3 c =
     let e = d .before .before in
     let f = e .before .before in
     let g = f .before .before in
-    let h = g .before .before in
-    let i = h .before .before in
-    let j = i .before .before in
-    let k = j .before .before in
-    rw (← k .byte-field .ensures, j .modifiers .given .1, ← i .control-field .ensures, h .control .given .1, ← g .message-field .ensures, f .message .given .1, ← e .operand-field .ensures, d .descriptor .given .1, ← b .raw-field .ensures, a .number2 .given .1)
+    rw (← g .byte-field .ensures, f .modifiers .given .1, ← e .control-field .ensures, d .control .given .1, ← b .message-field .ensures, a .number2 .given .1)
 
 returns-4 : tie.Need-returns-4
 unfolding rawSendAt
@@ -60,38 +48,14 @@ returns-4 c =
     let b = a .before .before in
     let d = b .before .before in
     let e = d .before .before in
-    let f = e .before .before in
-    let g = f .before .before in
-    let h = g .before .before in
-    let i = h .before .before in
-    rw (← i .byte-field .ensures, h .modifiers .given .1, ← g .control-field .ensures, f .control .given .1, ← e .message-field .ensures, d .message .given .1, ← b .operand-field .ensures, a .number3 .given .1)
+    rw (← e .byte-field .ensures, d .modifiers .given .1, ← b .control-field .ensures, a .number3 .given .1)
 
 returns-5 : tie.Need-returns-5
 unfolding rawSendAt
 returns-5 c =
     let a = c .before in
     let b = a .before .before in
-    let d = b .before .before in
-    let e = d .before .before in
-    let f = e .before .before in
-    let g = f .before .before in
-    rw (← g .byte-field .ensures, f .modifiers .given .1, ← e .control-field .ensures, d .control .given .1, ← b .message-field .ensures, a .number4 .given .1)
-
-returns-6 : tie.Need-returns-6
-unfolding rawSendAt
-returns-6 c =
-    let a = c .before in
-    let b = a .before .before in
-    let d = b .before .before in
-    let e = d .before .before in
-    rw (← e .byte-field .ensures, d .modifiers .given .1, ← b .control-field .ensures, a .number5 .given .1)
-
-returns-7 : tie.Need-returns-7
-unfolding rawSendAt
-returns-7 c =
-    let a = c .before in
-    let b = a .before .before in
-    rw (← b .byte-field .ensures, a .number6 .given .1)
+    rw (← b .byte-field .ensures, a .number4 .given .1)
 
 pub raw-send-fields-spec : {M : Type 1} → statement M
-raw-send-fields-spec = tie.close (tie.spec (λ c κs. search needs) (λ c. search needs) (λ c κs. search needs) (λ c. search needs) (λ c κs. search needs) (λ c. search needs) (λ c κs. search needs) (λ c. search needs) (λ c κs. search needs) (λ c. search needs) (λ c κs. search needs) (λ c. search needs) (λ c. search needs) (λ c. search needs) (λ c. search needs) (λ c. search needs) (λ c. search needs) (λ c. search needs) returns returns-2 returns-3 returns-4 returns-5 returns-6 returns-7)
+raw-send-fields-spec = tie.close (tie.spec (λ c κs. search needs) (λ c. search needs) (λ c κs. search needs) (λ c. search needs) (λ c κs. search needs) (λ c. search needs) (λ c κs. search needs) (λ c. search needs) (λ c. search needs) (λ c. search needs) (λ c. search needs) (λ c. search needs) returns returns-2 returns-3 returns-4 returns-5)

@@ -15,11 +15,7 @@ returns c =
     let g = f .before .before in
     let h = g .before .before in
     let i = h .before .before in
-    let j = i .before .before in
-    let k = j .before .before in
-    let l = k .before .before in
-    let m = l .before .before in
-    rw (← m .control-field .ensures, l .control .given .1, ← k .byte-field .ensures, j .channels .given .1, ← i .word-field .ensures, h .scale .given .1, ← g .operand-field .ensures, f .address .given .1, ← e .raw-field .ensures, d .element-offset .given .1, ← b .raw-field2 .ensures, a .source .given .1)
+    rw (← i .control-field .ensures, h .control .given .1, ← g .byte-field .ensures, f .channels .given .1, ← e .word-field .ensures, d .scale .given .1, ← b .scalar-and-raws-field .ensures, a .address .given .1)
 
 returns-2 : tie.Need-returns-2
 unfolding scatterAt
@@ -32,11 +28,7 @@ returns-2 c =
     let g = f .before .before in
     let h = g .before .before in
     let i = h .before .before in
-    let j = i .before .before in
-    let k = j .before .before in
-    let l = k .before .before in
-    let m = l .before .before in
-    rw (← m .control-field .ensures, l .control .given .1, ← k .byte-field .ensures, j .channels .given .1, ← i .word-field .ensures, h .scale .given .1, ← g .operand-field .ensures, f .address .given .1, ← e .raw-field .ensures, d .element-offset .given .1, ← b .raw-field2 .ensures, a .number .given .1)
+    rw (← i .control-field .ensures, h .control .given .1, ← g .byte-field .ensures, f .channels .given .1, ← e .word-field .ensures, d .scale .given .1, ← b .scalar-and-raws-field .ensures, a .number .given .1)
 
 returns-3 : tie.Need-returns-3
 unfolding scatterAt
@@ -47,11 +39,7 @@ returns-3 c =
     let e = d .before .before in
     let f = e .before .before in
     let g = f .before .before in
-    let h = g .before .before in
-    let i = h .before .before in
-    let j = i .before .before in
-    let k = j .before .before in
-    rw (← k .control-field .ensures, j .control .given .1, ← i .byte-field .ensures, h .channels .given .1, ← g .word-field .ensures, f .scale .given .1, ← e .operand-field .ensures, d .address .given .1, ← b .raw-field .ensures, a .number2 .given .1)
+    rw (← g .control-field .ensures, f .control .given .1, ← e .byte-field .ensures, d .channels .given .1, ← b .word-field .ensures, a .number2 .given .1)
 
 returns-4 : tie.Need-returns-4
 unfolding scatterAt
@@ -60,38 +48,14 @@ returns-4 c =
     let b = a .before .before in
     let d = b .before .before in
     let e = d .before .before in
-    let f = e .before .before in
-    let g = f .before .before in
-    let h = g .before .before in
-    let i = h .before .before in
-    rw (← i .control-field .ensures, h .control .given .1, ← g .byte-field .ensures, f .channels .given .1, ← e .word-field .ensures, d .scale .given .1, ← b .operand-field .ensures, a .number3 .given .1)
+    rw (← e .control-field .ensures, d .control .given .1, ← b .byte-field .ensures, a .number3 .given .1)
 
 returns-5 : tie.Need-returns-5
 unfolding scatterAt
 returns-5 c =
     let a = c .before in
     let b = a .before .before in
-    let d = b .before .before in
-    let e = d .before .before in
-    let f = e .before .before in
-    let g = f .before .before in
-    rw (← g .control-field .ensures, f .control .given .1, ← e .byte-field .ensures, d .channels .given .1, ← b .word-field .ensures, a .number4 .given .1)
-
-returns-6 : tie.Need-returns-6
-unfolding scatterAt
-returns-6 c =
-    let a = c .before in
-    let b = a .before .before in
-    let d = b .before .before in
-    let e = d .before .before in
-    rw (← e .control-field .ensures, d .control .given .1, ← b .byte-field .ensures, a .number5 .given .1)
-
-returns-7 : tie.Need-returns-7
-unfolding scatterAt
-returns-7 c =
-    let a = c .before in
-    let b = a .before .before in
-    rw (← b .control-field .ensures, a .number6 .given .1)
+    rw (← b .control-field .ensures, a .number4 .given .1)
 
 pub scatter-fields-spec : {M : Type 1} → statement M
-scatter-fields-spec = tie.close (tie.spec (λ c κs. search needs) (λ c. search needs) (λ c κs. search needs) (λ c. search needs) (λ c κs. search needs) (λ c. search needs) (λ c κs. search needs) (λ c. search needs) (λ c κs. search needs) (λ c. search needs) (λ c κs. search needs) (λ c. search needs) (λ c. search needs) (λ c. search needs) (λ c. search needs) (λ c. search needs) (λ c. search needs) (λ c. search needs) returns returns-2 returns-3 returns-4 returns-5 returns-6 returns-7)
+scatter-fields-spec = tie.close (tie.spec (λ c κs. search needs) (λ c. search needs) (λ c κs. search needs) (λ c. search needs) (λ c κs. search needs) (λ c. search needs) (λ c κs. search needs) (λ c. search needs) (λ c. search needs) (λ c. search needs) (λ c. search needs) (λ c. search needs) returns returns-2 returns-3 returns-4 returns-5)

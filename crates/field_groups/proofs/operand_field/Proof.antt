@@ -1,9 +1,9 @@
--- `decoder::operand_field` meets its contract: at each return, what the calls and tests on the way say picks the case of `Decoding`.
+-- `field_groups::operand_field` meets its contract: at each return, what the calls and tests on the way say picks the case of `Reading`.
 use borrow.Author.Needs.{needs}
 use borrow.Author.Tests.{eq-eqb, ne-eqb}
-use Rattle.decoder.specs.Decoding.{operandAt}
-use Rattle.decoder.proofs.operand_field.Statement.{statement}
-use Rattle.decoder.proofs.operand_field.Tie as tie
+use Rattle.field_groups.specs.Reading.{operandAt}
+use Rattle.field_groups.proofs.operand_field.Statement.{statement}
+use Rattle.field_groups.proofs.operand_field.Tie as tie
 
 returns : tie.Need-returns
 unfolding operandAt

@@ -1,8 +1,8 @@
--- `decoder::raw_field` meets its contract: at each return, what the calls and tests on the way say picks the case of `Decoding`.
+-- `field_groups::raw_field` meets its contract: at each return, what the calls and tests on the way say picks the case of `Reading`.
 use borrow.Author.Needs.{needs}
-use Rattle.decoder.specs.Decoding.{rawAt}
-use Rattle.decoder.proofs.raw_field.Statement.{statement}
-use Rattle.decoder.proofs.raw_field.Tie as tie
+use Rattle.field_groups.specs.Reading.{rawAt}
+use Rattle.field_groups.proofs.raw_field.Statement.{statement}
+use Rattle.field_groups.proofs.raw_field.Tie as tie
 
 returns : tie.Need-returns
 unfolding rawAt

@@ -1,8 +1,8 @@
--- `decoder::immediate_field` meets its contract: at each return, what the calls and tests on the way say picks the case of `Decoding`.
+-- `field_groups::immediate_field` meets its contract: at each return, what the calls and tests on the way say picks the case of `Reading`.
 use borrow.Author.Needs.{needs}
-use Rattle.decoder.specs.Decoding.{immediateAt}
-use Rattle.decoder.proofs.immediate_field.Statement.{statement}
-use Rattle.decoder.proofs.immediate_field.Tie as tie
+use Rattle.field_groups.specs.Reading.{immediateAt}
+use Rattle.field_groups.proofs.immediate_field.Statement.{statement}
+use Rattle.field_groups.proofs.immediate_field.Tie as tie
 
 returns : tie.Need-returns
 unfolding immediateAt

@@ -1,0 +1,39 @@
+-- Each group laid out as fields, in the order of its page's Format table.
+use Prim.Native.Nat.{ℕ}
+use mathlib.Core.List.{List, [], _∷_}
+use mathlib.Core.Bool.{cond}
+use Rattle.types.specs.Types.{hasHighWord}
+use Rattle.fields.specs.declared.ByteRule.{ByteRule}
+use Rattle.fields.specs.declared.ByteRule.the-variants as byte
+use Rattle.fields.specs.declared.WordRule.the-variants as word
+use Rattle.fields.specs.declared.Field.{Field}
+use Rattle.fields.specs.declared.Field.the-variants.{Byte, Word, Dword, Lacking}
+use Rattle.field_groups.specs.declared.Control.{Control}
+use Rattle.field_groups.specs.declared.Raw.{Raw}
+use Rattle.field_groups.specs.declared.Access.{Access}
+use Rattle.field_groups.specs.declared.Message.{Message}
+use Rattle.field_groups.specs.declared.Operand.{Operand}
+use Rattle.field_groups.specs.declared.Operand.the-variants.{General, Immediate}
+
+unfoldable pub controlFields : ByteRule → Control → List Field
+controlFields rule x = Byte rule (x .exec) ∷ Word word.Predicate (x .pred) ∷ []
+
+-- an immediate's high word: "high ud for UQ only"
+unfoldable pub highField : ℕ → ℕ → Field
+highField code high = cond (hasHighWord code) (Dword high) (Lacking high)
+
+unfoldable pub operandFields : ByteRule → Operand → List Field
+operandFields rule (General g) =
+    Byte rule 0 ∷ Word word.Free (g .index) ∷ Byte byte.Free (g .row) ∷ Byte byte.Free (g .column) ∷ Word word.Region (g .region) ∷ []
+operandFields rule (Immediate i) =
+    Byte rule 5 ∷ Byte byte.ImmediateType (i .code) ∷ Dword (i .low) ∷ highField (i .code) (i .high) ∷ []
+
+unfoldable pub rawFields : Raw → List Field
+rawFields x = Word word.Free (x .index) ∷ Word word.Free (x .offset) ∷ []
+
+unfoldable pub accessFields : Access → List Field
+accessFields x =
+    Byte byte.Free (x .«block_size») ∷ Byte byte.NumBlocks (x .«num_blocks») ∷ Word word.Free (x .scale) ∷ Byte byte.Free (x .surface) ∷ []
+
+unfoldable pub messageFields : Message → List Field
+messageFields x = Dword (x .extended) ∷ Byte byte.NumSrc (x .«num_src») ∷ Byte byte.NumDst (x .«num_dst») ∷ []

@@ -1,0 +1,261 @@
+// Groups of fields: the parts that an instruction is made of, each read field by field in the order of its page's Format table.
+use fields::ByteField;
+use fields::ByteRule;
+use fields::DwordField;
+use fields::WordField;
+use fields::WordRule;
+use reader::Cursor;
+ghost use mathlib.Core.Path.{_≡_};
+ghost use Rattle.types.specs.Types.{hasHighWord};
+ghost use Rattle.field_groups.specs.Reading.{controlAt, generalAt, highAt, immediateAt, operandAt, rawAt, scalarAndRawsAt, accessAt, messageAt};
+
+// What stands in front of every instruction: Exec_size and Pred.
+pub struct Control {
+    pub exec: u8,
+    pub pred: u16,
+}
+
+pub struct General {
+    pub index: u16,
+    pub row: u8,
+    pub column: u8,
+    pub region: u16,
+}
+
+// `code` is the type's code. `high` is 0 where the type stores no high word.
+pub struct Immediate {
+    pub code: u8,
+    pub low: u32,
+    pub high: u32,
+}
+
+// A vector operand or a scalar.
+pub enum Operand {
+    General(General),
+    Immediate(Immediate),
+}
+
+// A raw operand: a variable and a byte offset in it.
+pub struct Raw {
+    pub index: u16,
+    pub offset: u16,
+}
+
+// What a gather reads at each address. `block_size` and `scale` are ignored and carried.
+pub struct Access {
+    pub block_size: u8,
+    pub num_blocks: u8,
+    pub scale: u16,
+    pub surface: u8,
+}
+
+// ExMsgDesc, NumSrc and NumDst of a RAW_SEND.
+pub struct Message {
+    pub extended: u32,
+    pub num_src: u8,
+    pub num_dst: u8,
+}
+
+pub enum ControlField {
+    Got(Control, Cursor),
+    Refused(u8),
+}
+
+pub enum OperandField {
+    Got(Operand, Cursor),
+    Refused(u8),
+}
+
+pub enum RawField {
+    Got(Raw, Cursor),
+    Refused(u8),
+}
+
+// A scalar and the two raw operands after it: how every instruction but SHL ends.
+pub enum ScalarAndRawsField {
+    Got(Operand, Raw, Raw, Cursor),
+    Refused(u8),
+}
+
+pub enum AccessField {
+    Got(Access, Cursor),
+    Refused(u8),
+}
+
+pub enum MessageField {
+    Got(Message, Cursor),
+    Refused(u8),
+}
+
+pub fn control_field(kernel: &[u8], cursor: Cursor, rule: ByteRule) -> ControlField
+    ensures { λ r. ⌜ r ≡ controlAt rule (now (kernel .entry)) (cursor .at) ⌝ }
+{
+    match fields::byte_field(kernel, cursor, rule) {
+        ByteField::Got(exec, c1) => match fields::word_field(kernel, c1, WordRule::Predicate) {
+            WordField::Got(pred, c2) => ControlField::Got(Control { exec, pred }, c2),
+            WordField::Refused(number) => ControlField::Refused(number),
+        },
+        ByteField::Refused(number) => ControlField::Refused(number),
+    }
+}
+
+// A General operand after its tag.
+fn general_field(kernel: &[u8], cursor: Cursor) -> OperandField
+    ensures { λ r. ⌜ r ≡ generalAt (now (kernel .entry)) (cursor .at) ⌝ }
+{
+    match fields::word_field(kernel, cursor, WordRule::Free) {
+        WordField::Got(index, c1) => match fields::byte_field(kernel, c1, ByteRule::Free) {
+            ByteField::Got(row, c2) => match fields::byte_field(kernel, c2, ByteRule::Free) {
+                ByteField::Got(column, c3) => {
+                    match fields::word_field(kernel, c3, WordRule::Region) {
+                        WordField::Got(region, c4) => OperandField::Got(
+                            Operand::General(General {
+                                index,
+                                row,
+                                column,
+                                region,
+                            }),
+                            c4,
+                        ),
+                        WordField::Refused(number) => OperandField::Refused(number),
+                    }
+                }
+                ByteField::Refused(number) => OperandField::Refused(number),
+            },
+            ByteField::Refused(number) => OperandField::Refused(number),
+        },
+        WordField::Refused(number) => OperandField::Refused(number),
+    }
+}
+
+// The high word of an Immediate operand, where its type has one.
+fn high_field(kernel: &[u8], cursor: Cursor, code: u8, low: u32) -> OperandField
+    ensures { λ r. ⌜ r ≡ highAt (hasHighWord code) code low (now (kernel .entry)) cursor ⌝ }
+{
+    if types::has_high_word(code) {
+        match fields::dword_field(kernel, cursor) {
+            DwordField::Got(high, next) => OperandField::Got(
+                Operand::Immediate(Immediate { code, low, high }),
+                next,
+            ),
+            DwordField::Refused(number) => OperandField::Refused(number),
+        }
+    } else {
+        OperandField::Got(Operand::Immediate(Immediate { code, low, high: 0 }), cursor)
+    }
+}
+
+// An Immediate operand after its tag.
+fn immediate_field(kernel: &[u8], cursor: Cursor) -> OperandField
+    ensures { λ r. ⌜ r ≡ immediateAt (now (kernel .entry)) (cursor .at) ⌝ }
+{
+    match fields::byte_field(kernel, cursor, ByteRule::ImmediateType) {
+        ByteField::Got(code, c1) => match fields::dword_field(kernel, c1) {
+            DwordField::Got(low, c2) => { high_field(kernel, c2, code, low) }
+            DwordField::Refused(number) => OperandField::Refused(number),
+        },
+        ByteField::Refused(number) => OperandField::Refused(number),
+    }
+}
+
+// A destination, source or scalar: the rule of its tag says which.
+pub fn operand_field(kernel: &[u8], cursor: Cursor, rule: ByteRule) -> OperandField
+    ensures { λ r. ⌜ r ≡ operandAt rule (now (kernel .entry)) (cursor .at) ⌝ }
+{
+    match fields::byte_field(kernel, cursor, rule) {
+        ByteField::Got(tag, c1) => {
+            if tag == 0 {
+                return general_field(kernel, c1);
+            }
+            if tag == 5 {
+                immediate_field(kernel, c1)
+            } else {
+                OperandField::Refused(4)
+            }
+        }
+        ByteField::Refused(number) => OperandField::Refused(number),
+    }
+}
+
+pub fn raw_field(kernel: &[u8], cursor: Cursor) -> RawField
+    ensures { λ r. ⌜ r ≡ rawAt (now (kernel .entry)) (cursor .at) ⌝ }
+{
+    match fields::word_field(kernel, cursor, WordRule::Free) {
+        WordField::Got(index, c1) => match fields::word_field(kernel, c1, WordRule::Free) {
+            WordField::Got(offset, c2) => RawField::Got(Raw { index, offset }, c2),
+            WordField::Refused(number) => RawField::Refused(number),
+        },
+        WordField::Refused(number) => RawField::Refused(number),
+    }
+}
+
+pub fn scalar_and_raws_field(kernel: &[u8], cursor: Cursor) -> ScalarAndRawsField
+    ensures { λ r. ⌜ r ≡ scalarAndRawsAt (now (kernel .entry)) (cursor .at) ⌝ }
+{
+    match operand_field(kernel, cursor, ByteRule::SourceTag) {
+        OperandField::Got(scalar, c1) => match raw_field(kernel, c1) {
+            RawField::Got(first, c2) => match raw_field(kernel, c2) {
+                RawField::Got(second, c3) => ScalarAndRawsField::Got(scalar, first, second, c3),
+                RawField::Refused(number) => ScalarAndRawsField::Refused(number),
+            },
+            RawField::Refused(number) => ScalarAndRawsField::Refused(number),
+        },
+        OperandField::Refused(number) => ScalarAndRawsField::Refused(number),
+    }
+}
+
+pub fn access_field(kernel: &[u8], cursor: Cursor) -> AccessField
+    ensures { λ r. ⌜ r ≡ accessAt (now (kernel .entry)) (cursor .at) ⌝ }
+{
+    match fields::byte_field(kernel, cursor, ByteRule::Free) {
+        ByteField::Got(block_size, c1) => {
+            match fields::byte_field(kernel, c1, ByteRule::NumBlocks) {
+                ByteField::Got(num_blocks, c2) => {
+                    match fields::word_field(kernel, c2, WordRule::Free) {
+                        WordField::Got(scale, c3) => {
+                            match fields::byte_field(kernel, c3, ByteRule::Free) {
+                                ByteField::Got(surface, c4) => AccessField::Got(
+                                    Access {
+                                        block_size,
+                                        num_blocks,
+                                        scale,
+                                        surface,
+                                    },
+                                    c4,
+                                ),
+                                ByteField::Refused(number) => AccessField::Refused(number),
+                            }
+                        }
+                        WordField::Refused(number) => AccessField::Refused(number),
+                    }
+                }
+                ByteField::Refused(number) => AccessField::Refused(number),
+            }
+        }
+        ByteField::Refused(number) => AccessField::Refused(number),
+    }
+}
+
+pub fn message_field(kernel: &[u8], cursor: Cursor) -> MessageField
+    ensures { λ r. ⌜ r ≡ messageAt (now (kernel .entry)) (cursor .at) ⌝ }
+{
+    match fields::dword_field(kernel, cursor) {
+        DwordField::Got(extended, c1) => match fields::byte_field(kernel, c1, ByteRule::NumSrc) {
+            ByteField::Got(num_src, c2) => {
+                match fields::byte_field(kernel, c2, ByteRule::NumDst) {
+                    ByteField::Got(num_dst, c3) => MessageField::Got(
+                        Message {
+                            extended,
+                            num_src,
+                            num_dst,
+                        },
+                        c3,
+                    ),
+                    ByteField::Refused(number) => MessageField::Refused(number),
+                }
+            }
+            ByteField::Refused(number) => MessageField::Refused(number),
+        },
+        DwordField::Refused(number) => MessageField::Refused(number),
+    }
+}
