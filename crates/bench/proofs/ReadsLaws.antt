@@ -1,29 +1,39 @@
 -- Texts, read one after the other.
 use mathlib.Core.Path.{_≡_, refl, sym, ap, _∙_}
-use mathlib.Core.Bool.{Bool, true, false, _&&_}
 use mathlib.Core.List.{List, [], _++_}
-use Prim.Native.Nat.{ℕ, _<_}
-use lib.Dec.{ltb}
-use borrow.Author.Tests.{ltb-true}
-use Rattle.frames.specs.Reading.{Contents, Tables}
+use Prim.Native.Nat.{ℕ, _-_, _<_}
+use native.Mathlib.Omega.{arith}
+use lib.ListN.{length}
+use Rattle.frames.specs.Reading.{Contents, Tables, reading}
 use Rattle.feeding.specs.declared.State.{State}
 use Rattle.feeding.specs.Feeding.{Machine, machine, fresh, fed}
 use Rattle.feeding.proofs.FeedingLaws.{fed-none, fed-append}
+use Rattle.feeding.proofs.KeptLaws.{Kept, Told, kept-none, kept-more}
 use Rattle.bench.specs.Program.{Reads}
 
-pub reads-none : (line : List ℕ) (state : State) (contents : Contents) (tables : Tables) → state ≡ fresh →
-    Reads (machine line fresh contents tables) (machine line state contents tables)
-reads-none line state contents tables e =
-    record { text = []; is = ap (λ (s : State). machine line s contents tables) e ∙ sym (fed-none (machine line fresh contents tables)) }
+-- some text was fed to a machine, and no buffer has another length
+pub record Fed (m n : Machine) : Type 0 where
+  pub reads : Reads m n
+  pub line : length (n .row .line) ≡ length (m .row .line)
+  pub kept : Kept (m .reading) (n .reading)
 
-pub reads-more : (a b d : Machine) (text : List ℕ) → Reads a b → d ≡ fed text b → Reads a d
-reads-more a b d text r e =
-    record { text = r .text ++ text; is = e ∙ (ap (fed text) (r .is) ∙ sym (fed-append (r .text) text a)) }
+pub none-fed : (line : List ℕ) (state : State) (contents : Contents) (tables : Tables) → state ≡ fresh →
+    Fed (machine line fresh contents tables) (machine line state contents tables)
+none-fed line state contents tables e =
+    record {
+      reads = record { text = []; is = ap (λ (s : State). machine line s contents tables) e ∙ sym (fed-none (machine line fresh contents tables)) };
+      line = refl;
+      kept = kept-none (reading (fresh .case) contents tables) (state .case);
+    }
 
--- while both tests hold, a turn is left
-both : (p q : Bool) → (p && q) ≡ true → p ≡ true
-both true q e = refl
-both false q e = e
+pub more-fed : (m n o : Machine) (text : List ℕ) → Fed m n → o ≡ fed text n → length (o .row .line) ≡ length (n .row .line) → Told (n .reading) (o .reading) → Fed m o
+more-fed m n o text f e l k =
+    record {
+      reads = record { text = f .reads .text ++ text; is = e ∙ (ap (fed text) (f .reads .is) ∙ sym (fed-append (f .reads .text) text m)) };
+      line = l ∙ f .line;
+      kept = kept-more (m .reading) (n .reading) (o .reading) (f .kept) k;
+    }
 
-pub turn-left : (turns count : ℕ) → (ltb 0 turns && ltb 0 count) ≡ true → 0 < turns
-turn-left turns count e = ltb-true 0 turns (both (ltb 0 turns) (ltb 0 count) e)
+-- a turn fewer is left
+pub turn-less : (turns : ℕ) → 0 < turns → turns - 1 < turns
+turn-less turns h = omega (arith, h)

@@ -49,14 +49,17 @@ fn read_all(
     let mut block = [0u8; 65536];
     let mut state = feeding::start();
     let mut turns = u64::MAX;
-    let mut count: usize = 1;
-    let mut failed = false;
-    while (0 < turns) & (0 < count) {
+    while 0 < turns {
+        turns -= 1;
         let got = read_block(&mut block);
-        count = got.count;
-        failed = got.failed;
+        if got.count == 0 {
+            return Input {
+                state,
+                ended: !got.failed,
+            };
+        }
         let next = feeding::feed(
-            &block[..count],
+            &block[..got.count],
             line,
             registers,
             memory,
@@ -73,11 +76,10 @@ fn read_all(
             state,
         );
         state = next;
-        turns -= 1;
     }
     Input {
         state,
-        ended: (count == 0) & !failed,
+        ended: false,
     }
 }
 

@@ -49,7 +49,7 @@ pub record Fed (block : List ℕ) (i : ℕ) (m n : Machine) : Type 0 where
   pub kept : Kept (m .reading) (n .reading)
 
 pub none-fed : (block : List ℕ) (m : Machine) → Fed block 0 m m
-none-fed block m = record { inside = omega arith; rest = refl; line = refl; kept = kept-none (m .reading) }
+none-fed block m = record { inside = omega arith; rest = refl; line = refl; kept = kept-none (m .reading) (m .reading .case) }
 
 module _ (block : List ℕ) (i : ℕ) (m n : Machine) (f : Fed block i m n) (h : i < length block) where
   pub character-more : (w : Row) → (getD block i 0 ≡ 10 → ⊥) → w ≡ pushed (getD block i 0) (n .row) → length (w .line) ≡ length (n .row .line) →

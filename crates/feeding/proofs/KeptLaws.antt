@@ -1,7 +1,8 @@
 -- Buffers that keep their lengths.
 use mathlib.Core.Path.{_≡_, refl, _∙_}
 use lib.ListN.{length}
-use Rattle.frames.specs.Reading.{Reading}
+use Rattle.frames.specs.declared.Case.{Case}
+use Rattle.frames.specs.Reading.{Reading, only}
 
 pub record Kept (r s : Reading) : Type 0 where
   pub registers : length (s .contents .registers) ≡ length (r .contents .registers)
@@ -34,8 +35,9 @@ Told r s =
     × ((length (s .tables .lengths) ≡ length (r .tables .lengths))
     × (Unit {0} × Unit {0}))))))))))))
 
-pub kept-none : (r : Reading) → Kept r r
-kept-none r =
+-- with no call on the way
+pub kept-none : (r : Reading) (case : Case) → Kept r (only case r)
+kept-none r case =
     record { registers = refl; memory = refl; kernel = refl; registerTaint = refl; surfaceTaint = refl; memoryTaint = refl; types = refl; starts = refl; counts = refl; predicates = refl; surfaces = refl; lengths = refl }
 
 pub kept-more : (q r s : Reading) → Kept q r → Told r s → Kept q s

@@ -16,15 +16,15 @@ Inv-loop block line₀ registers₀ memory₀ kernel₀ registerTaint₀ surface
 abbrev μ-loop : tie.MeasureT-loop
 μ-loop block line₀ registers₀ memory₀ kernel₀ registerTaint₀ surfaceTaint₀ memoryTaint₀ types₀ starts₀ counts₀ predicateValues₀ surfaceBytes₀ surfaceLengths₀ s₀ i₀ line registers memory kernel registerTaint surfaceTaint memoryTaint types starts counts predicateValues surfaceBytes surfaceLengths s i = length block - i
 
--- the loop's head, from inside a turn
-abbrev head : tie.After-shared-slice-known2 Inv-loop μ-loop → tie.At-loop Inv-loop μ-loop
-head c = c .before .before
+-- the function's start, from inside a turn
+abbrev start : tie.In-loop Inv-loop μ-loop → tie.Start Inv-loop μ-loop
+start c = c .before .before .before .before .before .before .before .before .before .before .before .before .before .before .before .before
 
--- the function's start
-abbrev start : tie.At-loop Inv-loop μ-loop → tie.Start Inv-loop μ-loop
-start c = c .before .before .before .before .before .before .before .before .before .before .before .before .before .before .before
+-- the turn's start, from its end, for a character of a line
+abbrev turn : tie.After-slice-known14 Inv-loop μ-loop → tie.In-loop Inv-loop μ-loop
+turn c = c .before .before .before .before .before .before
 
--- where the line is read, from the end of a turn
+-- where a line is read, from the turn's end
 abbrev read : tie.After-slice-known26 Inv-loop μ-loop → tie.After-take-line Inv-loop μ-loop
 read c = c .before .before .before .before .before .before .before .before .before .before .before .before .before .before .before .before .before .before .before .before .before .before .before .before
 
@@ -32,28 +32,32 @@ read c = c .before .before .before .before .before .before .before .before .befo
 abbrev taken : tie.After-take-line Inv-loop μ-loop → tie.After-line-characters Inv-loop μ-loop
 taken c = c .before .before .before .before .before .before .before .before .before .before .before .before .before
 
+-- the turn's start, from there
+abbrev turn-2 : tie.After-line-characters Inv-loop μ-loop → tie.In-loop Inv-loop μ-loop
+turn-2 c = c .before .before .before .before
+
 loop-holds : tie.Need-loop-holds Inv-loop μ-loop
 loop-holds c = none-fed _ _
 
 add-i : tie.Need-add-i Inv-loop μ-loop
-add-i c = next-fits _ _ (c .before .loop-test .taken) (start (head c) .good .0 .0)
+add-i c = next-fits _ _ (c .before .loop-test .taken) (start (c .before) .good .0 .0)
 
 loop-less : tie.Need-loop-less Inv-loop μ-loop
-loop-less c = next-nearer _ _ (c .before .before .before .before .before .before .loop-test .taken)
+loop-less c = next-nearer _ _ (turn c .loop-test .taken)
 
 loop-again : tie.Need-loop-again Inv-loop μ-loop
 loop-again c =
-    character-more _ _ _ _ (c .before .before .before .before .before .before .before .loop .inv) (c .before .before .before .before .before .before .loop-test .taken) _
+    character-more _ _ _ _ (turn c .before .loop .inv) (turn c .loop-test .taken) _
     (c .before .before .before .before .if1 .taken)
     (c .before .before .push .ensures)
     (c .before .before .push .kept .0)
 
 loop-less-2 : tie.Need-loop-less-2 Inv-loop μ-loop
-loop-less-2 c = next-nearer _ _ (taken (read c) .before .before .before .before .loop-test .taken)
+loop-less-2 c = next-nearer _ _ (turn-2 (taken (read c)) .loop-test .taken)
 
 loop-again-2 : tie.Need-loop-again-2 Inv-loop μ-loop
 loop-again-2 c =
-    line-more _ _ _ _ (taken (read c) .before .before .before .before .before .loop .inv) (taken (read c) .before .before .before .before .loop-test .taken) _ _
+    line-more _ _ _ _ (turn-2 (taken (read c)) .before .loop .inv) (turn-2 (taken (read c)) .loop-test .taken) _ _
     (taken (read c) .before .before .if1 .left)
     (taken (read c) .line-characters .ensures)
     (read c .take-line .ensures)
