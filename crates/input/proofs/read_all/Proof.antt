@@ -1,9 +1,9 @@
--- `bench::read_all` meets its contract. The invariant: the machine is the first one, fed what was read so far.
+-- `input::read_all` meets its contract. The invariant: the machine is the first one, fed what was read so far.
 use Rattle.frames.specs.Reading.{contents, tables}
 use Rattle.feeding.specs.Feeding.{machine, fresh}
-use Rattle.bench.proofs.ReadsLaws.{Fed, none-fed, more-fed, turn-less}
-use Rattle.bench.proofs.read_all.Statement.{statement}
-use Rattle.bench.proofs.read_all.Tie as tie
+use Rattle.input.proofs.ReadsLaws.{Fed, none-fed, more-fed, turn-less}
+use Rattle.input.proofs.read_all.Statement.{statement}
+use Rattle.input.proofs.read_all.Tie as tie
 
 abbrev Inv-loop : tie.InvT-loop
 Inv-loop line₀ registers₀ memory₀ kernel₀ registerTaint₀ surfaceTaint₀ memoryTaint₀ types₀ starts₀ counts₀ predicateValues₀ surfaceBytes₀ surfaceLengths₀ block₀ state₀ turns₀ line registers memory kernel registerTaint surfaceTaint memoryTaint types starts counts predicateValues surfaceBytes surfaceLengths block state turns =

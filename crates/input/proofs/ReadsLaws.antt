@@ -9,7 +9,7 @@ use Rattle.feeding.specs.declared.State.{State}
 use Rattle.feeding.specs.Feeding.{Machine, machine, fresh, fed}
 use Rattle.feeding.proofs.FeedingLaws.{fed-none, fed-append}
 use Rattle.feeding.proofs.KeptLaws.{Kept, Told, kept-none, kept-more}
-use Rattle.bench.specs.Program.{Reads}
+use Rattle.input.specs.Texts.{Reads}
 
 -- some text was fed to a machine, and no buffer has another length
 pub record Fed (m n : Machine) : Type 0 where
