@@ -3,23 +3,14 @@ use mathlib.Core.Path.{_≡_, refl, sym, ap, _∙_}
 use mathlib.Core.Bool.{Bool, true, false, true≢false, cond, not}
 use mathlib.Core.List.{List, []}
 use Prim.Native.Nat.{ℕ}
-use lib.Dec.{ltb}
 use lib.ListN.{take}
-use Rattle.hex.specs.Bytes.{isHex}
 use Rattle.frames.specs.Reading.{Reading, only}
-use Rattle.frames.specs.Lines.{badLine, longLine}
+use Rattle.frames.specs.Lines.{longLine}
 use Rattle.frames.specs.Frames.{lineRead}
+use Rattle.frames.proofs.FrameLaws.{empty-is-long}
 use Rattle.feeding.specs.Feeding.{Machine, row, ended, isBegun, finished}
 
--- an empty line is as bad as one that is too long
-bad-either : (q : Bool) (r : Reading) → cond q r (only (badLine (r .case)) r) ≡ only (cond q (r .case) (badLine (r .case))) r
-bad-either true r = refl
-bad-either false r = refl
-
-empty-is-long : (r : Reading) → lineRead [] r ≡ only (longLine (r .case)) r
-unfolding lineRead longLine isHex
-empty-is-long r = bad-either (ltb 0 (r .case .bad)) r
-
+-- what is read of a line, too long or not
 read-either : (long : Bool) (line : List ℕ) (r : Reading) → lineRead (cond long [] line) r ≡ cond long (only (longLine (r .case)) r) (lineRead line r)
 read-either true line r = empty-is-long r
 read-either false line r = refl
