@@ -10,7 +10,8 @@ use Rattle.feeding.specs.Feeding.{Machine, fed, finished}
 use Rattle.output.specs.Page.{page, written}
 use Rattle.answering.specs.Bench.{caseOutput}
 use Rattle.answering.proofs.BenchLaws.{begun, text-output, answer-whole, answer-count}
-use Rattle.bench.specs.Program.{Reads, Answers}
+use Rattle.input.specs.Texts.{Reads}
+use Rattle.bench.specs.Program.{Answers}
 
 pub none-answered : (out : List ℕ) → Counts 0 out × Answers 0 out
 none-answered out = ((omega arith, omega arith), record { text = []; is = λ (h : 0 < 0). absurd (omega arith) })

@@ -1,2 +1,1 @@
-pub mod ReadsLaws
 pub mod AnswersLaws

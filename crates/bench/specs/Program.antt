@@ -3,13 +3,7 @@ use mathlib.Core.Path.{_≡_}
 use mathlib.Core.List.{List}
 use Prim.Native.Nat.{ℕ, _<_}
 use lib.ListN.{take}
-use Rattle.feeding.specs.Feeding.{Machine, fed}
 use Rattle.answering.specs.Bench.{benchOutput}
-
--- one machine is another that was fed a text
-pub record Reads (a b : Machine) : Type 0 where
-  pub text : List ℕ
-  pub is : b ≡ fed text a
 
 -- what stands at the buffer's start, if anything was put there, is the bench's output for a text
 pub record Answers (used : ℕ) (buffer : List ℕ) : Type 0 where

@@ -1,85 +1,6 @@
 // The bench: a case file from standard input, its answer to standard output.
-use feeding::State;
 ghost use Rattle.io.specs.Counts.{Counts};
-ghost use Rattle.frames.specs.Reading.{contents, tables};
-ghost use Rattle.feeding.specs.Feeding.{machine, fresh};
-ghost use Rattle.bench.specs.Program.{Reads, Answers};
-
-// What one read gave: how many bytes, and whether it failed. A failed read is not the end of the input.
-struct Got {
-    count: usize,
-    failed: bool,
-}
-
-fn read_block(block: &mut [u8; 65536]) -> Got
-    ensures { λ r. ⌜ Counts (r .count) (now (block .exit)) ⌝ }
-{
-    let got = libc::read(0, block);
-    let count = io::count(got, block);
-    Got {
-        count,
-        failed: got < 0,
-    }
-}
-
-// Where reading ended, and whether that was the end of the input.
-struct Input {
-    state: State,
-    ended: bool,
-}
-
-// Block by block to the input's end or to a read that fails.
-fn read_all(
-    line: &mut [u8],
-    registers: &mut [u8],
-    memory: &mut [u8],
-    kernel: &mut [u8],
-    register_taint: &mut [u8],
-    surface_taint: &mut [u8],
-    memory_taint: &mut [u8],
-    types: &mut [u8],
-    starts: &mut [u16],
-    counts: &mut [u16],
-    predicate_values: &mut [u32],
-    surface_bytes: &mut [u8],
-    surface_lengths: &mut [u16],
-) -> Input
-    ensures { λ r. ⌜ Reads (machine (now (line .entry)) fresh (contents (now (registers .entry)) (now (memory .entry)) (now (kernel .entry)) (now («register_taint» .entry)) (now («surface_taint» .entry)) (now («memory_taint» .entry))) (tables (now (types .entry)) (now (starts .entry)) (now (counts .entry)) (now («predicate_values» .entry)) (now («surface_bytes» .entry)) (now («surface_lengths» .entry)))) (machine (now (line .exit)) (r .state) (contents (now (registers .exit)) (now (memory .exit)) (now (kernel .exit)) (now («register_taint» .exit)) (now («surface_taint» .exit)) (now («memory_taint» .exit))) (tables (now (types .exit)) (now (starts .exit)) (now (counts .exit)) (now («predicate_values» .exit)) (now («surface_bytes» .exit)) (now («surface_lengths» .exit)))) ⌝ }
-{
-    let mut block = [0u8; 65536];
-    let mut state = feeding::start();
-    let mut turns = u64::MAX;
-    let mut count: usize = 1;
-    let mut failed = false;
-    while (0 < turns) & (0 < count) {
-        let got = read_block(&mut block);
-        count = got.count;
-        failed = got.failed;
-        let next = feeding::feed(
-            &block[..count],
-            line,
-            registers,
-            memory,
-            kernel,
-            register_taint,
-            surface_taint,
-            memory_taint,
-            types,
-            starts,
-            counts,
-            predicate_values,
-            surface_bytes,
-            surface_lengths,
-            state,
-        );
-        state = next;
-        turns -= 1;
-    }
-    Input {
-        state,
-        ended: (count == 0) & !failed,
-    }
-}
+ghost use Rattle.bench.specs.Program.{Answers};
 
 // The answer to standard input, to the output buffer's start, and how many bytes it has: none if the input could not be read to its end.
 fn answer_input(out: &mut [u8; 32813]) -> usize
@@ -99,7 +20,7 @@ fn answer_input(out: &mut [u8; 32813]) -> usize
     let mut predicate_values = [0u32; 64];
     let mut surface_bytes = [0u8; 8192];
     let mut surface_lengths = [0u16; 8];
-    let input = read_all(
+    let read = input::read_all(
         &mut line,
         &mut registers,
         &mut memory,
@@ -114,7 +35,7 @@ fn answer_input(out: &mut [u8; 32813]) -> usize
         &mut surface_bytes,
         &mut surface_lengths,
     );
-    if !input.ended {
+    if !read.ended {
         return 0;
     }
     let state = feeding::finish(
@@ -131,7 +52,7 @@ fn answer_input(out: &mut [u8; 32813]) -> usize
         &mut predicate_values,
         &mut surface_bytes,
         &mut surface_lengths,
-        input.state,
+        read.state,
     );
     answering::answer(
         state.case,

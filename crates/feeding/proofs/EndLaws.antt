@@ -1,35 +1,39 @@
--- What the end of a line, and of the file, makes of the machine: a law for each way through.
-use mathlib.Core.Path.{_≡_}
-use mathlib.Core.Bool.{Bool, true, false}
-use mathlib.Core.List.{List}
+-- What the end of a line, and of the file, makes of the machine.
+use mathlib.Core.Path.{_≡_, refl, sym, ap, _∙_}
+use mathlib.Core.Bool.{Bool, true, false, true≢false, cond, not}
+use mathlib.Core.List.{List, []}
 use Prim.Native.Nat.{ℕ}
 use lib.ListN.{take}
-use Rattle.frames.specs.declared.Case.{Case}
-use Rattle.frames.specs.Reading.{Contents, Tables, reading}
+use Rattle.frames.specs.Reading.{Reading, only}
 use Rattle.frames.specs.Lines.{longLine}
 use Rattle.frames.specs.Frames.{lineRead}
-use Rattle.feeding.specs.declared.State.{State}
-use Rattle.feeding.specs.Feeding.{machine, ended, isBegun, finished}
+use Rattle.frames.proofs.FrameLaws.{empty-is-long}
+use Rattle.feeding.specs.Feeding.{Machine, row, ended, isBegun, finished}
 
-abbrev pub state : ℕ → Bool → Case → State
-state used long case = record { used = used; long = long; case = case }
+-- what is read of a line, too long or not
+read-either : (long : Bool) (line : List ℕ) (r : Reading) → lineRead (cond long [] line) r ≡ cond long (only (longLine (r .case)) r) (lineRead line r)
+read-either true line r = empty-is-long r
+read-either false line r = refl
 
-module _ (line : List ℕ) (used : ℕ) (long : Bool) (case c : Case) (o : Contents) (t : Tables) where
-  pub long-line-ended : long ≡ true → c ≡ longLine case → machine line (state 0 false c) o t ≡ ended (machine line (state used long case) o t)
-  unfolding ended
-  long-line-ended l e = rw (l, e)
+-- the machine after the line begun was read
+abbrev pub lineOver : Machine → Reading → Machine
+lineOver m r = record { row = row (m .row .line) 0 false; reading = r }
 
-  pub line-ended : (characters : List ℕ) (p : Contents) (u : Tables) → long ≡ false → characters ≡ take used line → reading c p u ≡ lineRead characters (reading case o t) →
-      machine line (state 0 false c) p u ≡ ended (machine line (state used long case) o t)
-  unfolding ended
-  line-ended characters p u l h e = rw (l, ← h, ← e)
+pub line-ended : (m : Machine) (r : Reading) (characters : List ℕ) → characters ≡ cond (m .row .long) [] (take (m .row .used) (m .row .line)) →
+    r ≡ lineRead characters (m .reading) → lineOver m r ≡ ended m
+unfolding ended
+line-ended m r characters h e =
+    ap (lineOver m)
+    (e ∙ (ap (λ (l : List ℕ). lineRead l (m .reading)) h ∙ read-either (m .row .long) (take (m .row .used) (m .row .line)) (m .reading)))
 
-  pub last-finished : (m : ℕ) (n : Bool) (p : Contents) (u : Tables) → true ≡ isBegun used long → machine line (state m n c) p u ≡ ended (machine line (state used long case) o t) →
-      machine line (state m n c) p u ≡ finished (machine line (state used long case) o t)
-  unfolding finished
-  last-finished m n p u b e = rw (← b) e
-
-pub none-finished : (line : List ℕ) (used : ℕ) (long : Bool) (case : Case) (o : Contents) (t : Tables) → false ≡ isBegun used long →
-    machine line (state used long case) o t ≡ finished (machine line (state used long case) o t)
+-- whether a line is begun, as the function asks it
+pub last-finished : (begun : Bool) (m : Machine) (r : Reading) (characters : List ℕ) → not begun ≡ false → begun ≡ isBegun (m .row .used) (m .row .long) →
+    characters ≡ cond (m .row .long) [] (take (m .row .used) (m .row .line)) → r ≡ lineRead characters (m .reading) → lineOver m r ≡ finished m
 unfolding finished
-none-finished line used long case o t b = rw (← b)
+last-finished true m r characters q b h e = line-ended m r characters h e ∙ ap (λ (x : Bool). cond x (ended m) m) b
+last-finished false m r characters q b h e = absurd (true≢false q)
+
+pub none-finished : (begun : Bool) (m : Machine) → not begun ≡ true → begun ≡ isBegun (m .row .used) (m .row .long) → m ≡ finished m
+unfolding finished
+none-finished true m q b = absurd (true≢false (sym q))
+none-finished false m q b = ap (λ (x : Bool). cond x (ended m) m) b

@@ -1,5 +1,6 @@
 pub mod TakeLaws
 pub mod EndLaws
+pub mod KeptLaws
 pub mod FeedingLaws
 pub mod RowLaws
 pub mod TextLaws

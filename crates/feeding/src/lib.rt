@@ -1,9 +1,11 @@
 // A case file, fed in blocks of bytes: the line begun stands in a buffer of the caller's until it is whole.
 use frames::Case;
 ghost use mathlib.Core.Path.{_≡_};
+ghost use mathlib.Core.Bool.{cond};
+ghost use mathlib.Core.List.{[]};
 ghost use lib.ListN.{take};
 ghost use Rattle.frames.specs.Reading.{contents, tables, reading};
-ghost use Rattle.feeding.specs.Feeding.{row, machine, fresh, pushed, ended, fed, isBegun, finished};
+ghost use Rattle.feeding.specs.Feeding.{row, machine, fresh, pushed, fed, isBegun, finished};
 
 // How many characters of the line begun stand in the line buffer, whether there were more, and what the lines before came to.
 pub struct State {
@@ -53,53 +55,14 @@ pub fn first_dwords(buffer: &[u32], count: usize) -> &[u32]
     }
 }
 
-// The line begun is whole.
-fn end_line(
-    line: &[u8],
-    registers: &mut [u8],
-    memory: &mut [u8],
-    kernel: &mut [u8],
-    register_taint: &mut [u8],
-    surface_taint: &mut [u8],
-    memory_taint: &mut [u8],
-    types: &mut [u8],
-    starts: &mut [u16],
-    counts: &mut [u16],
-    predicate_values: &mut [u32],
-    surface_bytes: &mut [u8],
-    surface_lengths: &mut [u16],
-    state: State,
-) -> State
-    ensures { λ r. ⌜ machine (now (line .entry)) r (contents (now (registers .exit)) (now (memory .exit)) (now (kernel .exit)) (now («register_taint» .exit)) (now («surface_taint» .exit)) (now («memory_taint» .exit))) (tables (now (types .exit)) (now (starts .exit)) (now (counts .exit)) (now («predicate_values» .exit)) (now («surface_bytes» .exit)) (now («surface_lengths» .exit))) ≡ ended (machine (now (line .entry)) state (contents (now (registers .entry)) (now (memory .entry)) (now (kernel .entry)) (now («register_taint» .entry)) (now («surface_taint» .entry)) (now («memory_taint» .entry))) (tables (now (types .entry)) (now (starts .entry)) (now (counts .entry)) (now («predicate_values» .entry)) (now («surface_bytes» .entry)) (now («surface_lengths» .entry)))) ⌝ }
+// The characters of the line begun; none of one that was too long, since an empty line is as bad.
+fn line_characters(line: &[u8], used: usize, long: bool) -> &[u8]
+    ensures { λ r. ⌜ now r ≡ cond long [] (take used (now (line .entry))) ⌝ }
 {
-    if state.long {
-        State {
-            used: 0,
-            long: false,
-            case: frames::long_line(state.case),
-        }
+    if long {
+        &line[..0]
     } else {
-        let c = frames::take_line(
-            first_bytes(line, state.used),
-            registers,
-            memory,
-            kernel,
-            register_taint,
-            surface_taint,
-            memory_taint,
-            types,
-            starts,
-            counts,
-            predicate_values,
-            surface_bytes,
-            surface_lengths,
-            state.case,
-        );
-        State {
-            used: 0,
-            long: false,
-            case: c,
-        }
+        first_bytes(line, used)
     }
 }
 
@@ -155,8 +118,8 @@ pub fn feed(
             s.long = begun.long;
             continue;
         }
-        let t = end_line(
-            line,
+        let case = frames::take_line(
+            line_characters(line, s.used, s.long),
             registers,
             memory,
             kernel,
@@ -169,9 +132,13 @@ pub fn feed(
             predicate_values,
             surface_bytes,
             surface_lengths,
-            s,
+            s.case,
         );
-        s = t;
+        s = State {
+            used: 0,
+            long: false,
+            case,
+        };
     }
     s
 }
@@ -202,24 +169,28 @@ pub fn finish(
 ) -> State
     ensures { λ r. ⌜ machine (now (line .entry)) r (contents (now (registers .exit)) (now (memory .exit)) (now (kernel .exit)) (now («register_taint» .exit)) (now («surface_taint» .exit)) (now («memory_taint» .exit))) (tables (now (types .exit)) (now (starts .exit)) (now (counts .exit)) (now («predicate_values» .exit)) (now («surface_bytes» .exit)) (now («surface_lengths» .exit))) ≡ finished (machine (now (line .entry)) state (contents (now (registers .entry)) (now (memory .entry)) (now (kernel .entry)) (now («register_taint» .entry)) (now («surface_taint» .entry)) (now («memory_taint» .entry))) (tables (now (types .entry)) (now (starts .entry)) (now (counts .entry)) (now («predicate_values» .entry)) (now («surface_bytes» .entry)) (now («surface_lengths» .entry)))) ⌝ }
 {
-    if is_begun(state) {
-        end_line(
-            line,
-            registers,
-            memory,
-            kernel,
-            register_taint,
-            surface_taint,
-            memory_taint,
-            types,
-            starts,
-            counts,
-            predicate_values,
-            surface_bytes,
-            surface_lengths,
-            state,
-        )
-    } else {
-        state
+    if !is_begun(state) {
+        return state;
+    }
+    let case = frames::take_line(
+        line_characters(line, state.used, state.long),
+        registers,
+        memory,
+        kernel,
+        register_taint,
+        surface_taint,
+        memory_taint,
+        types,
+        starts,
+        counts,
+        predicate_values,
+        surface_bytes,
+        surface_lengths,
+        state.case,
+    );
+    State {
+        used: 0,
+        long: false,
+        case,
     }
 }

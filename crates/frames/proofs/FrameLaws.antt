@@ -1,15 +1,16 @@
 -- What a line makes of the reading: a law for each way through.
 use mathlib.Core.Path.{_≡_, refl, sym}
-use mathlib.Core.Bool.{Bool, true, false, not}
-use mathlib.Core.List.{List}
+use mathlib.Core.Bool.{Bool, true, false, cond, not}
+use mathlib.Core.List.{List, []}
 use Prim.Native.Nat.{ℕ, _≤_}
 use lib.ListN.{getD}
-use lib.Dec.{eqb}
+use lib.Dec.{eqb, ltb}
 use borrow.Author.Tests.{le-ltb, not-true, not-false}
 use Rattle.hex.specs.Bytes.{isHex, hexBytes}
+use Rattle.hex.proofs.ByteLaws.{empty-not-hex}
 use Rattle.frames.specs.declared.Case.{Case}
-use Rattle.frames.specs.Reading.{Contents, Tables, tables, reading}
-use Rattle.frames.specs.Lines.{badLine}
+use Rattle.frames.specs.Reading.{Contents, Tables, tables, Reading, reading, only}
+use Rattle.frames.specs.Lines.{badLine, longLine}
 use Rattle.frames.specs.Repeated.{variables, variableRead, predicates, predicateRead, surfaces, surfaceRead}
 use Rattle.frames.specs.Once.{once, onceRead}
 use Rattle.frames.specs.Frames.{frameRead, lineRead}
@@ -40,3 +41,12 @@ module _ (line : List ℕ) (case c : Case) (o : Contents) (t : Tables) (hex : Bo
         reading c p t ≡ lineRead line (reading case o t)
     unfolding lineRead frameRead
     once-frame p k₂ k₃ k₄ e = rw (le-ltb 0 (case .bad) none, ← h, not-false hex good, ← f, k₂, k₃, k₄, ← e)
+
+-- an empty line is as bad as one that is too long
+bad-either : (bad : Bool) (r : Reading) → cond bad r (only (badLine (r .case)) r) ≡ only (cond bad (r .case) (badLine (r .case))) r
+bad-either true r = refl
+bad-either false r = refl
+
+pub empty-is-long : (r : Reading) → lineRead [] r ≡ only (longLine (r .case)) r
+unfolding lineRead longLine
+empty-is-long r = rw empty-not-hex (bad-either (ltb 0 (r .case .bad)) r)

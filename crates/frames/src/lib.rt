@@ -5,7 +5,7 @@ ghost use lib.ListN.{drop};
 ghost use lib.Dec.{ltb};
 ghost use Rattle.hex.specs.Bytes.{hexBytes};
 ghost use Rattle.frames.specs.Reading.{contents, tables, reading};
-ghost use Rattle.frames.specs.Lines.{nothing, next, badLine, longLine, goodLine, metOf, lengthOf, counted, sized, based, masked};
+ghost use Rattle.frames.specs.Lines.{nothing, next, badLine, goodLine, metOf, lengthOf, counted, sized, based, masked};
 ghost use Rattle.frames.specs.Repeated.{variables, variableRead, predicates, predicateRead, surfaces, surfaceRead};
 ghost use Rattle.frames.specs.Once.{kept, contentRead, memoryRead, maskRead, once, onceRead};
 ghost use Rattle.frames.specs.Frames.{lineRead};
@@ -69,13 +69,6 @@ fn bad_line(case: Case) -> Case
     c.lines = number;
     c.bad = number;
     c
-}
-
-// A line that is too long to be looked at.
-pub fn long_line(case: Case) -> Case
-    ensures { λ r. ⌜ r ≡ longLine case ⌝ }
-{
-    if 0 < case.bad { case } else { bad_line(case) }
 }
 
 fn good_line(fits: bool, case: Case) -> Case

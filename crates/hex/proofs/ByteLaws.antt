@@ -1,5 +1,6 @@
 -- The bytes of a line, by their places, and the line written for them.
 use mathlib.Core.Path.{_≡_, refl, ap, _∙_}
+use mathlib.Core.Bool.{false}
 use mathlib.Core.List.{List, [], _∷_, _++_}
 use Prim.Native.Nat.{ℕ, zero, suc, _+_, _*_, _/_, _%_, _-_, _<_, _≤_}
 use native.Mathlib.Omega.{arith}
@@ -7,8 +8,12 @@ use lib.ListN.{length, getD, drop, length-drop, List·getD-eq-default}
 use Rattle.little_endian.specs.LittleEndian.{numberAt}
 use Rattle.little_endian.proofs.Laws.{number-more}
 use Rattle.hex.specs.Digits.{digitOf, characterOf}
-use Rattle.hex.specs.Bytes.{hexBytes, hexOf}
+use Rattle.hex.specs.Bytes.{isHex, hexBytes, hexOf}
 use Rattle.hex.proofs.DigitLaws.{digit-character}
+
+pub empty-not-hex : isHex [] ≡ false
+unfolding isHex
+empty-not-hex = refl
 
 pub length-hex : (line : List ℕ) → length (hexBytes line) ≡ length line / 2
 unfolding hexBytes
