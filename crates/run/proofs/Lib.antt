@@ -6,7 +6,6 @@ pub mod Within
 pub mod Kept
 pub mod Results
 pub mod Plain
-pub mod ShowLaws
 pub mod PerformLaws
 pub mod StepLaws
 pub mod RunLaws

@@ -5,4 +5,3 @@ pub mod Performed
 pub mod Run
 pub mod PlainRun
 pub mod Ran
-pub mod Show

@@ -1,4 +1,4 @@
-// The run: instruction by instruction through the kernel, over the caller's buffers; and show.
+// The run: instruction by instruction through the kernel, over the caller's buffers.
 use decoder::Decoded;
 use plan::Operation;
 use plan::Plan;
@@ -12,7 +12,6 @@ ghost use Rattle.run.specs.State.{setup, state, lengthsOf};
 ghost use Rattle.run.specs.Performed.{performed, planPerformed, advanced, stepAdvanced};
 ghost use Rattle.run.specs.Run.{outcome, run};
 ghost use Rattle.run.specs.PlainRun.{plainRun, plainOutcome, withoutMarks, tooLong};
-ghost use Rattle.run.specs.Show.{isInside, partOf, shown, shownNumber};
 
 // What stays the same in a run beside the borrowed slices: the memory window's base, and the execution mask (EM).
 pub struct Constants {
@@ -283,63 +282,4 @@ pub fn plain_run(
         memory,
         &mut memory_taint[..memory_count],
     )
-}
-
-// Which of the two buffers is shown.
-pub enum Place {
-    Registers,
-    Memory,
-}
-
-fn inside(bytes: &[u8], start: usize, count: usize) -> bool
-    ensures { λ r. ⌜ r ≡ isInside (now (bytes .entry)) start count ⌝ }
-{
-    if start <= bytes.len() {
-        count <= bytes.len() - start
-    } else {
-        false
-    }
-}
-
-fn part(bytes: &[u8], start: usize, count: usize) -> &[u8]
-    ensures { λ r. ⌜ now r ≡ partOf (now (bytes .entry)) start count ⌝ }
-{
-    if inside(bytes, start, count) {
-        let end = start + count;
-        &bytes[start..end]
-    } else {
-        &bytes[..0]
-    }
-}
-
-// A part of the registers or of the memory; an empty part where it runs over the end.
-pub fn show<'a>(
-    registers: &'a [u8],
-    memory: &'a [u8],
-    which: Place,
-    start: usize,
-    count: usize,
-) -> &'a [u8]
-    ensures { λ r. ⌜ now r ≡ shown which (now (registers .entry)) (now (memory .entry)) start count ⌝ }
-{
-    match which {
-        Place::Registers => part(registers, start, count),
-        Place::Memory => part(memory, start, count),
-    }
-}
-
-// The number that goes with it: 0, or 7.
-pub fn show_number(registers: &[u8], memory: &[u8], which: Place, start: usize, count: usize) -> u8
-    ensures { λ r. ⌜ r ≡ shownNumber which (now (registers .entry)) (now (memory .entry)) start count ⌝ }
-{
-    match which {
-        Place::Registers => {
-            if inside(registers, start, count) {
-                0
-            } else {
-                7
-            }
-        }
-        Place::Memory => { if inside(memory, start, count) { 0 } else { 7 } }
-    }
 }

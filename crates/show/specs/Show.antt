@@ -5,8 +5,8 @@ use mathlib.Core.Bool.{Bool, cond}
 use mathlib.Core.List.{List, []}
 use lib.Dec.{leb}
 use lib.ListN.{length, take, drop}
-use Rattle.run.specs.declared.Place.{Place}
-use Rattle.run.specs.declared.Place.the-variants as place
+use Rattle.show.specs.declared.Place.{Place}
+use Rattle.show.specs.declared.Place.the-variants as place
 
 -- the buffer that is asked for
 unfoldable pub shownOf : Place → List ℕ → List ℕ → List ℕ

@@ -1,9 +1,9 @@
--- `run::inside` meets its contract: the code's two tests are the definition's one.
+-- `show::inside` meets its contract: the code's two tests are the definition's one.
 use mathlib.Core.Path.{sym}
 use borrow.Author.Needs.{needs}
-use Rattle.run.proofs.ShowLaws.{room-inside, past-inside}
-use Rattle.run.proofs.inside.Statement.{statement}
-use Rattle.run.proofs.inside.Tie as tie
+use Rattle.show.proofs.ShowLaws.{room-inside, past-inside}
+use Rattle.show.proofs.inside.Statement.{statement}
+use Rattle.show.proofs.inside.Tie as tie
 
 returns : tie.Need-returns
 returns c = room-inside _ _ _ (c .if1 .taken)

@@ -1,4 +1,4 @@
--- `run::part` meets its contract: what is inside is a part of the slice.
+-- `show::part` meets its contract: what is inside is a part of the slice.
 use mathlib.Core.Path.{_≡_, sym, ap, _∙_}
 use mathlib.Core.List.{List}
 use Prim.Native.Nat.{ℕ, _+_, _-_}
@@ -6,10 +6,10 @@ use native.Mathlib.Omega.{arith}
 use lib.ListN.{take, drop}
 use borrow.Author.Needs.{needs}
 use denote.Ref.{now}
-use Rattle.run.specs.Show.{partOf}
-use Rattle.run.proofs.ShowLaws.{inside-room}
-use Rattle.run.proofs.part.Statement.{statement}
-use Rattle.run.proofs.part.Tie as tie
+use Rattle.show.specs.Show.{partOf}
+use Rattle.show.proofs.ShowLaws.{inside-room}
+use Rattle.show.proofs.part.Statement.{statement}
+use Rattle.show.proofs.part.Tie as tie
 
 add-end : tie.Need-add-end
 add-end c = omega (arith, inside-room _ _ _ (sym (c .before .inside .ensures) ∙ c .if1 .taken))

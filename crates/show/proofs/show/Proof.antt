@@ -1,8 +1,8 @@
--- `run::show` meets its contract: at each return, what the calls and tests on the way say picks the case of `Show`.
+-- `show::show` meets its contract: at each return, what the calls and tests on the way say picks the case of `Show`.
 use borrow.Author.Needs.{needs}
-use Rattle.run.specs.Show.{shown, shownOf}
-use Rattle.run.proofs.show.Statement.{statement}
-use Rattle.run.proofs.show.Tie as tie
+use Rattle.show.specs.Show.{shown, shownOf}
+use Rattle.show.proofs.show.Statement.{statement}
+use Rattle.show.proofs.show.Tie as tie
 
 returns : tie.Need-returns
 unfolding shown shownOf

@@ -7,7 +7,7 @@ use native.Mathlib.Omega.{arith}
 use lib.Dec.{leb}
 use lib.ListN.{length}
 use borrow.Author.Tests.{leb-true, leb-false, le-leb, lt-leb}
-use Rattle.run.specs.Show.{isInside}
+use Rattle.show.specs.Show.{isInside}
 
 pub room-inside : (bytes : List ℕ) (start count : ℕ) → start ≤ length bytes → leb count (length bytes - start) ≡ isInside bytes start count
 unfolding isInside

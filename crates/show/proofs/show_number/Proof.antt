@@ -1,8 +1,8 @@
--- `run::show_number` meets its contract: at each return, what the calls and tests on the way say picks the case of `Show`.
+-- `show::show_number` meets its contract: at each return, what the calls and tests on the way say picks the case of `Show`.
 use borrow.Author.Needs.{needs}
-use Rattle.run.specs.Show.{shownNumber, shownOf}
-use Rattle.run.proofs.show_number.Statement.{statement}
-use Rattle.run.proofs.show_number.Tie as tie
+use Rattle.show.specs.Show.{shownNumber, shownOf}
+use Rattle.show.proofs.show_number.Statement.{statement}
+use Rattle.show.proofs.show_number.Tie as tie
 
 returns : tie.Need-returns
 unfolding shownNumber shownOf
