@@ -15,8 +15,8 @@ use Rattle.staging.specs.Lanes.{lanesOn}
 use Rattle.shl.specs.Shl.{shlEffect}
 use Rattle.gather.specs.Gather.{gatherEffect}
 use Rattle.scatter.specs.Scatter.{scatterEffect}
-use Rattle.run.specs.declared.Constants.{Constants}
-use Rattle.run.specs.State.{Setup, constantsOf, State}
+use Rattle.step.specs.declared.Constants.{Constants}
+use Rattle.step.specs.State.{Setup, constantsOf, State}
 
 -- no memory byte is read: memory enters by its length alone
 unfoldable pub acted : Constants → Operation → Plan → State → Effect

@@ -6,7 +6,7 @@ use lib.ListN.{length}
 use Rattle.cells.specs.Buffer.{Buffer, buffer}
 use Rattle.tables.specs.declared.Lengths.{Lengths}
 use Rattle.tables.specs.Tables.{Tables}
-use Rattle.run.specs.declared.Constants.{Constants}
+use Rattle.step.specs.declared.Constants.{Constants}
 
 -- what stays the same; the mask is the paper's EM
 pub record Setup : Type 0 where

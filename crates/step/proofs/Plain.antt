@@ -11,7 +11,7 @@ use Rattle.cells.proofs.Related.{none, related-after}
 use Rattle.cells.proofs.Plain.{SameBytes, Plainly, PlainEffects, plain-unless}
 use Rattle.decoder.specs.declared.Decoded.{Decoded}
 use Rattle.decoder.specs.declared.Decoded.the-variants as decoded
-use Rattle.decoder.specs.Decoding.{instructionAt, onDecoded}
+use Rattle.decoder.specs.Decoding.{instructionAt}
 use Rattle.plan.specs.declared.Plan.{Plan}
 use Rattle.plan.specs.declared.Operation.{Operation}
 use Rattle.plan.specs.declared.Operation.the-variants as operation
@@ -21,9 +21,10 @@ use Rattle.shl.proofs.Plain.{shl-plain}
 use Rattle.gather.proofs.Plain.{gather-plain}
 use Rattle.scatter.specs.Scatter.{scatterEffect}
 use Rattle.scatter.proofs.Plain.{scatter-plain}
-use Rattle.run.specs.State.{Setup, constantsOf, State}
-use Rattle.run.specs.Step.{acted, planEffect, Stepped, stepAt}
-use Rattle.run.proofs.Simulation.{SameStep}
+use Rattle.step.specs.State.{Setup, constantsOf, State}
+use Rattle.step.specs.Step.{acted, planEffect, Stepped, stepAt}
+use Rattle.step.proofs.Stepped.{stepOf}
+use Rattle.step.proofs.SameStep.{SameStep}
 
 pub record PlainStates (s u : State) : Type 0 where
   pub registers : Plainly (s .registers) (u .registers)
@@ -58,7 +59,7 @@ module _ (x : Setup) (s u : State) (r : PlainStates s u) where
       }
 
   abbrev stepped : State → ℕ → Decoded → Stepped
-  stepped v at d = onDecoded d (λ n. record { next = at; effect = refused n }) (λ i c. record { next = c .at; effect = planEffect (constantsOf x) (checked (x .tables) i) v })
+  stepped v at = stepOf x (λ (p : Plan). planEffect (constantsOf x) p v) at
 
   decoded-plain : (at : ℕ) (d : Decoded) → stepped s at d .effect .number ≢ 10 → SameStep PlainStates (stepped s at d) (stepped u at d) s u
   decoded-plain at (decoded.Refused n) sure = step-of at (refused n) (refused n) (record { number = refl; registers = none; memory = none })

@@ -9,7 +9,7 @@ use Rattle.cells.proofs.Related.{none, related-after}
 use Rattle.cells.proofs.Untainted.{SameUntainted, Agreeing, AlikeEffects, unless-alike}
 use Rattle.decoder.specs.declared.Decoded.{Decoded}
 use Rattle.decoder.specs.declared.Decoded.the-variants as decoded
-use Rattle.decoder.specs.Decoding.{instructionAt, onDecoded}
+use Rattle.decoder.specs.Decoding.{instructionAt}
 use Rattle.plan.specs.declared.Plan.{Plan}
 use Rattle.plan.specs.declared.Operation.{Operation}
 use Rattle.plan.specs.declared.Operation.the-variants as operation
@@ -19,9 +19,10 @@ use Rattle.shl.proofs.Untainted.{shl-alike}
 use Rattle.gather.proofs.Untainted.{gather-alike}
 use Rattle.scatter.specs.Scatter.{scatterEffect}
 use Rattle.scatter.proofs.Untainted.{scatter-alike}
-use Rattle.run.specs.State.{Setup, constantsOf, State}
-use Rattle.run.specs.Step.{acted, planEffect, Stepped, stepAt, after}
-use Rattle.run.proofs.Simulation.{SameStep}
+use Rattle.step.specs.State.{Setup, constantsOf, State}
+use Rattle.step.specs.Step.{acted, planEffect, Stepped, stepAt}
+use Rattle.step.proofs.Stepped.{stepOf}
+use Rattle.step.proofs.SameStep.{SameStep}
 
 pub record AgreeingStates (s u : State) : Type 0 where
   pub registers : Agreeing (s .registers) (u .registers)
@@ -55,7 +56,10 @@ module _ (x : Setup) (s u : State) (r : AgreeingStates s u) where
         };
       }
 
-  decoded-same : (at : ℕ) (d : Decoded) → SameStep AgreeingStates (onDecoded d (λ n. record { next = at; effect = refused n }) (λ i c. record { next = c .at; effect = planEffect (constantsOf x) (checked (x .tables) i) s })) (onDecoded d (λ n. record { next = at; effect = refused n }) (λ i c. record { next = c .at; effect = planEffect (constantsOf x) (checked (x .tables) i) u })) s u
+  abbrev stepped : State → ℕ → Decoded → Stepped
+  stepped v at = stepOf x (λ (p : Plan). planEffect (constantsOf x) p v) at
+
+  decoded-same : (at : ℕ) (d : Decoded) → SameStep AgreeingStates (stepped s at d) (stepped u at d) s u
   decoded-same at (decoded.Refused n) = step-of at (refused n) (refused n) (record { number = refl; registers = none; memory = none })
   decoded-same at (decoded.Accepted i c) = step-of (c .at) _ _ (plan-alike (checked (x .tables) i))
 

@@ -2,22 +2,18 @@
 -- result, and no other byte changes, of registers, surfaces or memory.
 use Prim.Native.Nat.{ℕ, _≤_}
 use mathlib.Core.Path.{_≡_, refl, sym, ap, subst, _∙_}
-use mathlib.Core.Bool.{Bool, true, false, not}
-use mathlib.Core.List.{List, []}
+use mathlib.Core.Bool.{Bool, true, false}
 use native.Mathlib.Omega.{arith}
 use lib.Dec.{eqb}
 use lib.ListN.{length}
-use borrow.Author.Tests.{eqb-true}
+use borrow.Author.Tests.{eqb-true, eqb-false}
 use Rattle.reader.specs.declared.Cursor.{Cursor}
-use Rattle.cells.specs.Buffer.{Buffer}
-use Rattle.cells.specs.Writes.{Write, writtenAll}
-use Rattle.cells.specs.Effect.{Effect, refused}
-use Rattle.cells.proofs.EffectLaws.{unless-refused, unless-passed, nothing-written}
+use Rattle.cells.specs.Effect.{Effect}
 use Rattle.channels.specs.Exec.{execSize}
 use Rattle.decoder.specs.declared.Decoded.{Decoded}
 use Rattle.decoder.specs.declared.Decoded.the-variants as decoded
 use Rattle.decoder.specs.declared.Instruction.{Instruction}
-use Rattle.decoder.specs.Decoding.{instructionAt, onDecoded}
+use Rattle.decoder.specs.Decoding.{instructionAt}
 use Rattle.tables.specs.Tables.{tablesGood}
 use Rattle.tables.proofs.Laws.{limited}
 use Rattle.plan.specs.declared.Plan.{Plan}
@@ -31,8 +27,10 @@ use Rattle.gather.proofs.LaneResults as gather
 use Rattle.gather.proofs.Refusal.{gather-spares-memory}
 use Rattle.scatter.proofs.PairResults as scatter
 use Rattle.scatter.proofs.Refusal.{scatter-spares-registers}
-use Rattle.run.specs.State.{Setup, constantsOf, State, lengthsOf}
-use Rattle.run.specs.Step.{acted, planEffect, Stepped, stepAt, after}
+use Rattle.step.specs.State.{Setup, constantsOf, State, lengthsOf}
+use Rattle.step.specs.Step.{acted, planEffect, stepAt, after}
+use Rattle.step.proofs.Stepped.{stepOf, unwritten}
+use Rattle.step.proofs.AcceptedLaws.{plan-refuses, plan-passes}
 
 -- no RAW_SEND is accepted
 abbrev pub ResultsFor : Operation → Setup → Plan → State → State → Type 0
@@ -46,13 +44,10 @@ pub record Leaves (x : Setup) (p : Plan) (s u : State) : Type 0 where
   pub results : ResultsFor (p .operation) x p s u
   pub surfaces : u .surfaces ≡ s .surfaces
 
-unwritten : (ws : List Write) (b : Buffer) → ws ≡ [] → writtenAll ws b ≡ b
-unwritten ws b e = ap (λ (l : List Write). writtenAll l b) e ∙ nothing-written b
-
 step-is : (x : Setup) (s : State) (at : ℕ) (i : Instruction) (c : Cursor) → instructionAt (x .kernel) at ≡ decoded.Accepted i c → stepAt x at s .effect ≡ planEffect (constantsOf x) (checked (x .tables) i) s
 unfolding stepAt
 step-is x s at i c is =
-    ap (λ (d : Decoded). onDecoded {X = Stepped} d (λ n. record { next = at; effect = refused n }) (λ j k. record { next = k .at; effect = planEffect (constantsOf x) (checked (x .tables) j) s }) .effect) is
+    ap (λ (d : Decoded). stepOf x (λ (p : Plan). planEffect (constantsOf x) p s) at d .effect) is
 
 module _ (x : Setup) (s : State) (good : tablesGood (lengthsOf x s) (x .tables) ≡ true) where
   acted-results : (o : Operation) (p : Plan) → execSize (p .control .exec) ≤ 32 → SoundFor o (length (s .registers .bytes)) (length (s .surfaces .bytes)) p
@@ -73,16 +68,16 @@ module _ (x : Setup) (s : State) (good : tablesGood (lengthsOf x s) (x .tables) 
     where
       told : (q : Bool) → eqb (p .number) 0 ≡ q → p .number ≡ 0
       told true e = eqb-true (p .number) 0 e
-      told false e = sym (ap (λ (f : Effect). f .number) (unless-refused (not (eqb (p .number) 0)) (p .number) (acted (constantsOf x) (p .operation) p s) (ap not e))) ∙ done
+      told false e = sym (ap (λ (f : Effect). f .number) (plan-refuses p (acted (constantsOf x) (p .operation) p s) (omega (arith, eqb-false (p .number) 0 e)))) ∙ done
 
-  performed : (p : Plan) → p .number ≡ 0 → planEffect (constantsOf x) p s ≡ acted (constantsOf x) (p .operation) p s
+  acts : (p : Plan) → p .number ≡ 0 → planEffect (constantsOf x) p s ≡ acted (constantsOf x) (p .operation) p s
   unfolding planEffect
-  performed p zero = unless-passed _ (p .number) _ (rw zero)
+  acts p zero = plan-passes p _ zero
 
   plan-leaves : (p : Plan) → Sound (length (s .registers .bytes)) (length (s .surfaces .bytes)) p → p .number ≡ 0 → planEffect (constantsOf x) p s .number ≡ 0
       → Leaves x p s (after (planEffect (constantsOf x) p s) s)
   plan-leaves p sound zero done =
-      let is = performed p zero in
+      let is = acts p zero in
       record {
         results = subst (λ (e : Effect). ResultsFor (p .operation) x p s (after e s)) (sym is)
             (acted-results (p .operation) p (omega (arith, sound .lanes)) (sound .operands) (sym (ap (λ (e : Effect). e .number) is) ∙ done));

@@ -1,6 +1,6 @@
 -- The plan of a decoded and checked instruction passes the executors' guards.
 use Prim.Native.Nat.{ℕ, _≤_}
-use mathlib.Core.Path.{_≡_, sym, subst, _∙_}
+use mathlib.Core.Path.{_≡_, sym, subst}
 use mathlib.Core.Logic.{⊎-elim}
 use mathlib.Core.Bool.{true}
 use mathlib.Core.List.{List}
@@ -11,7 +11,6 @@ use Rattle.fields.proofs.ScatterExec.{EightOrSixteen}
 use Rattle.field_groups.specs.declared.Control.{Control}
 use Rattle.decoder.specs.declared.Instruction.{Instruction}
 use Rattle.decoder.specs.declared.Instruction.the-variants as instruction
-use Rattle.decoder.specs.declared.Decoded.{Decoded}
 use Rattle.decoder.specs.declared.Decoded.the-variants as decoded
 use Rattle.decoder.specs.Decoding.{instructionAt}
 use Rattle.decoder.proofs.ScatterLaws.{decoded-scatter}
@@ -28,7 +27,7 @@ use Rattle.plan.proofs.InstructionLaws.{Keeps, plan-keeps}
 use Rattle.shl.proofs.SoundLaws as shl
 use Rattle.gather.proofs.SoundLaws as gather
 use Rattle.scatter.proofs.SoundLaws as scatter
-use Rattle.run.specs.Fits.{fitsFor, Fits}
+use Rattle.step.specs.Fits.{fitsFor, Fits}
 
 -- the codes of 8 and 16 lanes
 sixteen-lanes : (exec : ℕ) → EightOrSixteen exec → execSize exec ≤ 16
@@ -67,8 +66,6 @@ decoded-fits kernel l t at (instruction.Scatter i) c b good e z =
     (decoded-scatter kernel at i c b e) (plan-keeps t (instruction.Scatter i) z)
 decoded-fits kernel l t at (instruction.RawSend i) c b good e z = absurd (plan-keeps t (instruction.RawSend i) z)
 
--- as a step meets it
-pub planned-fits : (kernel : List ℕ) (l : Lengths) (t : Tables) (at : ℕ) (d : Decoded) (i : Instruction) (c : Cursor) (p : Plan) → Bytes kernel → tablesGood l t ≡ true
-    → d ≡ instructionAt kernel at → d ≡ decoded.Accepted i c → p ≡ checked t i → Fits p
-planned-fits kernel l t at d i c p b good told is plan =
-    subst Fits (sym plan) (record { when-accepted = decoded-fits kernel l t at i c b good (sym told ∙ is) })
+pub planned-fits : (kernel : List ℕ) (l : Lengths) (t : Tables) (at : ℕ) (i : Instruction) (c : Cursor) → Bytes kernel → tablesGood l t ≡ true
+    → instructionAt kernel at ≡ decoded.Accepted i c → Fits (checked t i)
+planned-fits kernel l t at i c b good is = record { when-accepted = decoded-fits kernel l t at i c b good is }
