@@ -11,7 +11,7 @@ use Rattle.decoder.proofs.Laws.{accepted-within}
 use Rattle.plan.specs.declared.Plan.{Plan}
 use Rattle.step.specs.State.{Setup, constantsOf, State}
 use Rattle.step.specs.Step.{planEffect, Stepped, stepAt}
-use Rattle.step.proofs.Stepped.{stepOf}
+use Rattle.step.proofs.StepOf.{stepOf}
 
 abbrev pub Forward : ℕ → ℕ → ℕ → Type 0
 Forward end at next = (at < next) × (next ≤ end)

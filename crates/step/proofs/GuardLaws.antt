@@ -20,7 +20,7 @@ use Rattle.step.specs.Step.{acted, planEffect, Stepped, stepAt, after}
 use Rattle.step.specs.Fits.{fitsFor, Fits}
 use Rattle.step.specs.Guarded.{guardedEffect, guardedStep}
 use Rattle.step.specs.Performed.{Advanced, advanced, stepAdvanced}
-use Rattle.step.proofs.Stepped.{stepOf}
+use Rattle.step.proofs.StepOf.{stepOf}
 use Rattle.step.proofs.AcceptedLaws.{plan-refuses}
 use Rattle.step.proofs.FitsLaws.{planned-fits}
 

@@ -20,7 +20,8 @@ use Rattle.gather.proofs.Refusal.{gather-writes}
 use Rattle.scatter.proofs.Refusal.{scatter-writes}
 use Rattle.step.specs.State.{Setup, constantsOf, State, lengthsOf}
 use Rattle.step.specs.Step.{acted, planEffect, stepAt, after}
-use Rattle.step.proofs.Stepped.{stepOf, unwritten}
+use Rattle.step.proofs.StepOf.{stepOf}
+use Rattle.step.proofs.Unwritten.{unwritten}
 
 pub after-lengths : (x : Setup) (e : Effect) (s : State) → lengthsOf x (after e s) ≡ lengthsOf x s
 after-lengths x e s =

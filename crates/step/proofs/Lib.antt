@@ -1,4 +1,5 @@
-pub mod Stepped
+pub mod StepOf
+pub mod Unwritten
 pub mod AcceptedLaws
 pub mod FitsLaws
 pub mod GuardLaws

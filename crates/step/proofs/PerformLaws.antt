@@ -29,7 +29,7 @@ use Rattle.step.specs.Step.{acted, after}
 use Rattle.step.specs.Fits.{fitsFor}
 use Rattle.step.specs.Guarded.{guardedEffect}
 use Rattle.step.specs.Performed.{performed, planPerformed}
-use Rattle.step.proofs.Stepped.{unwritten}
+use Rattle.step.proofs.Unwritten.{unwritten}
 use Rattle.step.proofs.AcceptedLaws.{plan-refuses, plan-passes}
 
 -- what passes and refuses as this guard does is behind it

@@ -6,9 +6,8 @@ use mathlib.Core.Bool.{not}
 use Prim.Native.Nat.{ℕ}
 use lib.Dec.{eqb}
 use lib.ListN.{length}
-use Rattle.cells.specs.Effect.{Effect, refused}
-use Rattle.cells.proofs.Related.{none, related-after}
-use Rattle.cells.proofs.Plain.{SameBytes, Plainly, PlainEffects, plain-unless}
+use Rattle.cells.proofs.Related.{none}
+use Rattle.cells.proofs.Plain.{SameBytes, PlainEffects, plain-unless}
 use Rattle.decoder.specs.declared.Decoded.{Decoded}
 use Rattle.decoder.specs.declared.Decoded.the-variants as decoded
 use Rattle.decoder.specs.Decoding.{instructionAt}
@@ -23,13 +22,11 @@ use Rattle.scatter.specs.Scatter.{scatterEffect}
 use Rattle.scatter.proofs.Plain.{scatter-plain}
 use Rattle.step.specs.State.{Setup, constantsOf, State}
 use Rattle.step.specs.Step.{acted, planEffect, Stepped, stepAt}
-use Rattle.step.proofs.Stepped.{stepOf}
-use Rattle.step.proofs.SameStep.{SameStep}
+use Rattle.step.proofs.StepOf.{stepOf}
+use Rattle.step.proofs.SameStep.{SameStep, RelatedStates, alike-steps, refused-steps}
 
-pub record PlainStates (s u : State) : Type 0 where
-  pub registers : Plainly (s .registers) (u .registers)
-  pub surfaces : Plainly (s .surfaces) (u .surfaces)
-  pub memory : Plainly (s .memory) (u .memory)
+abbrev pub PlainStates : State → State → Type 0
+PlainStates = RelatedStates SameBytes
 
 module _ (x : Setup) (s u : State) (r : PlainStates s u) where
   scattered : (p : Plan) (n m : ℕ) → m ≡ n → scatterEffect (record { base = x .base; length = n }) p (lanesOn (x .mask) p) (s .registers) .number ≢ 10 → PlainEffects (scatterEffect (record { base = x .base; length = n }) p (lanesOn (x .mask) p) (s .registers)) (scatterEffect (record { base = x .base; length = m }) p (lanesOn (x .mask) p) (u .registers))
@@ -46,24 +43,12 @@ module _ (x : Setup) (s u : State) (r : PlainStates s u) where
   unfolding planEffect
   plan-plain p sure = plain-unless (not (eqb (p .number) 0)) (p .number) 10 _ _ (acted-plain (p .operation) p) sure
 
-  step-of : (n : ℕ) (d e : Effect) → PlainEffects d e → SameStep PlainStates (record { next = n; effect = d }) (record { next = n; effect = e }) s u
-  step-of n d e a =
-      record {
-        next = refl;
-        number = a .number;
-        state = record {
-          registers = related-after SameBytes (a .registers) _ _ (r .registers);
-          surfaces = r .surfaces;
-          memory = related-after SameBytes (a .memory) _ _ (r .memory);
-        };
-      }
-
   abbrev stepped : State → ℕ → Decoded → Stepped
   stepped v at = stepOf x (λ (p : Plan). planEffect (constantsOf x) p v) at
 
   decoded-plain : (at : ℕ) (d : Decoded) → stepped s at d .effect .number ≢ 10 → SameStep PlainStates (stepped s at d) (stepped u at d) s u
-  decoded-plain at (decoded.Refused n) sure = step-of at (refused n) (refused n) (record { number = refl; registers = none; memory = none })
-  decoded-plain at (decoded.Accepted i c) sure = step-of (c .at) _ _ (plan-plain (checked (x .tables) i) sure)
+  decoded-plain at (decoded.Refused n) sure = refused-steps SameBytes s u r at n
+  decoded-plain at (decoded.Accepted i c) sure = alike-steps SameBytes s u r (c .at) _ _ (plan-plain (checked (x .tables) i) sure)
 
 pub step-plain : (x : Setup) (at : ℕ) (s u : State) → PlainStates s u → stepAt x at s .effect .number ≢ 10 → SameStep PlainStates (stepAt x at s) (stepAt x at u) s u
 unfolding stepAt

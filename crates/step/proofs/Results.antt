@@ -29,7 +29,8 @@ use Rattle.scatter.proofs.PairResults as scatter
 use Rattle.scatter.proofs.Refusal.{scatter-spares-registers}
 use Rattle.step.specs.State.{Setup, constantsOf, State, lengthsOf}
 use Rattle.step.specs.Step.{acted, planEffect, stepAt, after}
-use Rattle.step.proofs.Stepped.{stepOf, unwritten}
+use Rattle.step.proofs.StepOf.{stepOf}
+use Rattle.step.proofs.Unwritten.{unwritten}
 use Rattle.step.proofs.AcceptedLaws.{plan-refuses, plan-passes}
 
 -- no RAW_SEND is accepted

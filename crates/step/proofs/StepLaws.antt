@@ -14,7 +14,8 @@ use Rattle.step.specs.State.{Setup, constantsOf, State}
 use Rattle.step.specs.Step.{Stepped, after}
 use Rattle.step.specs.Guarded.{guardedEffect, guardedStep}
 use Rattle.step.specs.Performed.{Performed, performed, planPerformed, Advanced, advanced, stepAdvanced}
-use Rattle.step.proofs.Stepped.{stepOf, unwritten}
+use Rattle.step.proofs.StepOf.{stepOf}
+use Rattle.step.proofs.Unwritten.{unwritten}
 
 module _ (x : Setup) (at : ℕ) (s : State) where
   -- what a step of an effect comes to

@@ -4,9 +4,8 @@ use mathlib.Core.Bool.{not}
 use Prim.Native.Nat.{ℕ}
 use lib.Dec.{eqb}
 use lib.ListN.{length}
-use Rattle.cells.specs.Effect.{Effect, refused}
-use Rattle.cells.proofs.Related.{none, related-after}
-use Rattle.cells.proofs.Untainted.{SameUntainted, Agreeing, AlikeEffects, unless-alike}
+use Rattle.cells.proofs.Related.{none}
+use Rattle.cells.proofs.Untainted.{SameUntainted, AlikeEffects, unless-alike}
 use Rattle.decoder.specs.declared.Decoded.{Decoded}
 use Rattle.decoder.specs.declared.Decoded.the-variants as decoded
 use Rattle.decoder.specs.Decoding.{instructionAt}
@@ -21,13 +20,11 @@ use Rattle.scatter.specs.Scatter.{scatterEffect}
 use Rattle.scatter.proofs.Untainted.{scatter-alike}
 use Rattle.step.specs.State.{Setup, constantsOf, State}
 use Rattle.step.specs.Step.{acted, planEffect, Stepped, stepAt}
-use Rattle.step.proofs.Stepped.{stepOf}
-use Rattle.step.proofs.SameStep.{SameStep}
+use Rattle.step.proofs.StepOf.{stepOf}
+use Rattle.step.proofs.SameStep.{SameStep, RelatedStates, alike-steps, refused-steps}
 
-pub record AgreeingStates (s u : State) : Type 0 where
-  pub registers : Agreeing (s .registers) (u .registers)
-  pub surfaces : Agreeing (s .surfaces) (u .surfaces)
-  pub memory : Agreeing (s .memory) (u .memory)
+abbrev pub AgreeingStates : State → State → Type 0
+AgreeingStates = RelatedStates SameUntainted
 
 module _ (x : Setup) (s u : State) (r : AgreeingStates s u) where
   scattered : (p : Plan) (n m : ℕ) → m ≡ n → AlikeEffects (scatterEffect (record { base = x .base; length = n }) p (lanesOn (x .mask) p) (s .registers)) (scatterEffect (record { base = x .base; length = m }) p (lanesOn (x .mask) p) (u .registers))
@@ -44,24 +41,12 @@ module _ (x : Setup) (s u : State) (r : AgreeingStates s u) where
   unfolding planEffect
   plan-alike p = unless-alike (not (eqb (p .number) 0)) _ (p .number) _ _ refl (λ _. acted-alike (p .operation) p)
 
-  step-of : (n : ℕ) (d e : Effect) → AlikeEffects d e → SameStep AgreeingStates (record { next = n; effect = d }) (record { next = n; effect = e }) s u
-  step-of n d e a =
-      record {
-        next = refl;
-        number = a .number;
-        state = record {
-          registers = related-after SameUntainted (a .registers) _ _ (r .registers);
-          surfaces = r .surfaces;
-          memory = related-after SameUntainted (a .memory) _ _ (r .memory);
-        };
-      }
-
   abbrev stepped : State → ℕ → Decoded → Stepped
   stepped v at = stepOf x (λ (p : Plan). planEffect (constantsOf x) p v) at
 
   decoded-same : (at : ℕ) (d : Decoded) → SameStep AgreeingStates (stepped s at d) (stepped u at d) s u
-  decoded-same at (decoded.Refused n) = step-of at (refused n) (refused n) (record { number = refl; registers = none; memory = none })
-  decoded-same at (decoded.Accepted i c) = step-of (c .at) _ _ (plan-alike (checked (x .tables) i))
+  decoded-same at (decoded.Refused n) = refused-steps SameUntainted s u r at n
+  decoded-same at (decoded.Accepted i c) = alike-steps SameUntainted s u r (c .at) _ _ (plan-alike (checked (x .tables) i))
 
 pub step-same : (x : Setup) (at : ℕ) (s u : State) → AgreeingStates s u → SameStep AgreeingStates (stepAt x at s) (stepAt x at u) s u
 unfolding stepAt

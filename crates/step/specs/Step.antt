@@ -3,7 +3,6 @@ use Prim.Native.Nat.{ℕ}
 use mathlib.Core.Bool.{not}
 use lib.ListN.{length}
 use lib.Dec.{eqb}
-use Rattle.cells.specs.Buffer.{Buffer}
 use Rattle.cells.specs.Writes.{writtenAll}
 use Rattle.cells.specs.Effect.{Effect, refused, unless}
 use Rattle.decoder.specs.Decoding.{instructionAt, onDecoded}
