@@ -14,7 +14,7 @@ use Rattle.frames.specs.declared.Case.{Case}
 use Rattle.frames.specs.Reading.{contents, Tables, tables}
 use Rattle.frames.specs.Lines.{metOf, lengthOf}
 use Rattle.frames.specs.Verdicts.{taintLength}
-use Rattle.run.specs.State.{Setup, setup, State, state}
+use Rattle.step.specs.State.{Setup, setup, State, state}
 use Rattle.run.specs.Run.{Outcome, run}
 use Rattle.run.proofs.Within.{run-within}
 use Rattle.answering.specs.Setting.{setupOf, taintOf, stateOf}

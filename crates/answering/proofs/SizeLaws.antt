@@ -12,7 +12,7 @@ use Rattle.frames.specs.Reading.{Reading}
 use Rattle.frames.specs.Verdicts.{verdictOf}
 use Rattle.output.specs.Output.{answerLine, bufferLines}
 use Rattle.output.proofs.LengthLaws.{length-answer, length-buffers, length-output, length-13}
-use Rattle.run.specs.State.{Setup, State, lengthsOf}
+use Rattle.step.specs.State.{Setup, State, lengthsOf}
 use Rattle.run.specs.Run.{run}
 use Rattle.run.proofs.Whole.{tables-refused}
 use Rattle.run.proofs.Kept.{run-lengths}

@@ -10,8 +10,8 @@ use Rattle.frames.specs.Reading.{Contents, Reading, reading, tables}
 use Rattle.frames.specs.Verdicts.{verdictOf}
 use Rattle.output.specs.Page.{Page, written}
 use Rattle.output.specs.Output.{answerLine, bufferLines, outputBytes}
+use Rattle.step.specs.State.{State, state}
 use Rattle.run.specs.declared.Answer.{Answer}
-use Rattle.run.specs.State.{State, state}
 use Rattle.run.specs.Run.{Outcome, outcome, run}
 use Rattle.answering.specs.Setting.{setupOf, stateOf}
 use Rattle.answering.specs.Bench.{outcomeOutput, goodOutput, caseOutput}

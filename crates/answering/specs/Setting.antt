@@ -10,7 +10,7 @@ use Rattle.frames.specs.declared.Case.{Case}
 use Rattle.frames.specs.Reading.{Contents, Tables}
 use Rattle.frames.specs.Lines.{metOf, lengthOf}
 use Rattle.frames.specs.Verdicts.{taintLength}
-use Rattle.run.specs.State.{Setup, setup, State, state}
+use Rattle.step.specs.State.{Setup, setup, State, state}
 
 -- what does not change: each buffer up to where its frames filled it
 unfoldable pub setupOf : Case → List ℕ → Tables → Setup

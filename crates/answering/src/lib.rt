@@ -1,7 +1,7 @@
 // Answers a case that was read: judges it, runs it, and writes the output's lines.
 use frames::Case;
 use run::Answer;
-use run::Constants;
+use step::Constants;
 ghost use mathlib.Core.Path.{_≡_};
 ghost use Prim.Native.Nat.{_≤_, min};
 ghost use lib.ListN.{length};
@@ -10,7 +10,7 @@ ghost use Rattle.frames.specs.Lines.{lengthOf};
 ghost use Rattle.frames.specs.Verdicts.{taintLength};
 ghost use Rattle.output.specs.Page.{page, written};
 ghost use Rattle.output.specs.Output.{bufferLines, outputBytes};
-ghost use Rattle.run.specs.State.{state};
+ghost use Rattle.step.specs.State.{state};
 ghost use Rattle.run.specs.Run.{outcome, run};
 ghost use Rattle.answering.specs.Setting.{taintOf, setupOf};
 ghost use Rattle.answering.specs.Bench.{outcomeOutput, goodOutput, caseOutput};

@@ -9,24 +9,14 @@ use lib.ListN.{length}
 use lib.Dec.{ltb}
 use borrow.Author.Tests.{ltb-true, ltb-false, lt-ltb, le-ltb}
 use Rattle.little_endian.specs.LittleEndian.{Bytes}
-use Rattle.cells.specs.Effect.{refused}
 use Rattle.tables.specs.Tables.{tablesGood}
-use Rattle.decoder.specs.declared.Decoded.{Decoded}
-use Rattle.decoder.specs.declared.Decoded.the-variants as decoded
-use Rattle.decoder.specs.Decoding.{instructionAt, onDecoded}
-use Rattle.decoder.proofs.DecodeEncode.{refusal-not-zero}
-use Rattle.decoder.proofs.Laws.{accepted-within}
-use Rattle.plan.specs.Checked.{checked}
-use Rattle.run.specs.State.{Setup, constantsOf, State, lengthsOf}
-use Rattle.run.specs.Step.{planEffect, Stepped, stepAt, after}
+use Rattle.step.specs.State.{Setup, State, lengthsOf}
+use Rattle.step.specs.Step.{Stepped, stepAt, after}
+use Rattle.step.proofs.Forward.{Forward, step-forward}
 use Rattle.run.specs.Run.{Outcome, stopped, settled, runFrom}
 use Rattle.run.specs.Run as whole
 use Rattle.run.specs.Ran.{Ran, ended, refusedAt, went, wentCount}
 use Rattle.run.proofs.Whole.{run-is}
-
--- a step that goes on goes forward, and not past the end
-abbrev pub Forward : ℕ → ℕ → ℕ → Type 0
-Forward end at next = (at < next) × (next ≤ end)
 
 module _ (step : ℕ → State → Stepped) (end : ℕ) (forward : (at : ℕ) (s : State) → step at s .effect .number ≡ 0 → Forward end at (step at s .next)) where
   at-end : (c at : ℕ) (s : State) → at ≡ end → Ran step end c at s (stopped 0 c at s)
@@ -61,18 +51,6 @@ module _ (step : ℕ → State → Stepped) (end : ℕ) (forward : (at : ℕ) (s
   ran-only {c} {at} {s} (went h e rest) (suc fuel) enough =
       let f = forward at s e in
       rw (lt-ltb at end h, e) (ran-only rest fuel (omega (arith, f .0, enough)))
-
--- what decoding accepts ends past its start and within the kernel, and a refusal's number is not 0
-pub step-forward : (x : Setup) → Bytes (x .kernel) → (at : ℕ) (s : State) → stepAt x at s .effect .number ≡ 0 → Forward (length (x .kernel)) at (stepAt x at s .next)
-unfolding stepAt
-step-forward x b at s e = told (instructionAt (x .kernel) at) refl e
-  where
-    stepped : Decoded → Stepped
-    stepped d = onDecoded d (λ n. record { next = at; effect = refused n }) (λ i c. record { next = c .at; effect = planEffect (constantsOf x) (checked (x .tables) i) s })
-
-    told : (d : Decoded) → instructionAt (x .kernel) at ≡ d → stepped d .effect .number ≡ 0 → Forward (length (x .kernel)) at (stepped d .next)
-    told (decoded.Refused n) q z = absurd (refusal-not-zero (x .kernel) at n b q z)
-    told (decoded.Accepted i c) q z = let w = accepted-within (x .kernel) at i c b q in (w .past, w .inside)
 
 -- a run whose tables and lengths are good
 module _ (x : Setup) (s : State) (b : Bytes (x .kernel)) (good : tablesGood (lengthsOf x s) (x .tables) ≡ true) where

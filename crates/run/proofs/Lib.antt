@@ -1,14 +1,7 @@
 pub mod Simulation
-pub mod Untainted
 pub mod Whole
 pub mod Fuel
 pub mod Within
 pub mod Kept
-pub mod Results
-pub mod Plain
-pub mod ShowLaws
-pub mod PerformLaws
-pub mod StepLaws
 pub mod RunLaws
-pub mod FitsLaws
 pub mod PlainRunLaws

@@ -1,18 +1,18 @@
 -- The plain run's two ways: buffers too long for any tables, and the run over taint that is all zero.
 use mathlib.Core.Path.{_≡_, refl, sym, ap, _∙_}
 use mathlib.Core.Bool.{Bool, true, false, true≢false, _||_}
-use mathlib.Core.List.{List, []}
+use mathlib.Core.List.{List}
 use Prim.Native.Nat.{ℕ, zero, suc, _≤_}
 use native.Mathlib.Omega.{arith}
 use lib.ListN.{length, take, replicate, length-replicate}
 use lib.Dec.{ltb}
-use borrow.Author.Tests.{ltb-true, ltb-false, le-ltb}
+use borrow.Author.Tests.{ltb-false, le-ltb}
 use Rattle.tables.specs.declared.Lengths.{Lengths}
 use Rattle.tables.specs.Tables.{Tables, tablesGood}
 use Rattle.tables.proofs.Laws.{limited, surfaces-small}
+use Rattle.step.specs.State.{Setup, State, state, lengthsOf}
 use Rattle.run.specs.declared.Answer.{Answer}
-use Rattle.run.specs.State.{Setup, State, state, lengthsOf}
-use Rattle.run.specs.Run.{Outcome, outcome, stopped, run}
+use Rattle.run.specs.Run.{outcome, run}
 use Rattle.run.specs.PlainRun.{plainRun, plainOutcome, withoutMarks, tooLong}
 use Rattle.run.proofs.Whole.{tables-refused, plain-run-is}
 

@@ -4,17 +4,12 @@ use mathlib.Core.Bool.{Bool, true, false, cond}
 use Prim.Native.Nat.{ℕ, zero, suc}
 use native.Mathlib.Omega.{arith}
 use lib.Dec.{ltb}
-use Rattle.run.specs.State.{State}
-use Rattle.run.specs.Step.{Stepped, after}
+use Rattle.step.specs.State.{State}
+use Rattle.step.specs.Step.{Stepped, after}
+use Rattle.step.proofs.SameStep.{SameStep}
 use Rattle.run.specs.Run.{Outcome, stopped, settled, runFrom}
 
 module _ (S : State → State → Type 0) where
-  -- the same number and next position, and related states after it
-  pub record SameStep (t u : Stepped) (s v : State) : Type 0 where
-    pub next : t .next ≡ u .next
-    pub number : t .effect .number ≡ u .effect .number
-    pub state : S (after (t .effect) s) (after (u .effect) v)
-
   pub record SameOutcome (r q : Outcome) : Type 0 where
     pub answer : r .answer ≡ q .answer
     pub state : S (r .state) (q .state)
@@ -24,13 +19,13 @@ module _ (S : State → State → Type 0) where
     abbrev Rest : (ℕ → ℕ → State → Outcome) → (ℕ → ℕ → State → Outcome) → Type 0
     Rest j k = (c a : ℕ) (s v : State) → S s v → matters (j c a s .answer .number) → SameOutcome (j c a s) (k c a v)
 
-    settled-same : (j k : ℕ → ℕ → State → Outcome) (c a : ℕ) (t u : Stepped) (s v : State) → Rest j k → S s v → SameStep t u s v → (m n : ℕ) → m ≡ n → matters (settled j c a t s m .answer .number) → SameOutcome (settled j c a t s m) (settled k c a u v n)
+    settled-same : (j k : ℕ → ℕ → State → Outcome) (c a : ℕ) (t u : Stepped) (s v : State) → Rest j k → S s v → SameStep S t u s v → (m n : ℕ) → m ≡ n → matters (settled j c a t s m .answer .number) → SameOutcome (settled j c a t s m) (settled k c a u v n)
     settled-same j k c a t u s v h e f zero zero q l = rw (← f .next) (h _ _ _ _ (f .state) l)
     settled-same j k c a t u s v h e f zero (suc n) q l = absurd (omega arith)
     settled-same j k c a t u s v h e f (suc m) zero q l = absurd (omega arith)
     settled-same j k c a t u s v h e f (suc m) (suc n) q l = record { answer = ap (λ (x : ℕ). stopped x c a s .answer) q; state = e }
 
-    module _ (f g : ℕ → State → Stepped) (steps : (at : ℕ) (s v : State) → S s v → matters (f at s .effect .number) → SameStep (f at s) (g at v) s v) (end : ℕ) where
+    module _ (f g : ℕ → State → Stepped) (steps : (at : ℕ) (s v : State) → S s v → matters (f at s .effect .number) → SameStep S (f at s) (g at v) s v) (end : ℕ) where
       stepped-same : (j k : ℕ → ℕ → State → Outcome) (c a : ℕ) (s v : State) → Rest j k → S s v → (m : ℕ) → f a s .effect .number ≡ m → matters (settled j c a (f a s) s m .answer .number) → SameOutcome (settled j c a (f a s) s m) (settled k c a (g a v) v (g a v .effect .number))
       stepped-same j k c a s v h e zero q l =
           let x = steps a s v e (subst matters (sym q) done) in
@@ -49,7 +44,7 @@ module _ (S : State → State → Type 0) where
       runs-same-where (suc fuel) c a s v e l =
           turn-same (λ c′ a′ x. runFrom f end fuel c′ a′ x) (λ c′ a′ x. runFrom g end fuel c′ a′ x) c a s v (runs-same-where fuel) e (ltb a end) l
 
-  pub runs-same : (f g : ℕ → State → Stepped) → ((at : ℕ) (s v : State) → S s v → SameStep (f at s) (g at v) s v) → (end fuel c a : ℕ) (s v : State) → S s v → SameOutcome (runFrom f end fuel c a s) (runFrom g end fuel c a v)
+  pub runs-same : (f g : ℕ → State → Stepped) → ((at : ℕ) (s v : State) → S s v → SameStep S (f at s) (g at v) s v) → (end fuel c a : ℕ) (s v : State) → S s v → SameOutcome (runFrom f end fuel c a s) (runFrom g end fuel c a v)
   runs-same f g steps end fuel c a s v e = runs-same-where (λ _. Unit) tt f g (λ at s′ v′ r _. steps at s′ v′ r) end fuel c a s v e tt
 
 -- what every step keeps, the run keeps

@@ -5,8 +5,8 @@ use mathlib.Core.List.{List}
 use Prim.Native.Nat.{ℕ}
 use lib.ListN.{length}
 use Rattle.tables.specs.Tables.{tablesGood}
-use Rattle.run.specs.State.{Setup, State, lengthsOf}
-use Rattle.run.specs.Step.{stepAt}
+use Rattle.step.specs.State.{Setup, State, lengthsOf}
+use Rattle.step.specs.Step.{stepAt}
 use Rattle.run.specs.Run.{stopped, runFrom, run}
 use Rattle.run.specs.PlainRun.{unmarked, plainRun}
 

@@ -1,19 +1,20 @@
 -- What a run answers is small: no more instructions are completed than bytes lie before the position, and the position lies in the kernel or
 -- at its end.
 use mathlib.Core.Path.{_≡_, refl}
-use mathlib.Core.Bool.{Bool, true, false, cond}
+use mathlib.Core.Bool.{Bool, true, false}
 use Prim.Native.Nat.{ℕ, _≤_}
 use native.Mathlib.Omega.{arith}
 use lib.ListN.{length}
 use Rattle.little_endian.specs.LittleEndian.{Bytes}
 use Rattle.tables.specs.Tables.{tablesGood}
 use Rattle.tables.proofs.Laws.{limited}
-use Rattle.run.specs.State.{Setup, State, lengthsOf}
-use Rattle.run.specs.Step.{Stepped, stepAt}
-use Rattle.run.specs.Run.{Outcome, stopped, runFrom, run}
+use Rattle.step.specs.State.{Setup, State, lengthsOf}
+use Rattle.step.specs.Step.{Stepped, stepAt}
+use Rattle.step.proofs.Forward.{Forward, step-forward}
+use Rattle.run.specs.Run.{Outcome, run}
 use Rattle.run.specs.Ran.{Ran, ended, refusedAt, went}
 use Rattle.run.proofs.Whole.{tables-refused}
-use Rattle.run.proofs.Fuel.{Forward, step-forward, run-ran}
+use Rattle.run.proofs.Fuel.{run-ran}
 
 pub record Within (end : ℕ) (r : Outcome) : Type 0 where
   pub before : r .answer .completed ≤ r .answer .position

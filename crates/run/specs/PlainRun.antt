@@ -5,8 +5,8 @@ use mathlib.Core.List.{List}
 use lib.ListN.{length, replicate}
 use lib.Dec.{ltb}
 use Rattle.cells.specs.Buffer.{Buffer}
+use Rattle.step.specs.State.{Setup}
 use Rattle.run.specs.declared.Answer.{Answer}
-use Rattle.run.specs.State.{Setup}
 use Rattle.run.specs.Run.{Outcome, run}
 
 abbrev pub unmarked : List ℕ → Buffer

@@ -4,8 +4,8 @@ use mathlib.Core.Path.{_≡_}
 use mathlib.Core.List.{List, [], _++_}
 use Prim.Native.Nat.{ℕ, suc, _<_}
 use Rattle.cells.specs.Writes.{Write}
-use Rattle.run.specs.State.{State}
-use Rattle.run.specs.Step.{Stepped, after}
+use Rattle.step.specs.State.{State}
+use Rattle.step.specs.Step.{Stepped, after}
 use Rattle.run.specs.Run.{Outcome, stopped}
 
 -- of any steps, through a kernel of this length: Ran completed at s r, from a position and a state to the run's outcome

@@ -5,9 +5,9 @@ use mathlib.Core.Bool.{cond}
 use lib.ListN.{length}
 use lib.Dec.{ltb}
 use Rattle.tables.specs.Tables.{tablesGood}
+use Rattle.step.specs.State.{Setup, State, lengthsOf}
+use Rattle.step.specs.Step.{Stepped, stepAt, after}
 use Rattle.run.specs.declared.Answer.{Answer}
-use Rattle.run.specs.State.{Setup, State, lengthsOf}
-use Rattle.run.specs.Step.{Stepped, stepAt, after}
 
 pub record Outcome : Type 0 where
   pub answer : Answer

@@ -1,126 +1,19 @@
-// The run: instruction by instruction through the kernel, over the caller's buffers; and show.
-use decoder::Decoded;
-use plan::Operation;
-use plan::Plan;
+// The run: instruction by instruction through the kernel, over the caller's buffers.
+use step::Constants;
 use tables::Lengths;
 use tables::TaintLengths;
 ghost use mathlib.Core.Path.{_≡_};
 ghost use mathlib.Core.Bool.{true};
 ghost use Rattle.tables.specs.Tables.{tables, tablesGood};
-ghost use Rattle.run.specs.Fits.{Fits};
-ghost use Rattle.run.specs.State.{setup, state, lengthsOf};
-ghost use Rattle.run.specs.Performed.{performed, planPerformed, advanced, stepAdvanced};
+ghost use Rattle.step.specs.State.{setup, state, lengthsOf};
 ghost use Rattle.run.specs.Run.{outcome, run};
 ghost use Rattle.run.specs.PlainRun.{plainRun, plainOutcome, withoutMarks, tooLong};
-ghost use Rattle.run.specs.Show.{isInside, partOf, shown, shownNumber};
-
-// What stays the same in a run beside the borrowed slices: the memory window's base, and the execution mask (EM).
-pub struct Constants {
-    pub base: u64,
-    pub mask: u32,
-}
 
 // What a run gives back: the number, how many instructions were completed, and the byte position of the refused one or of the end.
 pub struct Answer {
     pub number: u8,
     pub completed: usize,
     pub position: usize,
-}
-
-// What one instruction gave: its number, and where the next one begins.
-pub struct Progress {
-    pub number: u8,
-    pub next: usize,
-}
-
-// Does what a plan says: its refusal's number with nothing written, or the instruction's own number.
-fn perform(
-    plan: Plan,
-    constants: Constants,
-    surfaces: &[u8],
-    surface_taint: &[u8],
-    registers: &mut [u8],
-    register_taint: &mut [u8],
-    memory: &mut [u8],
-    memory_taint: &mut [u8],
-) -> u8
-    requires { ⌜ Fits plan ⌝ }
-    ensures { λ r. ⌜ performed r (state (now (registers .exit)) (now («register_taint» .exit)) (now (surfaces .entry)) (now («surface_taint» .entry)) (now (memory .exit)) (now («memory_taint» .exit))) ≡ planPerformed constants plan (state (now (registers .entry)) (now («register_taint» .entry)) (now (surfaces .entry)) (now («surface_taint» .entry)) (now (memory .entry)) (now («memory_taint» .entry))) ⌝ }
-{
-    if 0 < plan.number {
-        return plan.number;
-    }
-    let operation = plan.operation;
-    match operation {
-        Operation::Shl => shl::shl(plan, constants.mask, registers, register_taint),
-        Operation::Gather => gather::gather(
-            plan,
-            constants.mask,
-            registers,
-            register_taint,
-            surfaces,
-            surface_taint,
-        ),
-        Operation::Scatter => scatter::scatter(
-            plan,
-            constants.mask,
-            constants.base,
-            registers,
-            register_taint,
-            memory,
-            memory_taint,
-        ),
-        Operation::Send => 9,
-    }
-}
-
-// One instruction: decoded, tested, performed.
-fn step(
-    kernel: &[u8],
-    types: &[u8],
-    starts: &[u16],
-    counts: &[u16],
-    predicates: &[u32],
-    surface_lengths: &[u16],
-    constants: Constants,
-    at: usize,
-    surfaces: &[u8],
-    surface_taint: &[u8],
-    registers: &mut [u8],
-    register_taint: &mut [u8],
-    memory: &mut [u8],
-    memory_taint: &mut [u8],
-) -> Progress
-    requires { ⌜ tablesGood (lengthsOf (setup (now kernel) (tables (now types) (now starts) (now counts) (now predicates) (now «surface_lengths»)) (constants .base) (constants .mask)) (state (now registers) (now «register_taint») (now surfaces) (now «surface_taint») (now memory) (now «memory_taint»))) (tables (now types) (now starts) (now counts) (now predicates) (now «surface_lengths»)) ≡ true ⌝ }
-    ensures { λ r. ⌜ advanced r (state (now (registers .exit)) (now («register_taint» .exit)) (now (surfaces .entry)) (now («surface_taint» .entry)) (now (memory .exit)) (now («memory_taint» .exit))) ≡ stepAdvanced (setup (now (kernel .entry)) (tables (now (types .entry)) (now (starts .entry)) (now (counts .entry)) (now (predicates .entry)) (now («surface_lengths» .entry))) (constants .base) (constants .mask)) at (state (now (registers .entry)) (now («register_taint» .entry)) (now (surfaces .entry)) (now («surface_taint» .entry)) (now (memory .entry)) (now («memory_taint» .entry))) ⌝ }
-{
-    match decoder::decode(kernel, at) {
-        Decoded::Accepted(instruction, cursor) => {
-            let plan = plan::check(
-                types,
-                starts,
-                counts,
-                predicates,
-                surface_lengths,
-                instruction,
-            );
-            let number = perform(
-                plan,
-                constants,
-                surfaces,
-                surface_taint,
-                registers,
-                register_taint,
-                memory,
-                memory_taint,
-            );
-            Progress {
-                number,
-                next: cursor.at,
-            }
-        }
-        Decoded::Refused(number) => Progress { number, next: at },
-    }
 }
 
 // The instructions in kernel order, up to the end or the first refusal; earlier instructions stand.
@@ -145,7 +38,7 @@ fn run_kernel(
     let mut completed: usize = 0;
     let mut at: usize = 0;
     while at < kernel.len() {
-        let progress = step(
+        let progress = step::step(
             kernel,
             types,
             starts,
@@ -283,63 +176,4 @@ pub fn plain_run(
         memory,
         &mut memory_taint[..memory_count],
     )
-}
-
-// Which of the two buffers is shown.
-pub enum Place {
-    Registers,
-    Memory,
-}
-
-fn inside(bytes: &[u8], start: usize, count: usize) -> bool
-    ensures { λ r. ⌜ r ≡ isInside (now (bytes .entry)) start count ⌝ }
-{
-    if start <= bytes.len() {
-        count <= bytes.len() - start
-    } else {
-        false
-    }
-}
-
-fn part(bytes: &[u8], start: usize, count: usize) -> &[u8]
-    ensures { λ r. ⌜ now r ≡ partOf (now (bytes .entry)) start count ⌝ }
-{
-    if inside(bytes, start, count) {
-        let end = start + count;
-        &bytes[start..end]
-    } else {
-        &bytes[..0]
-    }
-}
-
-// A part of the registers or of the memory; an empty part where it runs over the end.
-pub fn show<'a>(
-    registers: &'a [u8],
-    memory: &'a [u8],
-    which: Place,
-    start: usize,
-    count: usize,
-) -> &'a [u8]
-    ensures { λ r. ⌜ now r ≡ shown which (now (registers .entry)) (now (memory .entry)) start count ⌝ }
-{
-    match which {
-        Place::Registers => part(registers, start, count),
-        Place::Memory => part(memory, start, count),
-    }
-}
-
-// The number that goes with it: 0, or 7.
-pub fn show_number(registers: &[u8], memory: &[u8], which: Place, start: usize, count: usize) -> u8
-    ensures { λ r. ⌜ r ≡ shownNumber which (now (registers .entry)) (now (memory .entry)) start count ⌝ }
-{
-    match which {
-        Place::Registers => {
-            if inside(registers, start, count) {
-                0
-            } else {
-                7
-            }
-        }
-        Place::Memory => { if inside(memory, start, count) { 0 } else { 7 } }
-    }
 }

@@ -11,13 +11,13 @@ use Rattle.cells.proofs.Plain.{Plainly, bytes-same}
 use Rattle.tables.specs.Tables.{tablesGood}
 use Rattle.tables.proofs.Limits.{Limited}
 use Rattle.tables.proofs.Laws.{limited}
-use Rattle.run.specs.State.{Setup, State, lengthsOf}
-use Rattle.run.specs.Step.{stepAt, after}
+use Rattle.step.specs.State.{Setup, State, lengthsOf}
+use Rattle.step.specs.Step.{stepAt, after}
+use Rattle.step.proofs.Kept.{refused-step-keeps}
+use Rattle.step.proofs.Plain.{PlainStates, step-plain}
 use Rattle.run.specs.Run.{Outcome, stopped, runFrom, run}
 use Rattle.run.specs.PlainRun.{unmarked}
 use Rattle.run.proofs.Simulation.{run-keeps, runs-same-where}
-use Rattle.run.proofs.Kept.{refused-step-keeps}
-use Rattle.run.proofs.Plain.{PlainStates, step-plain}
 use Rattle.run.proofs.Whole.{run-is, plain-run-is}
 use Rattle.two_runs.specs.Plain.{NoMarks, plainly, SameAnswerAndBytes}
 

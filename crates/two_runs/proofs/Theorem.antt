@@ -8,11 +8,11 @@ use Rattle.cells.specs.Buffer.{Buffer}
 use Rattle.cells.proofs.Untainted.{Agreeing, taint-same}
 use Rattle.tables.specs.Tables.{tablesGood}
 use Rattle.tables.proofs.Laws.{limited}
-use Rattle.run.specs.State.{Setup, State, lengthsOf}
-use Rattle.run.specs.Step.{stepAt}
-use Rattle.run.specs.Run.{Outcome, stopped, runFrom, run}
+use Rattle.step.specs.State.{Setup, State, lengthsOf}
+use Rattle.step.specs.Step.{stepAt}
+use Rattle.step.proofs.Untainted.{AgreeingStates, step-same}
+use Rattle.run.specs.Run.{stopped, runFrom, run}
 use Rattle.run.proofs.Simulation.{runs-same}
-use Rattle.run.proofs.Untainted.{AgreeingStates, step-same}
 use Rattle.run.proofs.Whole.{run-is}
 use Rattle.two_runs.specs.TwoRuns.{Agree, Agrees, SameRun}
 

@@ -3,7 +3,7 @@
 use mathlib.Core.Path.{_≡_}
 use Prim.Native.Nat.{ℕ}
 use lib.ListN.{getD}
-use Rattle.run.specs.State.{Setup, State}
+use Rattle.step.specs.State.{Setup, State}
 use Rattle.run.specs.Run.{Outcome}
 use Rattle.run.specs.PlainRun.{plainRun}
 

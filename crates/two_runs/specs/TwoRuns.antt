@@ -4,7 +4,7 @@ use mathlib.Core.Path.{_≡_}
 use Prim.Native.Nat.{ℕ}
 use lib.ListN.{length, getD}
 use Rattle.cells.specs.Buffer.{Buffer}
-use Rattle.run.specs.State.{State}
+use Rattle.step.specs.State.{State}
 use Rattle.run.specs.Run.{Outcome}
 
 -- equal lengths and marks, and equal bytes wherever the mark byte is 0 or missing

@@ -36,8 +36,8 @@ use Rattle.staging.specs.Sources.{elementValue, elementTainted, eitherTainted}
 use Rattle.shl.specs.Shl.{shlValue, shlMark, shlLane, shlEffect}
 use Rattle.gather.specs.Gather.{gatherAddress, isRead, gatheredByte, gatheredMark, gatherWrites, gatherLane, gatherEffect}
 use Rattle.scatter.specs.Scatter.{channelsOn, targetAddress, target, sourceByte, misaligned, outside, scatterPair, scatterEffect}
+use Rattle.step.specs.Step.{acted, planEffect, stepAt}
 use Rattle.run.specs.Run.{runFrom, run}
-use Rattle.run.specs.Step.{acted, planEffect, stepAt}
 use Rattle.fields.specs.Rules as rules
 use Rattle.field_groups.specs.Reading as groups
 use Rattle.operands.specs.Elements as elements

@@ -3,10 +3,11 @@ use mathlib.Core.Path.{_≡_, sym, ap, _∙_}
 use Prim.Native.Nat.{_-_}
 use native.Mathlib.Omega.{arith}
 use lib.ListN.{length}
+use borrow.Author.Needs.{needs}
 use Rattle.tables.specs.declared.Lengths.{Lengths}
 use Rattle.tables.specs.Tables.{tables}
-use Rattle.run.specs.State.{setup, state}
-use Rattle.run.proofs.RunLaws.{Reached, begins, still-good, ends, stops, goes}
+use Rattle.step.specs.State.{setup, state}
+use Rattle.run.proofs.RunLaws.{Reached, begins, ends, stops, onward, goes}
 use Rattle.run.proofs.run_kernel.Statement.{statement}
 use Rattle.run.proofs.run_kernel.Tie as tie
 
@@ -19,10 +20,7 @@ abbrev μ-loop : tie.MeasureT-loop
     length kernel - at
 
 loop-holds : tie.Need-loop-holds Inv-loop μ-loop
-loop-holds c = begins _ _ (c .before .before .before .before .before .before .before .before .before .before .before .before .pre)
-
-step-requires : tie.Need-step-requires Inv-loop μ-loop
-step-requires c κs = let l = c .before .before .before .before .before in still-good _ _ _ _ _ (l .loop .inv) (l .before .before .before .before .before .before .before .before .before .before .before .before .before .pre)
+loop-holds c = let a = c .before .before .before .before .before .before .before .before .before .before .before in begins _ _ (λ k. omega (arith, a .shared-slice-known .given k)) (a .before .pre)
 
 same-length : tie.Need-same-length Inv-loop μ-loop
 same-length c = let a = c .before .before .before .before .before .before .before .before .before .before in a .step .kept .1 .1 .1 .1 .1 .1 .1 .1 .1 .1 .0 ∙ ap (λ (l : Lengths). l .registers) (a .before .before .before .before .before .before .loop .inv .lengths)
@@ -47,12 +45,12 @@ add-completed c =
 loop-less : tie.Need-loop-less Inv-loop μ-loop
 loop-less c =
     let a = c .before .before .before .before .before .before .before .before .before .before in
-    omega
-    (arith, a .before .before .before .before .before .loop-test .taken, goes _ _ _ _ _ (a .before .before .before .before .before .before .loop .inv) (a .before .before .before .before .before .loop-test .taken) _ _ (a .step .ensures) (λ k. omega (arith, a .before .before .before .before .before .before .before .before .before .before .before .before .before .before .before .before .before .before .shared-slice-known .given k)) (c .if1 .left) .forward)
+    omega (arith, a .before .before .before .before .before .loop-test .taken, onward _ _ _ _ _ (a .before .before .before .before .before .before .loop .inv) (a .before .before .before .before .before .loop-test .taken) _ _ (a .step .ensures) (c .if1 .left) .0)
 
 loop-again : tie.Need-loop-again Inv-loop μ-loop
-loop-again c = let a = c .before .before .before .before .before .before .before .before .before .before in
-    goes _ _ _ _ _ (a .before .before .before .before .before .before .loop .inv) (a .before .before .before .before .before .loop-test .taken) _ _ (a .step .ensures) (λ k. omega (arith, a .before .before .before .before .before .before .before .before .before .before .before .before .before .before .before .before .before .before .shared-slice-known .given k)) (c .if1 .left) .reached
+loop-again c =
+    let a = c .before .before .before .before .before .before .before .before .before .before in
+    goes _ _ _ _ _ (a .before .before .before .before .before .before .loop .inv) (a .before .before .before .before .before .loop-test .taken) _ _ (a .step .ensures) (c .if1 .left)
 
 same-length-5 : tie.Need-same-length-5 Inv-loop μ-loop
 same-length-5 c = ap (λ (l : Lengths). l .registers) (c .before .loop .inv .lengths)
@@ -72,4 +70,4 @@ returns-2 c = ends _ _ _ _ _ (c .before .loop .inv) (c .loop-test .left)
 pub run-kernel-spec : {M : Type 1} → statement M
 run-kernel-spec =
     tie.close
-    (tie.spec Inv-loop μ-loop loop-holds step-requires same-length same-length-2 same-length-3 same-length-4 returns add-completed loop-less loop-again same-length-5 same-length-6 same-length-7 same-length-8 returns-2)
+    (tie.spec Inv-loop μ-loop loop-holds (λ c κs. search needs) same-length same-length-2 same-length-3 same-length-4 returns add-completed loop-less loop-again same-length-5 same-length-6 same-length-7 same-length-8 returns-2)

@@ -1,0 +1,29 @@
+-- A step that is not refused goes forward, and not past the kernel's end.
+use mathlib.Core.Path.{_≡_, refl}
+use Prim.Native.Nat.{ℕ, _≤_, _<_}
+use lib.ListN.{length}
+use Rattle.little_endian.specs.LittleEndian.{Bytes}
+use Rattle.decoder.specs.declared.Decoded.{Decoded}
+use Rattle.decoder.specs.declared.Decoded.the-variants as decoded
+use Rattle.decoder.specs.Decoding.{instructionAt}
+use Rattle.decoder.proofs.DecodeEncode.{refusal-not-zero}
+use Rattle.decoder.proofs.Laws.{accepted-within}
+use Rattle.plan.specs.declared.Plan.{Plan}
+use Rattle.step.specs.State.{Setup, constantsOf, State}
+use Rattle.step.specs.Step.{planEffect, Stepped, stepAt}
+use Rattle.step.proofs.StepOf.{stepOf}
+
+abbrev pub Forward : ℕ → ℕ → ℕ → Type 0
+Forward end at next = (at < next) × (next ≤ end)
+
+-- what decoding accepts ends past its start and within the kernel, and a refusal's number is not 0
+pub step-forward : (x : Setup) → Bytes (x .kernel) → (at : ℕ) (s : State) → stepAt x at s .effect .number ≡ 0 → Forward (length (x .kernel)) at (stepAt x at s .next)
+unfolding stepAt
+step-forward x b at s e = told (instructionAt (x .kernel) at) refl e
+  where
+    stepped : Decoded → Stepped
+    stepped = stepOf x (λ (p : Plan). planEffect (constantsOf x) p s) at
+
+    told : (d : Decoded) → instructionAt (x .kernel) at ≡ d → stepped d .effect .number ≡ 0 → Forward (length (x .kernel)) at (stepped d .next)
+    told (decoded.Refused n) q z = absurd (refusal-not-zero (x .kernel) at n b q z)
+    told (decoded.Accepted i c) q z = let w = accepted-within (x .kernel) at i c b q in (w .past, w .inside)

@@ -1,0 +1,71 @@
+-- What a step keeps: all lengths, and the state where it is refused.
+use mathlib.Core.Path.{_≡_}
+use mathlib.Core.Logic.{_≢_}
+use mathlib.Core.Bool.{not}
+use Prim.Native.Nat.{ℕ}
+use lib.ListN.{length}
+use lib.Dec.{eqb}
+use Rattle.cells.specs.Effect.{Effect}
+use Rattle.cells.proofs.WriteLaws.{bytes-kept, taint-kept}
+use Rattle.cells.proofs.RefusalLaws.{WritesOnlyWhenDone, refused-writes, unless-writes}
+use Rattle.decoder.specs.declared.Decoded.{Decoded}
+use Rattle.decoder.specs.declared.Decoded.the-variants as decoded
+use Rattle.decoder.specs.Decoding.{instructionAt}
+use Rattle.plan.specs.declared.Plan.{Plan}
+use Rattle.plan.specs.declared.Operation.{Operation}
+use Rattle.plan.specs.declared.Operation.the-variants as operation
+use Rattle.plan.specs.Checked.{checked}
+use Rattle.shl.proofs.Refusal.{shl-writes}
+use Rattle.gather.proofs.Refusal.{gather-writes}
+use Rattle.scatter.proofs.Refusal.{scatter-writes}
+use Rattle.step.specs.State.{Setup, constantsOf, State, lengthsOf}
+use Rattle.step.specs.Step.{acted, planEffect, stepAt, after}
+use Rattle.step.proofs.StepOf.{stepOf}
+use Rattle.step.proofs.Unwritten.{unwritten}
+
+pub after-lengths : (x : Setup) (e : Effect) (s : State) → lengthsOf x (after e s) ≡ lengthsOf x s
+after-lengths x e s =
+    λ i.
+    record {
+      kernel = length (x .kernel);
+      registers = bytes-kept (e .registers) (s .registers) i;
+      surfaces = length (s .surfaces .bytes);
+      memory = bytes-kept (e .memory) (s .memory) i;
+      base = x .base;
+      taint = record {
+        registers = taint-kept (e .registers) (s .registers) i;
+        surfaces = length (s .surfaces .taint);
+        memory = taint-kept (e .memory) (s .memory) i;
+      };
+    }
+
+module _ (x : Setup) (s : State) where
+  acted-writes : (o : Operation) (p : Plan) → WritesOnlyWhenDone (acted (constantsOf x) o p s)
+  unfolding acted
+  acted-writes operation.Shl p = shl-writes p _ (s .registers)
+  acted-writes operation.Gather p = gather-writes p _ (s .registers) (s .surfaces)
+  acted-writes operation.Scatter p = scatter-writes _ p _ (s .registers)
+  acted-writes operation.Send p = refused-writes 9
+
+  plan-writes : (p : Plan) → WritesOnlyWhenDone (planEffect (constantsOf x) p s)
+  unfolding planEffect
+  plan-writes p = unless-writes (not (eqb (p .number) 0)) (p .number) _ (acted-writes (p .operation) p)
+
+  decoded-writes : (at : ℕ) (d : Decoded) → WritesOnlyWhenDone (stepOf x (λ (p : Plan). planEffect (constantsOf x) p s) at d .effect)
+  decoded-writes at (decoded.Refused n) = refused-writes n
+  decoded-writes at (decoded.Accepted i c) = plan-writes (checked (x .tables) i)
+
+  -- every step whose number is not 0 writes nothing
+  pub step-writes : (at : ℕ) → WritesOnlyWhenDone (stepAt x at s .effect)
+  unfolding stepAt
+  step-writes at = decoded-writes at (instructionAt (x .kernel) at)
+
+pub refused-step-keeps : (x : Setup) (at : ℕ) (s : State) → stepAt x at s .effect .number ≢ 0 → after (stepAt x at s .effect) s ≡ s
+refused-step-keeps x at s h =
+    let w = step-writes x s at in
+    λ i.
+    record {
+      registers = unwritten _ (s .registers) (w .registers h) i;
+      surfaces = s .surfaces;
+      memory = unwritten _ (s .memory) (w .memory h) i;
+    }

@@ -1,0 +1,13 @@
+pub mod StepOf
+pub mod Unwritten
+pub mod AcceptedLaws
+pub mod FitsLaws
+pub mod GuardLaws
+pub mod PerformLaws
+pub mod StepLaws
+pub mod Forward
+pub mod Kept
+pub mod Results
+pub mod SameStep
+pub mod Untainted
+pub mod Plain

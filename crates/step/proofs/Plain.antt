@@ -1,0 +1,55 @@
+-- One step from a state with marks and from the same bytes with no marks: unless the first is refused by 10, the same number and next
+-- position, the same bytes after it, and no marks in the second.
+use mathlib.Core.Path.{_≡_, refl}
+use mathlib.Core.Logic.{_≢_}
+use mathlib.Core.Bool.{not}
+use Prim.Native.Nat.{ℕ}
+use lib.Dec.{eqb}
+use lib.ListN.{length}
+use Rattle.cells.proofs.Related.{none}
+use Rattle.cells.proofs.Plain.{SameBytes, PlainEffects, plain-unless}
+use Rattle.decoder.specs.declared.Decoded.{Decoded}
+use Rattle.decoder.specs.declared.Decoded.the-variants as decoded
+use Rattle.decoder.specs.Decoding.{instructionAt}
+use Rattle.plan.specs.declared.Plan.{Plan}
+use Rattle.plan.specs.declared.Operation.{Operation}
+use Rattle.plan.specs.declared.Operation.the-variants as operation
+use Rattle.plan.specs.Checked.{checked}
+use Rattle.staging.specs.Lanes.{lanesOn}
+use Rattle.shl.proofs.Plain.{shl-plain}
+use Rattle.gather.proofs.Plain.{gather-plain}
+use Rattle.scatter.specs.Scatter.{scatterEffect}
+use Rattle.scatter.proofs.Plain.{scatter-plain}
+use Rattle.step.specs.State.{Setup, constantsOf, State}
+use Rattle.step.specs.Step.{acted, planEffect, Stepped, stepAt}
+use Rattle.step.proofs.StepOf.{stepOf}
+use Rattle.step.proofs.SameStep.{SameStep, RelatedStates, alike-steps, refused-steps}
+
+abbrev pub PlainStates : State → State → Type 0
+PlainStates = RelatedStates SameBytes
+
+module _ (x : Setup) (s u : State) (r : PlainStates s u) where
+  scattered : (p : Plan) (n m : ℕ) → m ≡ n → scatterEffect (record { base = x .base; length = n }) p (lanesOn (x .mask) p) (s .registers) .number ≢ 10 → PlainEffects (scatterEffect (record { base = x .base; length = n }) p (lanesOn (x .mask) p) (s .registers)) (scatterEffect (record { base = x .base; length = m }) p (lanesOn (x .mask) p) (u .registers))
+  scattered p n m e sure = rw e (scatter-plain (s .registers) (u .registers) (r .registers) p (record { base = x .base; length = n }) (lanesOn (x .mask) p) sure)
+
+  acted-plain : (o : Operation) (p : Plan) → acted (constantsOf x) o p s .number ≢ 10 → PlainEffects (acted (constantsOf x) o p s) (acted (constantsOf x) o p u)
+  unfolding acted
+  acted-plain operation.Shl p sure = shl-plain p (lanesOn (x .mask) p) (s .registers) (u .registers) (r .registers)
+  acted-plain operation.Gather p sure = gather-plain (s .registers) (u .registers) (s .surfaces) (u .surfaces) (r .registers) (r .surfaces) p (lanesOn (x .mask) p)
+  acted-plain operation.Scatter p sure = scattered p (length (s .memory .bytes)) (length (u .memory .bytes)) (r .memory .bytes′) sure
+  acted-plain operation.Send p sure = record { number = refl; registers = none; memory = none }
+
+  plan-plain : (p : Plan) → planEffect (constantsOf x) p s .number ≢ 10 → PlainEffects (planEffect (constantsOf x) p s) (planEffect (constantsOf x) p u)
+  unfolding planEffect
+  plan-plain p sure = plain-unless (not (eqb (p .number) 0)) (p .number) 10 _ _ (acted-plain (p .operation) p) sure
+
+  abbrev stepped : State → ℕ → Decoded → Stepped
+  stepped v at = stepOf x (λ (p : Plan). planEffect (constantsOf x) p v) at
+
+  decoded-plain : (at : ℕ) (d : Decoded) → stepped s at d .effect .number ≢ 10 → SameStep PlainStates (stepped s at d) (stepped u at d) s u
+  decoded-plain at (decoded.Refused n) sure = refused-steps SameBytes s u r at n
+  decoded-plain at (decoded.Accepted i c) sure = alike-steps SameBytes s u r (c .at) _ _ (plan-plain (checked (x .tables) i) sure)
+
+pub step-plain : (x : Setup) (at : ℕ) (s u : State) → PlainStates s u → stepAt x at s .effect .number ≢ 10 → SameStep PlainStates (stepAt x at s) (stepAt x at u) s u
+unfolding stepAt
+step-plain x at s u r = decoded-plain x s u r at (instructionAt (x .kernel) at)

@@ -1,0 +1,97 @@
+-- What one accepted instruction leaves, where tables and lengths are good: every enabled lane, or pair of channel and lane, has the defined
+-- result, and no other byte changes, of registers, surfaces or memory.
+use Prim.Native.Nat.{ℕ, _≤_}
+use mathlib.Core.Path.{_≡_, refl, sym, ap, subst, _∙_}
+use mathlib.Core.Bool.{Bool, true, false}
+use native.Mathlib.Omega.{arith}
+use lib.Dec.{eqb}
+use lib.ListN.{length}
+use borrow.Author.Tests.{eqb-true, eqb-false}
+use Rattle.reader.specs.declared.Cursor.{Cursor}
+use Rattle.cells.specs.Effect.{Effect}
+use Rattle.channels.specs.Exec.{execSize}
+use Rattle.decoder.specs.declared.Decoded.{Decoded}
+use Rattle.decoder.specs.declared.Decoded.the-variants as decoded
+use Rattle.decoder.specs.declared.Instruction.{Instruction}
+use Rattle.decoder.specs.Decoding.{instructionAt}
+use Rattle.tables.specs.Tables.{tablesGood}
+use Rattle.tables.proofs.Laws.{limited}
+use Rattle.plan.specs.declared.Plan.{Plan}
+use Rattle.plan.specs.declared.Operation.{Operation}
+use Rattle.plan.specs.declared.Operation.the-variants as operation
+use Rattle.plan.specs.Checked.{checked}
+use Rattle.plan.proofs.PlanLaws.{SoundFor, Sound, plan-sound}
+use Rattle.shl.proofs.LaneResults as shl
+use Rattle.shl.proofs.Refusal.{shl-spares-memory}
+use Rattle.gather.proofs.LaneResults as gather
+use Rattle.gather.proofs.Refusal.{gather-spares-memory}
+use Rattle.scatter.proofs.PairResults as scatter
+use Rattle.scatter.proofs.Refusal.{scatter-spares-registers}
+use Rattle.step.specs.State.{Setup, constantsOf, State, lengthsOf}
+use Rattle.step.specs.Step.{acted, planEffect, stepAt, after}
+use Rattle.step.proofs.StepOf.{stepOf}
+use Rattle.step.proofs.Unwritten.{unwritten}
+use Rattle.step.proofs.AcceptedLaws.{plan-refuses, plan-passes}
+
+-- no RAW_SEND is accepted
+abbrev pub ResultsFor : Operation → Setup → Plan → State → State → Type 0
+ResultsFor operation.Shl x p s u = shl.LanesHold (x .mask) p (s .registers) (u .registers) × (u .memory ≡ s .memory)
+ResultsFor operation.Gather x p s u = gather.LanesHold (x .mask) p (s .surfaces) (s .registers) (u .registers) × (u .memory ≡ s .memory)
+ResultsFor operation.Scatter x p s u =
+    scatter.PairsHold (record { base = x .base; length = length (s .memory .bytes) }) (x .mask) p (s .registers) (s .memory) (u .memory) × (u .registers ≡ s .registers)
+ResultsFor operation.Send x p s u = ⊥
+
+pub record Leaves (x : Setup) (p : Plan) (s u : State) : Type 0 where
+  pub results : ResultsFor (p .operation) x p s u
+  pub surfaces : u .surfaces ≡ s .surfaces
+
+step-is : (x : Setup) (s : State) (at : ℕ) (i : Instruction) (c : Cursor) → instructionAt (x .kernel) at ≡ decoded.Accepted i c → stepAt x at s .effect ≡ planEffect (constantsOf x) (checked (x .tables) i) s
+unfolding stepAt
+step-is x s at i c is =
+    ap (λ (d : Decoded). stepOf x (λ (p : Plan). planEffect (constantsOf x) p s) at d .effect) is
+
+module _ (x : Setup) (s : State) (good : tablesGood (lengthsOf x s) (x .tables) ≡ true) where
+  acted-results : (o : Operation) (p : Plan) → execSize (p .control .exec) ≤ 32 → SoundFor o (length (s .registers .bytes)) (length (s .surfaces .bytes)) p
+      → acted (constantsOf x) o p s .number ≡ 0 → ResultsFor o x p s (after (acted (constantsOf x) o p s) s)
+  unfolding acted
+  acted-results operation.Shl p few sound done =
+      (shl.shl-results (length (s .registers .bytes)) (x .mask) p few sound (s .registers) refl (limited (lengthsOf x s) (x .tables) good .registers-taint), unwritten _ (s .memory) (shl-spares-memory p _ (s .registers)))
+  acted-results operation.Gather p few sound done =
+      (gather.gather-results (length (s .registers .bytes)) (length (s .surfaces .bytes)) (x .mask) p few sound (s .registers) (s .surfaces) refl (limited (lengthsOf x s) (x .tables) good .registers-taint), unwritten _ (s .memory) (gather-spares-memory p _ (s .registers) (s .surfaces)))
+  acted-results operation.Scatter p few sound done =
+      (scatter.scatter-results _ (x .mask) p (s .registers) (s .memory) refl (limited (lengthsOf x s) (x .tables) good .memory-taint) done, unwritten _ (s .registers) (scatter-spares-registers _ p _ (s .registers)))
+  acted-results operation.Send p few sound done = absurd sound
+
+  -- a plan that is not refused has number 0, and its effect is that of its operation
+  accepted : (p : Plan) → planEffect (constantsOf x) p s .number ≡ 0 → p .number ≡ 0
+  unfolding planEffect
+  accepted p done = told (eqb (p .number) 0) refl
+    where
+      told : (q : Bool) → eqb (p .number) 0 ≡ q → p .number ≡ 0
+      told true e = eqb-true (p .number) 0 e
+      told false e = sym (ap (λ (f : Effect). f .number) (plan-refuses p (acted (constantsOf x) (p .operation) p s) (omega (arith, eqb-false (p .number) 0 e)))) ∙ done
+
+  acts : (p : Plan) → p .number ≡ 0 → planEffect (constantsOf x) p s ≡ acted (constantsOf x) (p .operation) p s
+  unfolding planEffect
+  acts p zero = plan-passes p _ zero
+
+  plan-leaves : (p : Plan) → Sound (length (s .registers .bytes)) (length (s .surfaces .bytes)) p → p .number ≡ 0 → planEffect (constantsOf x) p s .number ≡ 0
+      → Leaves x p s (after (planEffect (constantsOf x) p s) s)
+  plan-leaves p sound zero done =
+      let is = acts p zero in
+      record {
+        results = subst (λ (e : Effect). ResultsFor (p .operation) x p s (after e s)) (sym is)
+            (acted-results (p .operation) p (omega (arith, sound .lanes)) (sound .operands) (sym (ap (λ (e : Effect). e .number) is) ∙ done));
+        surfaces = refl;
+      }
+
+  -- the instruction at a position, decoded and not refused
+  pub step-leaves : (at : ℕ) (i : Instruction) (c : Cursor) → instructionAt (x .kernel) at ≡ decoded.Accepted i c → stepAt x at s .effect .number ≡ 0
+      → Leaves x (checked (x .tables) i) s (after (stepAt x at s .effect) s)
+  step-leaves at i c is done =
+      let p = checked (x .tables) i in
+      let effect : stepAt x at s .effect ≡ planEffect (constantsOf x) p s = step-is x s at i c is in
+      let done′ : planEffect (constantsOf x) p s .number ≡ 0 = sym (ap (λ (e : Effect). e .number) effect) ∙ done in
+      let zero : p .number ≡ 0 = accepted p done′ in
+      subst (λ (e : Effect). Leaves x p s (after e s)) (sym effect)
+      (plan-leaves p (plan-sound (lengthsOf x s) (x .tables) good i zero) zero done′)

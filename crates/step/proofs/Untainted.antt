@@ -1,0 +1,53 @@
+-- One step from two states with equal marks and equal untainted bytes: the same number and next position, and such states after it.
+use mathlib.Core.Path.{_≡_, refl}
+use mathlib.Core.Bool.{not}
+use Prim.Native.Nat.{ℕ}
+use lib.Dec.{eqb}
+use lib.ListN.{length}
+use Rattle.cells.proofs.Related.{none}
+use Rattle.cells.proofs.Untainted.{SameUntainted, AlikeEffects, unless-alike}
+use Rattle.decoder.specs.declared.Decoded.{Decoded}
+use Rattle.decoder.specs.declared.Decoded.the-variants as decoded
+use Rattle.decoder.specs.Decoding.{instructionAt}
+use Rattle.plan.specs.declared.Plan.{Plan}
+use Rattle.plan.specs.declared.Operation.{Operation}
+use Rattle.plan.specs.declared.Operation.the-variants as operation
+use Rattle.plan.specs.Checked.{checked}
+use Rattle.staging.specs.Lanes.{lanesOn}
+use Rattle.shl.proofs.Untainted.{shl-alike}
+use Rattle.gather.proofs.Untainted.{gather-alike}
+use Rattle.scatter.specs.Scatter.{scatterEffect}
+use Rattle.scatter.proofs.Untainted.{scatter-alike}
+use Rattle.step.specs.State.{Setup, constantsOf, State}
+use Rattle.step.specs.Step.{acted, planEffect, Stepped, stepAt}
+use Rattle.step.proofs.StepOf.{stepOf}
+use Rattle.step.proofs.SameStep.{SameStep, RelatedStates, alike-steps, refused-steps}
+
+abbrev pub AgreeingStates : State → State → Type 0
+AgreeingStates = RelatedStates SameUntainted
+
+module _ (x : Setup) (s u : State) (r : AgreeingStates s u) where
+  scattered : (p : Plan) (n m : ℕ) → m ≡ n → AlikeEffects (scatterEffect (record { base = x .base; length = n }) p (lanesOn (x .mask) p) (s .registers)) (scatterEffect (record { base = x .base; length = m }) p (lanesOn (x .mask) p) (u .registers))
+  scattered p n m e = rw e (scatter-alike (s .registers) (u .registers) (r .registers) p (record { base = x .base; length = n }) (lanesOn (x .mask) p))
+
+  acted-alike : (o : Operation) (p : Plan) → AlikeEffects (acted (constantsOf x) o p s) (acted (constantsOf x) o p u)
+  unfolding acted
+  acted-alike operation.Shl p = shl-alike p (lanesOn (x .mask) p) (s .registers) (u .registers) (r .registers)
+  acted-alike operation.Gather p = gather-alike (s .registers) (u .registers) (s .surfaces) (u .surfaces) (r .registers) (r .surfaces) p (lanesOn (x .mask) p)
+  acted-alike operation.Scatter p = scattered p (length (s .memory .bytes)) (length (u .memory .bytes)) (r .memory .bytes′)
+  acted-alike operation.Send p = record { number = refl; registers = none; memory = none }
+
+  plan-alike : (p : Plan) → AlikeEffects (planEffect (constantsOf x) p s) (planEffect (constantsOf x) p u)
+  unfolding planEffect
+  plan-alike p = unless-alike (not (eqb (p .number) 0)) _ (p .number) _ _ refl (λ _. acted-alike (p .operation) p)
+
+  abbrev stepped : State → ℕ → Decoded → Stepped
+  stepped v at = stepOf x (λ (p : Plan). planEffect (constantsOf x) p v) at
+
+  decoded-same : (at : ℕ) (d : Decoded) → SameStep AgreeingStates (stepped s at d) (stepped u at d) s u
+  decoded-same at (decoded.Refused n) = refused-steps SameUntainted s u r at n
+  decoded-same at (decoded.Accepted i c) = alike-steps SameUntainted s u r (c .at) _ _ (plan-alike (checked (x .tables) i))
+
+pub step-same : (x : Setup) (at : ℕ) (s u : State) → AgreeingStates s u → SameStep AgreeingStates (stepAt x at s) (stepAt x at u) s u
+unfolding stepAt
+step-same x at s u r = decoded-same x s u r at (instructionAt (x .kernel) at)

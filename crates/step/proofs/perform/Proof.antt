@@ -1,0 +1,34 @@
+-- `step::perform` meets its contract: a refusal, or what the executor of the operation left.
+use borrow.Author.Needs.{needs}
+use Rattle.step.proofs.perform.Statement.{statement}
+use Rattle.step.proofs.perform.Tie as tie
+use Rattle.step.proofs.PerformLaws.{refusal-performs, shl-performs, gather-performs, scatter-performs, send-performs}
+
+returns : tie.Need-returns
+returns c = refusal-performs _ _ _ (c .if1 .taken)
+
+returns-2 : tie.Need-returns-2
+returns-2 c =
+    let a = c .before .before .before .before in
+    let m = a .before .before .before in
+    shl-performs _ _ _ (m .before .before .if1 .left) _ _ (m .enum-told .given .1) (a .shl .ensures)
+
+returns-3 : tie.Need-returns-3
+returns-3 c =
+    let a = c .before .before .before .before in
+    let m = a .before .before .before in
+    gather-performs _ _ _ (m .before .before .if1 .left) _ _ (m .enum-told2 .given .1) (a .gather .ensures)
+
+returns-4 : tie.Need-returns-4
+returns-4 c =
+    let a = c .before .before .before .before in
+    let m = a .before .before .before .before .before in
+    scatter-performs _ _ _ (m .before .before .if1 .left) _ _ (m .enum-told3 .given .1) (a .scatter .ensures)
+
+returns-5 : tie.Need-returns-5
+returns-5 c = send-performs _ _ _ (c .before .before .if1 .left) (c .enum-told4 .given .1)
+
+pub perform-spec : {M : Type 1} → statement M
+perform-spec =
+    tie.close
+    (tie.spec returns (λ c. search needs) (λ c κs. search needs) (λ c. search needs) (λ c κs. search needs) (λ c. search needs) (λ c κs. search needs) (λ c. search needs) (λ c. search needs) (λ c. search needs) returns-2 (λ c. search needs) (λ c. search needs) returns-3 (λ c. search needs) (λ c. search needs) (λ c. search needs) (λ c. search needs) returns-4 returns-5)

@@ -1,0 +1,5 @@
+pub mod State
+pub mod Step
+pub mod Fits
+pub mod Guarded
+pub mod Performed

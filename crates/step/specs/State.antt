@@ -1,0 +1,49 @@
+-- What a run is over. Document 01, "What the bench runs": "Lent for a run: kernel bytes, register file, surface bytes, memory window with
+-- its 64-bit base, three tables, a 32-bit execution mask EM."
+use Prim.Native.Nat.{ℕ}
+use mathlib.Core.List.{List}
+use lib.ListN.{length}
+use Rattle.cells.specs.Buffer.{Buffer, buffer}
+use Rattle.tables.specs.declared.Lengths.{Lengths}
+use Rattle.tables.specs.Tables.{Tables}
+use Rattle.step.specs.declared.Constants.{Constants}
+
+-- what stays the same; the mask is the paper's EM
+pub record Setup : Type 0 where
+  pub kernel : List ℕ
+  pub tables : Tables
+  pub base : ℕ
+  pub mask : ℕ
+
+-- what an instruction may see of it
+abbrev pub constantsOf : Setup → Constants
+constantsOf x = record { base = x .base; mask = x .mask }
+
+-- what instructions read and write
+pub record State : Type 0 where
+  pub registers : Buffer
+  pub surfaces : Buffer
+  pub memory : Buffer
+
+abbrev pub setup : List ℕ → Tables → ℕ → ℕ → Setup
+setup kernel tables base mask = record { kernel = kernel; tables = tables; base = base; mask = mask }
+
+abbrev pub state : List ℕ → List ℕ → List ℕ → List ℕ → List ℕ → List ℕ → State
+state registers registerTaint surfaces surfaceTaint memory memoryTaint =
+    record { registers = buffer registers registerTaint; surfaces = buffer surfaces surfaceTaint; memory = buffer memory memoryTaint }
+
+-- all lengths that 13 looks at
+abbrev pub lengthsOf : Setup → State → Lengths
+lengthsOf x s =
+    record {
+      kernel = length (x .kernel);
+      registers = length (s .registers .bytes);
+      surfaces = length (s .surfaces .bytes);
+      memory = length (s .memory .bytes);
+      base = x .base;
+      taint = record {
+        registers = length (s .registers .taint);
+        surfaces = length (s .surfaces .taint);
+        memory = length (s .memory .taint);
+      };
+    }

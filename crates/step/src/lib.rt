@@ -1,0 +1,108 @@
+// One step of a run: what an instruction does, and the instruction at a position, over the caller's buffers.
+use decoder::Decoded;
+use plan::Operation;
+use plan::Plan;
+ghost use mathlib.Core.Path.{_≡_};
+ghost use Rattle.tables.specs.Tables.{tables};
+ghost use Rattle.step.specs.State.{setup, state};
+ghost use Rattle.step.specs.Performed.{performed, planPerformed, advanced, stepAdvanced};
+
+// What stays the same in a run beside the borrowed slices: the memory window's base, and the execution mask (EM).
+pub struct Constants {
+    pub base: u64,
+    pub mask: u32,
+}
+
+// What one instruction gave: its number, and where the next one begins.
+pub struct Progress {
+    pub number: u8,
+    pub next: usize,
+}
+
+// Does what a plan says: its refusal's number with nothing written, or the instruction's own number.
+fn perform(
+    plan: Plan,
+    constants: Constants,
+    surfaces: &[u8],
+    surface_taint: &[u8],
+    registers: &mut [u8],
+    register_taint: &mut [u8],
+    memory: &mut [u8],
+    memory_taint: &mut [u8],
+) -> u8
+    ensures { λ r. ⌜ performed r (state (now (registers .exit)) (now («register_taint» .exit)) (now (surfaces .entry)) (now («surface_taint» .entry)) (now (memory .exit)) (now («memory_taint» .exit))) ≡ planPerformed constants plan (state (now (registers .entry)) (now («register_taint» .entry)) (now (surfaces .entry)) (now («surface_taint» .entry)) (now (memory .entry)) (now («memory_taint» .entry))) ⌝ }
+{
+    if 0 < plan.number {
+        return plan.number;
+    }
+    let operation = plan.operation;
+    match operation {
+        Operation::Shl => shl::shl(plan, constants.mask, registers, register_taint),
+        Operation::Gather => gather::gather(
+            plan,
+            constants.mask,
+            registers,
+            register_taint,
+            surfaces,
+            surface_taint,
+        ),
+        Operation::Scatter => scatter::scatter(
+            plan,
+            constants.mask,
+            constants.base,
+            registers,
+            register_taint,
+            memory,
+            memory_taint,
+        ),
+        Operation::Send => 9,
+    }
+}
+
+// One instruction: decoded, tested, performed.
+pub fn step(
+    kernel: &[u8],
+    types: &[u8],
+    starts: &[u16],
+    counts: &[u16],
+    predicates: &[u32],
+    surface_lengths: &[u16],
+    constants: Constants,
+    at: usize,
+    surfaces: &[u8],
+    surface_taint: &[u8],
+    registers: &mut [u8],
+    register_taint: &mut [u8],
+    memory: &mut [u8],
+    memory_taint: &mut [u8],
+) -> Progress
+    ensures { λ r. ⌜ advanced r (state (now (registers .exit)) (now («register_taint» .exit)) (now (surfaces .entry)) (now («surface_taint» .entry)) (now (memory .exit)) (now («memory_taint» .exit))) ≡ stepAdvanced (setup (now (kernel .entry)) (tables (now (types .entry)) (now (starts .entry)) (now (counts .entry)) (now (predicates .entry)) (now («surface_lengths» .entry))) (constants .base) (constants .mask)) at (state (now (registers .entry)) (now («register_taint» .entry)) (now (surfaces .entry)) (now («surface_taint» .entry)) (now (memory .entry)) (now («memory_taint» .entry))) ⌝ }
+{
+    match decoder::decode(kernel, at) {
+        Decoded::Accepted(instruction, cursor) => {
+            let plan = plan::check(
+                types,
+                starts,
+                counts,
+                predicates,
+                surface_lengths,
+                instruction,
+            );
+            let number = perform(
+                plan,
+                constants,
+                surfaces,
+                surface_taint,
+                registers,
+                register_taint,
+                memory,
+                memory_taint,
+            );
+            Progress {
+                number,
+                next: cursor.at,
+            }
+        }
+        Decoded::Refused(number) => Progress { number, next: at },
+    }
+}
