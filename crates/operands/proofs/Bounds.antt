@@ -1,4 +1,4 @@
--- Powers of 256: what the code's numbers need to fit.
+-- Powers of 256: what the numbers of an immediate need to fit.
 use mathlib.Core.Path.{_≡_, refl}
 use Prim.Native.Nat.{ℕ, _*_, _%_, _^_, _≤_, _<_}
 use native.Mathlib.Omega.{arith}

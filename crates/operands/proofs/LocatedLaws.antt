@@ -1,16 +1,14 @@
 -- What is known of an accepted operand: its elements lie in the register file, a raw operand's one after the other, a destination's apart.
 use mathlib.Core.Path.{_≡_, refl, _∙_}
-use mathlib.Core.Bool.{true, false, not, _&&_, true≢false}
-use Prim.Native.Nat.{ℕ, _+_, _*_, _/_, _%_, _^_, _≤_, _<_}
+use mathlib.Core.Bool.{true, false, not, true≢false}
+use Prim.Native.Nat.{ℕ, _+_, _*_, _%_, _^_, _≤_, _<_}
 use native.Mathlib.Omega.{arith}
 use native.Mathlib.Nat.{mul-le-mul-right, mod-lt, one-le-pow}
 use lib.Dec.{ltb, leb, eqb, lit<}
 use lib.ListN.{length, getD}
 use borrow.Author.Tests.{ltb-true, leb-true, not-false}
-use Rattle.types.specs.Types.{sizeOf, isListed}
-use Rattle.types.proofs.Sizes.{register-whole}
-use Rattle.tables.specs.Lengths.{registerSize}
-use Rattle.tables.proofs.All.{left, right, all3}
+use Rattle.types.specs.Types.{sizeOf}
+use Rattle.tables.proofs.All.{right}
 use Rattle.tables.proofs.Placement.{Placed}
 use Rattle.channels.specs.Exec.{execSize}
 use Rattle.field_groups.specs.declared.General.{General}
@@ -20,17 +18,17 @@ use Rattle.field_groups.specs.declared.Operand.{Operand}
 use Rattle.field_groups.specs.declared.Operand.the-variants as operand
 use Rattle.regions.specs.declared.Role.{Role}
 use Rattle.regions.specs.declared.Role.the-variants as role
-use Rattle.operands.specs.declared.TypeRule.{TypeRule}
 use Rattle.regions.specs.declared.Variable.{Variable}
-use Rattle.operands.specs.declared.Elements.{Elements}
-use Rattle.operands.specs.declared.Located.{Located}
-use Rattle.operands.specs.Allowed.{typeAllowed}
 use Rattle.regions.specs.Regions.{regionGood, elementOf}
 use Rattle.regions.specs.Reach.{elementsGood}
 use Rattle.regions.specs.Positions.{elementByte}
 use Rattle.regions.proofs.ReachLaws.{cond-either, elements-inside}
 use Rattle.regions.proofs.PositionLaws.{position-of, byte-of}
 use Rattle.regions.proofs.RegionLaws as regions
+use Rattle.operands.specs.declared.TypeRule.{TypeRule}
+use Rattle.operands.specs.declared.Elements.{Elements}
+use Rattle.operands.specs.declared.Located.{Located}
+use Rattle.operands.specs.Allowed.{typeAllowed}
 use Rattle.operands.specs.Variables.{Variables, inTable, variableAt}
 use Rattle.operands.specs.Elements.{registerElements, lowBytes, immediateElement, refusal}
 use Rattle.operands.specs.Operands.{generalOf, generalAt, immediateOf, immediateAt, vectorAt, rawGood, rawOf, rawAt}

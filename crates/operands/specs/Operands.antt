@@ -12,14 +12,14 @@ use Rattle.field_groups.specs.declared.Operand.{Operand}
 use Rattle.field_groups.specs.declared.Operand.the-variants as operand
 use Rattle.regions.specs.declared.Role.{Role}
 use Rattle.regions.specs.declared.Role.the-variants as role
-use Rattle.operands.specs.declared.TypeRule.{TypeRule}
 use Rattle.regions.specs.declared.Variable.{Variable}
-use Rattle.operands.specs.declared.Located.{Located}
-use Rattle.operands.specs.Allowed.{typeAllowed}
 use Rattle.regions.specs.Regions.{regionGood, elementOf}
 use Rattle.regions.specs.Reach.{elementsGood}
-use Rattle.operands.specs.Variables.{Variables, inTable, variableAt}
 use Rattle.regions.specs.Positions.{elementByte}
+use Rattle.operands.specs.declared.TypeRule.{TypeRule}
+use Rattle.operands.specs.declared.Located.{Located}
+use Rattle.operands.specs.Allowed.{typeAllowed}
+use Rattle.operands.specs.Variables.{Variables, inTable, variableAt}
 use Rattle.operands.specs.Elements.{registerElements, immediateElement, refusal}
 
 -- a General operand of a variable in the table: 4, 6, 7

@@ -6,7 +6,7 @@ use field_groups::Raw;
 use regions::Role;
 use regions::Variable;
 ghost use mathlib.Core.Path.{_≡_};
-ghost use Prim.Native.Nat.{_+_, _*_, _<_};
+ghost use Prim.Native.Nat.{_<_};
 ghost use lib.ListN.{getD};
 ghost use Rattle.types.specs.Types.{sizeOf};
 ghost use Rattle.operands.specs.Allowed.{shiftType, dwordType, typeAllowed};

@@ -1,6 +1,6 @@
 -- Document 01's lines on regions, and the edges of their tests, computed.
 use mathlib.Core.Path.{_≡_, refl}
-use mathlib.Core.Bool.{Bool, cond, not, _&&_, _||_}
+use mathlib.Core.Bool.{cond, not, _&&_, _||_}
 use Prim.Native.Nat.{ℕ, _+_, _*_, _-_}
 use lib.Dec.{ltb, eqb}
 use Rattle.types.specs.Types.{UW, sizeOf}
