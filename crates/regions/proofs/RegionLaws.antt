@@ -9,10 +9,10 @@ use borrow.Author.Tests.{leb-true}
 use Rattle.types.specs.Types.{sizeOf, isListed}
 use Rattle.types.proofs.Sizes.{register-whole}
 use Rattle.tables.specs.Lengths.{registerSize}
-use Rattle.tables.proofs.All.{left, right, all3}
+use Rattle.tables.proofs.All.{left, right, all3, all4}
 use Rattle.field_groups.specs.declared.General.{General}
 use Rattle.regions.specs.declared.Role.the-variants as role
-use Rattle.regions.specs.Regions.{widthCode, horizontalCode, strideOf, between, destinationRegionGood, regionGood, firstElement, sourceElement, elementOf}
+use Rattle.regions.specs.Regions.{widthCode, horizontalCode, strideOf, between, sourceRegionGood, destinationRegionGood, regionGood, firstElement, sourceElement, elementOf}
 use Rattle.regions.specs.Reach.{lowest, highest, twoRegisters, reachGood}
 use Rattle.regions.specs.Positions.{elementByte}
 use Rattle.regions.proofs.ReachLaws.{lowest-each, highest-each}
@@ -27,6 +27,14 @@ lane-is g size i j h =
     let row : (i * width + j) / width ≡ i = mul-add-div-right some i j ∙ ap (λ n. i + n) (div-eq-of-lt h) ∙ omega arith in
     let place : (i * width + j) % width ≡ j = mul-add-mod-self-right i width j ∙ mod-eq-of-lt h in
     rw (row, place)
+
+-- a good source region has a width
+pub width-some : (region lanes : ℕ) → sourceRegionGood region lanes ≡ true → 0 < strideOf (widthCode region)
+unfolding sourceRegionGood between
+width-some region lanes h =
+    let code = widthCode region in
+    let a = all4 (leb 2 code && leb code 6) (leb (strideOf code) lanes) _ _ h .first in
+    stride-some code (leb-true 2 code (left (leb 2 code) (leb code 6) a)) (leb-true code 6 (right (leb 2 code) (leb code 6) a))
 
 -- from the first byte of any lane's element to the last byte of any other's are at most two registers
 pub reach-each : (f : ℕ → ℕ) (lanes start size : ℕ) → reachGood f lanes start size ≡ true → (j k : ℕ) → j < lanes → k < lanes
