@@ -1,16 +1,14 @@
 -- What is known of an accepted operand: its elements lie in the register file, a raw operand's one after the other, a destination's apart.
-use mathlib.Core.Path.{_≡_, refl}
-use mathlib.Core.Bool.{true, false, not, _&&_, true≢false}
-use Prim.Native.Nat.{ℕ, _+_, _*_, _/_, _%_, _^_, _≤_, _<_}
+use mathlib.Core.Path.{_≡_, refl, _∙_}
+use mathlib.Core.Bool.{true, false, not, true≢false}
+use Prim.Native.Nat.{ℕ, _+_, _*_, _%_, _^_, _≤_, _<_}
 use native.Mathlib.Omega.{arith}
 use native.Mathlib.Nat.{mul-le-mul-right, mod-lt, one-le-pow}
 use lib.Dec.{ltb, leb, eqb, lit<}
 use lib.ListN.{length, getD}
 use borrow.Author.Tests.{ltb-true, leb-true, not-false}
-use Rattle.types.specs.Types.{sizeOf, isListed}
-use Rattle.types.proofs.Sizes.{register-whole}
-use Rattle.tables.specs.Lengths.{registerSize}
-use Rattle.tables.proofs.All.{left, right, all3}
+use Rattle.types.specs.Types.{sizeOf}
+use Rattle.tables.proofs.All.{right}
 use Rattle.tables.proofs.Placement.{Placed}
 use Rattle.channels.specs.Exec.{execSize}
 use Rattle.field_groups.specs.declared.General.{General}
@@ -18,20 +16,22 @@ use Rattle.field_groups.specs.declared.Immediate.{Immediate}
 use Rattle.field_groups.specs.declared.Raw.{Raw}
 use Rattle.field_groups.specs.declared.Operand.{Operand}
 use Rattle.field_groups.specs.declared.Operand.the-variants as operand
-use Rattle.operands.specs.declared.Role.{Role}
-use Rattle.operands.specs.declared.Role.the-variants as role
+use Rattle.regions.specs.declared.Role.{Role}
+use Rattle.regions.specs.declared.Role.the-variants as role
+use Rattle.regions.specs.declared.Variable.{Variable}
+use Rattle.regions.specs.Regions.{regionGood, elementOf}
+use Rattle.regions.specs.Reach.{elementsGood}
+use Rattle.regions.specs.Positions.{elementByte}
+use Rattle.regions.proofs.ReachLaws.{cond-either, elements-inside}
+use Rattle.regions.proofs.PositionLaws.{position-of, byte-of}
+use Rattle.regions.proofs.RegionLaws as regions
 use Rattle.operands.specs.declared.TypeRule.{TypeRule}
-use Rattle.operands.specs.declared.Variable.{Variable}
 use Rattle.operands.specs.declared.Elements.{Elements}
 use Rattle.operands.specs.declared.Located.{Located}
 use Rattle.operands.specs.Allowed.{typeAllowed}
-use Rattle.operands.specs.Regions.{horizontalCode, strideOf, between, destinationRegionGood, regionGood, firstElement, elementOf}
 use Rattle.operands.specs.Variables.{Variables, inTable, variableAt}
-use Rattle.operands.specs.Elements.{elementByte, registerElements, lowBytes, immediateElement, refusal}
-use Rattle.operands.specs.Operands.{elementsGood, generalOf, generalAt, immediateOf, immediateAt, vectorAt, rawGood, rawOf, rawAt}
-use Rattle.operands.proofs.ReachLaws.{cond-either, inside-each}
-use Rattle.operands.proofs.PositionLaws.{position-of}
-use Rattle.operands.proofs.GridLaws.{stride-some}
+use Rattle.operands.specs.Elements.{registerElements, lowBytes, immediateElement, refusal}
+use Rattle.operands.specs.Operands.{generalOf, generalAt, immediateOf, immediateAt, vectorAt, rawGood, rawOf, rawAt}
 use Rattle.operands.proofs.AllowedLaws.{RuleSize, rule-size}
 
 -- every variable of the table lies in a register file of this length, as good tables say
@@ -82,15 +82,14 @@ module _ (registers : ℕ) where
 
   general-fine : (o : Role) (r : TypeRule) (lanes : ℕ) (g : General) (v : Variable) → lanes ≤ 32 → Placed registers (v .code) (v .start) (v .count)
       → Fine lanes r (generalOf o r lanes g v)
-  unfolding generalOf refusal elementsGood elementByte
+  unfolding generalOf refusal
   general-fine o r lanes g v few p =
       let f = elementOf o g (sizeOf (v .code)) in
       cond-either (Fine lanes r) (not (typeAllowed r (v .code))) (λ _ z. absurd (omega (arith, z)))
       (λ a. cond-either (Fine lanes r) (not (regionGood o (g .region) lanes)) (λ _ z. absurd (omega (arith, z)))
       (λ _. cond-either (Fine lanes r) (not (elementsGood v f lanes)) (λ _ z. absurd (omega (arith, z)))
       (λ e _. register-accepted lanes r (v .code) (elementByte (v .start) (sizeOf (v .code)) f) few (not-false _ a)
-      (λ k l. element-inside registers (v .code) (v .start) (v .count) (f k) p
-      (inside-each f (v .count) lanes (left _ _ (not-false _ e)) k l)))))
+      (λ k l. rw (byte-of (v .start) (sizeOf (v .code)) f k) (element-inside registers (v .code) (v .start) (v .count) (f k) p (elements-inside v f lanes (not-false _ e) k l))))))
 
   immediate-fine : (lanes : ℕ) (r : TypeRule) (i : Immediate) → Fine lanes r (immediateOf r i)
   unfolding immediateOf immediateElement refusal lowBytes
@@ -110,7 +109,7 @@ module _ (registers : ℕ) where
 
   raw-fine : (r : TypeRule) (lanes bytes offset : ℕ) (v : Variable) → lanes ≤ 32 → ((size : ℕ) → RuleSize r size → lanes * size ≤ bytes)
       → Placed registers (v .code) (v .start) (v .count) → Fine lanes r (rawOf r bytes offset v)
-  unfolding rawOf refusal rawGood elementByte
+  unfolding rawOf refusal rawGood
   raw-fine r lanes bytes offset v few room p =
       let size = sizeOf (v .code) in
       cond-either (Fine lanes r) (not (typeAllowed r (v .code))) (λ _ z. absurd (omega (arith, z)))
@@ -120,6 +119,7 @@ module _ (registers : ℕ) where
       let m : k + 1 ≤ lanes = omega arith in
       omega (
         arith,
+        byte-of (v .start + offset) size (λ j. j) k,
         mul-le-mul-right size m,
         room size (rule-size (v .code) r (not-false _ a)),
         leb-true (offset + bytes) (v .count * size) (right (eqb (offset % size) 0) (leb (offset + bytes) (v .count * size)) (not-false _ e)),
@@ -128,11 +128,11 @@ module _ (registers : ℕ) where
 
   raw-consecutive : (r : TypeRule) (bytes offset : ℕ) (v : Variable) → Placed registers (v .code) (v .start) (v .count)
       → rawOf r bytes offset v .number ≡ 0 → Consecutive registers bytes (rawOf r bytes offset v .elements)
-  unfolding rawOf refusal rawGood registerElements elementByte
+  unfolding rawOf refusal rawGood registerElements
   raw-consecutive r bytes offset v p =
       let size = sizeOf (v .code) in
       let P : Located → Type 0 = λ l. l .number ≡ 0 → Consecutive registers bytes (l .elements) in
-      let at = position-of (elementByte (v .start + offset) size (λ k. k)) in
+      let at : (k : ℕ) → k < 32 → _ = λ k h. position-of (elementByte (v .start + offset) size (λ j. j)) k h ∙ byte-of (v .start + offset) size (λ j. j) k in
       cond-either P (not (typeAllowed r (v .code))) (λ _ z. absurd (omega (arith, z)))
       (λ _. cond-either P (not (rawGood v offset bytes)) (λ _ z. absurd (omega (arith, z)))
       (λ e _. record {
@@ -163,34 +163,20 @@ module _ (registers : ℕ) where
         (λ _ z. absurd (omega (arith, z)))
         (λ e. raw-consecutive r bytes (x .offset) (variableAt t (x .index)) (all (x .index) (ltb-true _ _ (not-false _ e))))
 
-apart-plain : (start first stride size j k : ℕ) → 0 < stride → j < k → start + (first + j * stride) * size + size ≤ start + (first + k * stride) * size
-apart-plain start first stride size j k s h =
-    let a : j + 1 ≤ k = omega arith in
-    let b : first + j * stride + 1 ≤ first + k * stride = omega (arith, mul-le-mul-right stride a) in
-    omega (arith, mul-le-mul-right size b)
-
-destination-stride : (region : ℕ) → destinationRegionGood region ≡ true → 0 < strideOf (horizontalCode region)
-unfolding destinationRegionGood between
-destination-stride region h =
-    let code = horizontalCode region in
-    let a = all3 (leb 2 code && leb code 4) _ _ h .first in
-    let b = leb-true code 4 (right (leb 2 code) (leb code 4) a) in
-    stride-some code (leb-true 2 code (left (leb 2 code) (leb code 4) a)) (omega arith)
-
 general-apart : (r : TypeRule) (lanes : ℕ) (g : General) (v : Variable) → generalOf role.Destination r lanes g v .number ≡ 0
     → Apart (generalOf role.Destination r lanes g v .elements)
-unfolding generalOf regionGood refusal registerElements elementByte elementOf
+unfolding generalOf refusal registerElements
 general-apart r lanes g v =
     let P : Located → Type 0 = λ l. l .number ≡ 0 → Apart (l .elements) in
     let size = sizeOf (v .code) in
     let f = elementOf role.Destination g size in
     let at = position-of (elementByte (v .start) size f) in
     cond-either P (not (typeAllowed r (v .code))) (λ _ z. absurd (omega (arith, z)))
-    (λ _. cond-either P (not (destinationRegionGood (g .region))) (λ _ z. absurd (omega (arith, z)))
+    (λ _. cond-either P (not (regionGood role.Destination (g .region) lanes)) (λ _ z. absurd (omega (arith, z)))
     (λ e. cond-either P (not (elementsGood v f lanes)) (λ _ z. absurd (omega (arith, z)))
     (λ _ _. record {
       in-registers = refl;
-      each = λ j k l m. rw (at j (omega arith), at k m) (apart-plain (v .start) (firstElement g size) (strideOf (horizontalCode (g .region))) size j k (destination-stride (g .region) (not-false _ e)) l);
+      each = λ j k l m. rw (at j (omega arith), at k m) (regions.destination-apart g lanes (v .start) size j k (not-false _ e) l);
     })))
 
 pub destination-apart : (t : Variables) (r : TypeRule) (exec : ℕ) (x : Operand) → vectorAt t role.Destination r exec x .number ≡ 0
@@ -200,7 +186,3 @@ destination-apart t r exec (operand.General g) =
     cond-either (λ (l : Located). l .number ≡ 0 → Apart (l .elements)) (not (inTable t (g .index))) (λ _ z. absurd (omega (arith, z)))
     (λ _. general-apart r (execSize exec) g (variableAt t (g .index)))
 destination-apart t r exec (operand.Immediate i) = λ z. absurd (omega (arith, z))
-
--- "32/size" is exact: a row of elements is a register
-pub row-whole : (code : ℕ) → isListed code ≡ true → registerSize / sizeOf code * sizeOf code ≡ registerSize
-row-whole = register-whole registerSize refl

@@ -10,21 +10,17 @@ use Rattle.field_groups.specs.declared.Immediate.{Immediate}
 use Rattle.field_groups.specs.declared.Raw.{Raw}
 use Rattle.field_groups.specs.declared.Operand.{Operand}
 use Rattle.field_groups.specs.declared.Operand.the-variants as operand
-use Rattle.operands.specs.declared.Role.{Role}
-use Rattle.operands.specs.declared.Role.the-variants as role
+use Rattle.regions.specs.declared.Role.{Role}
+use Rattle.regions.specs.declared.Role.the-variants as role
+use Rattle.regions.specs.declared.Variable.{Variable}
+use Rattle.regions.specs.Regions.{regionGood, elementOf}
+use Rattle.regions.specs.Reach.{elementsGood}
+use Rattle.regions.specs.Positions.{elementByte}
 use Rattle.operands.specs.declared.TypeRule.{TypeRule}
-use Rattle.operands.specs.declared.Variable.{Variable}
 use Rattle.operands.specs.declared.Located.{Located}
 use Rattle.operands.specs.Allowed.{typeAllowed}
-use Rattle.operands.specs.Regions.{regionGood, elementOf}
-use Rattle.operands.specs.Reach.{insideVariable, reachGood}
 use Rattle.operands.specs.Variables.{Variables, inTable, variableAt}
-use Rattle.operands.specs.Elements.{elementByte, registerElements, immediateElement, refusal}
-
--- "All ExecSize elements .. lie in the variable and touch at most two adjacent registers, lowest byte to highest."
-unfoldable pub elementsGood : Variable → (ℕ → ℕ) → ℕ → Bool
-elementsGood v element lanes =
-    insideVariable element lanes (v .count) && reachGood element lanes (v .start) (sizeOf (v .code))
+use Rattle.operands.specs.Elements.{registerElements, immediateElement, refusal}
 
 -- a General operand of a variable in the table: 4, 6, 7
 unfoldable pub generalOf : Role → TypeRule → ℕ → General → Variable → Located

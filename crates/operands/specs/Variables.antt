@@ -4,7 +4,7 @@ use mathlib.Core.Bool.{Bool}
 use mathlib.Core.List.{List}
 use lib.Dec.{ltb}
 use lib.ListN.{length, getD}
-use Rattle.operands.specs.declared.Variable.{Variable}
+use Rattle.regions.specs.declared.Variable.{Variable}
 
 pub record Variables : Type 0 where
   pub types : List ℕ

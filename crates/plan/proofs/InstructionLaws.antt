@@ -14,7 +14,7 @@ use Rattle.decoder.specs.declared.RawSend.{RawSend}
 use Rattle.decoder.specs.declared.Instruction.{Instruction}
 use Rattle.decoder.specs.declared.Instruction.the-variants as instruction
 use Rattle.operands.specs.Variables.{Variables}
-use Rattle.operands.proofs.ReachLaws.{cond-either}
+use Rattle.regions.proofs.ReachLaws.{cond-either}
 use Rattle.plan.specs.declared.Operation.{Operation}
 use Rattle.plan.specs.declared.Operation.the-variants as operation
 use Rattle.plan.specs.declared.Part.{Part}

@@ -19,10 +19,10 @@ use Rattle.decoder.specs.declared.Scatter.{Scatter}
 use Rattle.decoder.specs.declared.RawSend.{RawSend}
 use Rattle.decoder.specs.declared.Instruction.{Instruction}
 use Rattle.decoder.specs.declared.Instruction.the-variants as instruction
-use Rattle.operands.specs.declared.Role.the-variants as role
+use Rattle.regions.specs.declared.Role.the-variants as role
 use Rattle.operands.specs.declared.TypeRule.the-variants as rule
 use Rattle.operands.specs.Variables.{Variables}
-use Rattle.operands.proofs.ReachLaws.{cond-either}
+use Rattle.regions.proofs.ReachLaws.{cond-either}
 use Rattle.operands.proofs.LocatedLaws.{AllPlaced, Accepted, Consecutive, Apart, vector-accepted, raw-accepted, raw-whole, destination-apart}
 use Rattle.plan.specs.declared.Operation.{Operation}
 use Rattle.plan.specs.declared.Operation.the-variants as operation

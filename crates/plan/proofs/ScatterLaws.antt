@@ -8,8 +8,8 @@ use lib.Dec.{ltb}
 use borrow.Author.Count.{below-more}
 use Rattle.types.proofs.Sizes.{sizes}
 use Rattle.channels.specs.Exec.{execSize}
-use Rattle.operands.proofs.Bounds.{times}
-use Rattle.operands.proofs.ReachLaws.{cond-either}
+use Rattle.regions.proofs.Bounds.{times}
+use Rattle.regions.proofs.ReachLaws.{cond-either}
 use Rattle.plan.specs.Needed.{enabledBelow, channelStride, scatterNeeded}
 
 -- an enabled channel counts among those below a later one

@@ -7,7 +7,7 @@ use lib.Dec.{ltb}
 use borrow.Author.Tests.{ltb-true, ltb-false}
 use Rattle.channels.specs.Exec.{execSize, execOffset}
 use Rattle.field_groups.specs.declared.Control.{Control}
-use Rattle.operands.proofs.ReachLaws.{cond-either}
+use Rattle.regions.proofs.ReachLaws.{cond-either}
 use Rattle.plan.specs.declared.Plan.{Plan}
 use Rattle.plan.specs.Control.{controlRefusal}
 use Rattle.plan.specs.Plans.{refusal, tested}

@@ -16,7 +16,7 @@ use Rattle.decoder.specs.declared.RawSend.{RawSend}
 use Rattle.decoder.specs.declared.Instruction.{Instruction}
 use Rattle.decoder.specs.declared.Instruction.the-variants as instruction
 use Rattle.operands.specs.declared.Located.{Located}
-use Rattle.operands.specs.declared.Role.the-variants as role
+use Rattle.regions.specs.declared.Role.the-variants as role
 use Rattle.operands.specs.declared.TypeRule.the-variants as rule
 use Rattle.operands.specs.Variables.{Variables, variables}
 use Rattle.operands.specs.Operands.{vectorAt, rawAt}

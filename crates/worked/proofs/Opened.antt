@@ -16,11 +16,12 @@ use Rattle.tables.specs.Lengths.{registersGood, addressesGood, taintGood, lengt
 use Rattle.tables.specs.Surfaces.{surfaceLength, surfaceStart, surfaceGoodAt, surfacesGood}
 use Rattle.tables.specs.Tables.{tablesGood}
 use Rattle.tables.specs.Variables.{lineGood, variableGood, variableGoodAt, variablesGood}
+use Rattle.regions.specs.Positions.{filled, lanePositions, elementByte}
+use Rattle.regions.specs.Reach.{smaller, larger, highest, insideVariable, twoRegisters, reachGood, elementsGood}
+use Rattle.regions.specs.Regions.{verticalCode, widthCode, horizontalCode, strideOf, between, sourceRegionGood, scalarRegionGood, destinationRegionGood, firstElement, sourceElement, elementOf}
 use Rattle.operands.specs.Allowed.{shiftType, dwordType, typeAllowed}
-use Rattle.operands.specs.Elements.{filled, lanePositions, elementByte, registerElements, lowBytes, immediateElement}
-use Rattle.operands.specs.Operands.{elementsGood, generalOf, immediateOf, vectorAt, rawGood, rawOf}
-use Rattle.operands.specs.Reach.{smaller, larger, highest, insideVariable, twoRegisters, reachGood}
-use Rattle.operands.specs.Regions.{verticalCode, widthCode, horizontalCode, strideOf, between, sourceRegionGood, scalarRegionGood, destinationRegionGood, firstElement, sourceElement, elementOf}
+use Rattle.operands.specs.Elements.{registerElements, lowBytes, immediateElement}
+use Rattle.operands.specs.Operands.{generalOf, immediateOf, vectorAt, rawGood, rawOf}
 use Rattle.operands.specs.Variables.{inTable, variableAt}
 use Rattle.plan.specs.Checked.{shlDst, shlSrc0, shlSrc1, checkedShl, gatherOffset, gatherElementOffset, gatherDst, checkedGather, surfacePart, checkedSurface, scatterAddress, scatterElementOffset, scatterSrc, checkedScatter, sendDesc, sendSrc, sendDst, checkedSend, checkedOperands, checked}
 use Rattle.plan.specs.Control.{controlOf, controlRefusal, predicateBits}
@@ -42,8 +43,8 @@ use Rattle.fields.specs.Rules as rules
 use Rattle.field_groups.specs.Reading as groups
 use Rattle.operands.specs.Elements as elements
 use Rattle.operands.specs.Operands as operands
-use Rattle.operands.specs.Reach as reach
-use Rattle.operands.specs.Regions as regions
+use Rattle.regions.specs.Reach as reach
+use Rattle.regions.specs.Regions as regions
 use Rattle.plan.specs.Plans as plans
 use Rattle.shift.specs.Exact as exact
 

@@ -1,10 +1,7 @@
 -- `operands::general_in` meets its contract: at each return, what the calls and tests on the way say picks the case of `Operands`.
-use mathlib.Core.Path.{_≡_, ap}
-use Prim.Native.Nat.{ℕ, _<_}
+use mathlib.Core.Path.{ap}
 use borrow.Author.Needs.{needs}
-use Rattle.channels.specs.Exec.{execSize}
 use Rattle.channels.specs.declared.Exec.{Exec}
-use Rattle.channels.proofs.ExecLaws.{size-at-least}
 use Rattle.operands.specs.Variables.{inTable}
 use Rattle.operands.specs.Operands.{generalAt}
 use Rattle.operands.proofs.general_in.Statement.{statement}
@@ -16,12 +13,6 @@ returns c =
     let a = c .before in
     rw (a .if1 .taken, ← c .refused .ensures)
 
-sized : (exec lanes : ℕ) → lanes ≡ execSize exec → 0 < lanes
-sized exec lanes e = rw e (size-at-least exec)
-
-locate-general-requires : tie.Need-locate-general-requires
-locate-general-requires c κs = sized _ _ (ap (λ (e : Exec). e .size) (c .before .split .ensures))
-
 returns-2 : tie.Need-returns-2
 unfolding generalAt inTable
 returns-2 c =
@@ -31,4 +22,4 @@ returns-2 c =
     rw (d .if1 .left, ← ap (λ (e : Exec). e .size) (b .split .ensures), ← a .variable-at .ensures, ← c .locate-general .ensures)
 
 pub general-in-spec : {M : Type 1} → statement M
-general-in-spec = tie.close (tie.spec (λ c. search needs) (λ c κs. search needs) returns (λ c κs. search needs) (λ c κs. search needs) locate-general-requires returns-2)
+general-in-spec = tie.close (tie.spec (λ c. search needs) (λ c κs. search needs) returns (λ c κs. search needs) (λ c κs. search needs) (λ c κs. search needs) returns-2)

@@ -2,7 +2,7 @@
 use native.Mathlib.Omega.{arith}
 use borrow.Author.Needs.{needs}
 use Rattle.operands.specs.Operands.{rawGood}
-use Rattle.operands.proofs.Bounds.{times}
+use Rattle.regions.proofs.Bounds.{times}
 use Rattle.operands.proofs.raw_good.Statement.{statement}
 use Rattle.operands.proofs.raw_good.Tie as tie
 

@@ -3,7 +3,6 @@ use borrow.Author.Needs.{needs}
 use Rattle.operands.specs.Elements.{registerElements}
 use Rattle.operands.specs.Operands.{rawOf}
 use Rattle.operands.proofs.AllowedLaws.{size-some}
-use Rattle.operands.proofs.GridLaws.{consecutive-elements}
 use Rattle.operands.proofs.raw_of.Statement.{statement}
 use Rattle.operands.proofs.raw_of.Tie as tie
 
@@ -30,13 +29,13 @@ returns-2 c =
 returns-3 : tie.Need-returns-3
 unfolding rawOf registerElements
 returns-3 c =
-    let a = c .before .before in
+    let a = c .before in
     let b = a .before in
     let d = b .before in
     let e = d .before in
     let f = e .before in
     let g = f .before in
-    rw (← g .type-allowed .ensures, f .if1 .left, ← e .size-of .ensures, ← d .raw-good .ensures, b .if2 .left, ← a .is-signed .ensures, ← consecutive-elements, ← c .lane-positions .ensures)
+    rw (← g .type-allowed .ensures, f .if1 .left, ← d .raw-good .ensures, b .if2 .left, ← c .raw-positions .ensures, ← e .size-of .ensures, ← a .is-signed .ensures)
 
 pub raw-of-spec : {M : Type 1} → statement M
-raw-of-spec = tie.close (tie.spec (λ c κs. search needs) (λ c κs. search needs) returns (λ c κs. search needs) raw-good-requires (λ c κs. search needs) returns-2 (λ c κs. search needs) (λ c. search needs) (λ c. search needs) (λ c κs. search needs) returns-3)
+raw-of-spec = tie.close (tie.spec (λ c κs. search needs) (λ c κs. search needs) returns (λ c κs. search needs) raw-good-requires (λ c κs. search needs) returns-2 (λ c κs. search needs) (λ c κs. search needs) returns-3)

@@ -2,7 +2,7 @@
 use mathlib.Core.Path.{ap}
 use Rattle.channels.specs.declared.Exec.{Exec}
 use native.Mathlib.Omega.{arith}
-use Rattle.operands.proofs.Bounds.{times}
+use Rattle.regions.proofs.Bounds.{times}
 use borrow.Author.Needs.{needs}
 use Rattle.plan.specs.Needed.{elementsNeeded}
 use Rattle.plan.proofs.elements_needed.Statement.{statement}

@@ -3,7 +3,7 @@ use mathlib.Core.Path.{_≡_, ap}
 use Prim.Native.Nat.{ℕ, _+_, _*_, _-_, _≤_}
 use native.Mathlib.Omega.{arith}
 use Rattle.channels.specs.declared.Exec.{Exec}
-use Rattle.operands.proofs.Bounds.{times}
+use Rattle.regions.proofs.Bounds.{times}
 use borrow.Author.Needs.{needs}
 use Rattle.plan.specs.Needed.{scatterNeeded}
 use Rattle.plan.proofs.scatter_needed.Statement.{statement}

@@ -1,0 +1,52 @@
+-- A grid's elements are those that `Regions` says.
+use mathlib.Core.Path.{_≡_, refl, fun-ext}
+use Prim.Native.Nat.{ℕ, _+_, _*_, _/_, _%_, _≤_, _<_}
+use native.Mathlib.Omega.{arith}
+use native.Mathlib.Nat.{div-one, mod-one}
+use lib.Dec.{eqb}
+use borrow.Author.Tests.{eqb-false}
+use Rattle.field_groups.specs.declared.General.{General}
+use Rattle.regions.specs.declared.Role.{Role}
+use Rattle.regions.specs.declared.Role.the-variants as role
+use Rattle.regions.specs.declared.Grid.{Grid}
+use Rattle.regions.specs.Regions.{strideOf, sourceElement, elementOf}
+use Rattle.regions.specs.Grid.{gridElement, gridOf, consecutive}
+use Rattle.regions.proofs.ReachLaws.{cond-either}
+
+none : (n : ℕ) → 2 ≤ n → n ≤ 6 → (n ≡ 2 → ⊥) → (n ≡ 3 → ⊥) → (n ≡ 4 → ⊥) → (n ≡ 5 → ⊥) → (n ≡ 6 → ⊥) → ⊥
+none n low high two three four five six = omega arith
+
+scaled : (first k stride : ℕ) → first + k / 1 * stride + k % 1 * 0 ≡ first + k * stride
+scaled first k stride = rw (div-one k, mod-one k) (omega arith)
+
+grid-is : (r : Role) (g : General) (size k : ℕ) → gridElement (gridOf r g size) k ≡ elementOf r g size k
+unfolding gridElement gridOf elementOf sourceElement
+grid-is role.Source g size k = refl
+grid-is role.Scalar g size k = omega arith
+grid-is role.Destination g size k = scaled _ k _
+
+pub grid-elements : (r : Role) (g : General) (size : ℕ) → gridElement (gridOf r g size) ≡ elementOf r g size
+grid-elements r g size = fun-ext (grid-is r g size)
+
+-- as the code learns it
+pub grid-known : (r : Role) (g : General) (size whole : ℕ) (grid : Grid) → size ≡ whole → grid ≡ gridOf r g size → gridElement grid ≡ elementOf r g whole
+grid-known r g size whole grid e h = rw (h, e) (grid-elements r g whole)
+
+consecutive-is : (k : ℕ) → gridElement consecutive k ≡ k
+unfolding gridElement
+consecutive-is k = rw (div-one k, mod-one k) (omega arith)
+
+pub consecutive-elements : gridElement consecutive ≡ (λ k. k)
+consecutive-elements = fun-ext consecutive-is
+
+-- a code from 2 on has a stride
+pub stride-some : (code : ℕ) → 2 ≤ code → code ≤ 6 → 0 < strideOf code
+unfolding strideOf
+stride-some code low high =
+    let P : ℕ → Type 0 = λ n. 0 < n in
+    cond-either P (eqb code 2) (λ _. omega arith)
+    (λ two. cond-either P (eqb code 3) (λ _. omega arith)
+    (λ three. cond-either P (eqb code 4) (λ _. omega arith)
+    (λ four. cond-either P (eqb code 5) (λ _. omega arith)
+    (λ five. cond-either P (eqb code 6) (λ _. omega arith)
+    (λ six. absurd (none code low high (eqb-false code 2 two) (eqb-false code 3 three) (eqb-false code 4 four) (eqb-false code 5 five) (eqb-false code 6 six)))))))

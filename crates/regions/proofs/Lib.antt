@@ -1,0 +1,6 @@
+pub mod Bounds
+pub mod ReachLaws
+pub mod RegionLaws
+pub mod GridLaws
+pub mod PositionLaws
+pub mod Worked

@@ -1,0 +1,113 @@
+-- The lowest and the highest element: a lane more, bounds of every lane, and what the test of the highest says of all.
+use mathlib.Core.Path.{_≡_, refl, sym}
+use mathlib.Core.Bool.{Bool, true, false, cond, _||_}
+use Prim.Native.Nat.{ℕ, zero, suc, _+_, _≤_, _<_}
+use native.Mathlib.Omega.{arith}
+use native.Mathlib.Numerals.{add-one}
+use native.Mathlib.Nat.{not-suc-le-zero}
+use lib.Dec.{ltb, eqb}
+use borrow.Author.Tests.{ltb-true, ltb-false, lt-ltb, le-ltb, ne-eqb}
+use borrow.Author.Count.{below-more}
+use Rattle.tables.specs.Every.{every}
+use Rattle.tables.proofs.All.{left}
+use Rattle.tables.proofs.Every.{every-none, every-next, every-each, every-fails}
+use Rattle.regions.specs.declared.Variable.{Variable}
+use Rattle.regions.specs.Reach.{smaller, larger, lowest, highest, insideVariable, elementsGood}
+
+-- what holds of both cases of a test holds of the choice
+pub cond-either : {X : Type 0} (P : X → Type 0) (b : Bool) {x y : X} → (b ≡ true → P x) → (b ≡ false → P y) → P (cond b x y)
+cond-either P true p q = p refl
+cond-either P false p q = q refl
+
+pub lowest-next : (f : ℕ → ℕ) (n low element result : ℕ) → low ≡ lowest f n → element ≡ f n → result ≡ smaller low element → result ≡ lowest f (n + 1)
+unfolding lowest
+lowest-next f n low element result e h r = rw (add-one n, ← e, ← h) r
+
+pub highest-next : (f : ℕ → ℕ) (n high element result : ℕ) → high ≡ highest f n → element ≡ f n → result ≡ larger high element → result ≡ highest f (n + 1)
+unfolding highest
+highest-next f n high element result e h r = rw (add-one n, ← e, ← h) r
+
+smaller-bounds : (a b : ℕ) → (smaller a b ≤ a) × (smaller a b ≤ b)
+unfolding smaller
+smaller-bounds a b =
+    cond-either (λ (n : ℕ). (n ≤ a) × (n ≤ b)) (ltb b a)
+    (λ h. (omega (arith, ltb-true b a h), omega arith)) (λ h. (omega arith, ltb-false b a h))
+
+larger-bounds : (a b : ℕ) → (a ≤ larger a b) × (b ≤ larger a b)
+unfolding larger
+larger-bounds a b =
+    cond-either (λ (n : ℕ). (a ≤ n) × (b ≤ n)) (ltb a b)
+    (λ h. (omega (arith, ltb-true a b h), omega arith)) (λ h. (omega arith, ltb-false a b h))
+
+-- no lane is below the lowest, none above the highest
+pub lowest-each : (f : ℕ → ℕ) (n k : ℕ) → k < n → lowest f n ≤ f k
+unfolding lowest
+lowest-each f zero k h = absurd (not-suc-le-zero h)
+lowest-each f (suc n) k h =
+    let b = smaller-bounds (lowest f n) (f n) in
+    below-more (λ (j : ℕ). smaller (lowest f n) (f n) ≤ f j) n (λ j l. omega (arith, lowest-each f n j l, b .0)) (b .1) k (rw (add-one n) h)
+
+pub highest-each : (f : ℕ → ℕ) (n k : ℕ) → k < n → f k ≤ highest f n
+unfolding highest
+highest-each f zero k h = absurd (not-suc-le-zero h)
+highest-each f (suc n) k h =
+    let b = larger-bounds (highest f n) (f n) in
+    below-more (λ (j : ℕ). f j ≤ larger (highest f n) (f n)) n (λ j l. omega (arith, highest-each f n j l, b .0)) (b .1) k (rw (add-one n) h)
+
+-- the highest is some lane's
+pub record LaneOf (f : ℕ → ℕ) (n value : ℕ) : Type 0 where
+  pub lane : ℕ
+  pub below : lane < n
+  pub same : value ≡ f lane
+
+here : (f : ℕ → ℕ) (n : ℕ) → LaneOf f (suc n) (f n)
+here f n = record { lane = n; below = omega arith; same = refl }
+
+later : (f : ℕ → ℕ) (n value : ℕ) → LaneOf f n value → LaneOf f (suc n) value
+later f n value a = record { lane = a .lane; below = omega (arith, a .below); same = a .same }
+
+pub highest-some : (f : ℕ → ℕ) (n : ℕ) → LaneOf f (suc n) (highest f (suc n))
+unfolding highest larger
+highest-some f zero = cond-either (LaneOf f 1) (ltb (f 0) (f 0)) (λ _. here f 0) (λ _. here f 0)
+highest-some f (suc n) =
+    cond-either (LaneOf f (suc (suc n))) (ltb (highest f (suc n)) (f (suc n)))
+    (λ _. here f (suc n)) (λ _. later f (suc n) _ (highest-some f n))
+
+pub lowest-some : (f : ℕ → ℕ) (n : ℕ) → LaneOf f (suc n) (lowest f (suc n))
+unfolding lowest smaller
+lowest-some f zero = cond-either (LaneOf f 1) (ltb (f 0) (f 0)) (λ _. here f 0) (λ _. here f 0)
+lowest-some f (suc n) =
+    cond-either (LaneOf f (suc (suc n))) (ltb (f (suc n)) (lowest f (suc n)))
+    (λ _. here f (suc n)) (λ _. later f (suc n) _ (lowest-some f n))
+
+every-all : (good : ℕ → Bool) (n : ℕ) → ((k : ℕ) → k < n → good k ≡ true) → every good n ≡ true
+every-all good zero h = every-none good
+every-all good (suc n) h =
+    rw (← add-one n) (every-next good n (every-all good n (λ k l. h k (omega arith))) (h n (omega arith)))
+
+module _ (f : ℕ → ℕ) (count : ℕ) where
+  -- all lanes are inside exactly if the highest is
+  inside-by : (n : ℕ) (b : Bool) → ltb (highest f (suc n)) count ≡ b → b ≡ insideVariable f (suc n) count
+  unfolding insideVariable
+  inside-by n true e =
+      sym (every-all (λ k. ltb (f k) count) (suc n) (λ k l. lt-ltb (f k) count
+      (omega (arith, highest-each f (suc n) k l, ltb-true (highest f (suc n)) count e))))
+  inside-by n false e =
+      let a = highest-some f n in
+      sym (every-fails (λ k. ltb (f k) count) (suc n) (a .lane) (a .below) (le-ltb (f (a .lane)) count
+      (omega (arith, a .same, ltb-false (highest f (suc n)) count e))))
+
+  -- no lanes are inside
+  pub inside-highest : (n : ℕ) → (eqb n 0 || ltb (highest f n) count) ≡ insideVariable f n count
+  unfolding insideVariable
+  inside-highest zero = sym (every-none (λ k. ltb (f k) count))
+  inside-highest (suc n) = rw (ne-eqb (suc n) 0 (omega arith)) (inside-by n (ltb (highest f (suc n)) count) refl)
+
+  inside-each : (n : ℕ) → insideVariable f n count ≡ true → (k : ℕ) → k < n → f k < count
+  unfolding insideVariable
+  inside-each n e k l = ltb-true (f k) count (every-each (λ j. ltb (f j) count) n e k l)
+
+-- the elements of a good operand are inside
+pub elements-inside : (v : Variable) (f : ℕ → ℕ) (lanes : ℕ) → elementsGood v f lanes ≡ true → (k : ℕ) → k < lanes → f k < v .count
+unfolding elementsGood
+elements-inside v f lanes e = inside-each f (v .count) lanes (left _ _ e)

@@ -1,0 +1,74 @@
+-- A source's lanes are rows of Width, a destination's elements are apart, and a good reach is one of two adjacent registers for every two lanes.
+use mathlib.Core.Path.{_≡_, refl, ap, _∙_}
+use mathlib.Core.Bool.{true, _&&_}
+use Prim.Native.Nat.{ℕ, _+_, _*_, _-_, _/_, _%_, _≤_, _<_}
+use native.Mathlib.Omega.{arith}
+use native.Mathlib.Nat.{mul-le-mul-right, mul-add-div-right, mul-add-mod-self-right, div-eq-of-lt, mod-eq-of-lt}
+use lib.Dec.{leb}
+use borrow.Author.Tests.{leb-true}
+use Rattle.types.specs.Types.{sizeOf, isListed}
+use Rattle.types.proofs.Sizes.{register-whole}
+use Rattle.tables.specs.Lengths.{registerSize}
+use Rattle.tables.proofs.All.{left, right, all3, all4}
+use Rattle.field_groups.specs.declared.General.{General}
+use Rattle.regions.specs.declared.Role.the-variants as role
+use Rattle.regions.specs.Regions.{widthCode, horizontalCode, strideOf, between, sourceRegionGood, destinationRegionGood, regionGood, firstElement, sourceElement, elementOf}
+use Rattle.regions.specs.Reach.{lowest, highest, twoRegisters, reachGood}
+use Rattle.regions.specs.Positions.{elementByte}
+use Rattle.regions.proofs.ReachLaws.{lowest-each, highest-each}
+use Rattle.regions.proofs.GridLaws.{stride-some}
+
+-- element (i, j) is that of lane i * Width + j
+pub lane-is : (g : General) (size i j : ℕ) → j < strideOf (widthCode (g .region)) → elementOf role.Source g size (i * strideOf (widthCode (g .region)) + j) ≡ sourceElement g size i j
+unfolding elementOf
+lane-is g size i j h =
+    let width = strideOf (widthCode (g .region)) in
+    let some : 0 < width = omega arith in
+    let row : (i * width + j) / width ≡ i = mul-add-div-right some i j ∙ ap (λ n. i + n) (div-eq-of-lt h) ∙ omega arith in
+    let place : (i * width + j) % width ≡ j = mul-add-mod-self-right i width j ∙ mod-eq-of-lt h in
+    rw (row, place)
+
+-- a good source region has a width
+pub width-some : (region lanes : ℕ) → sourceRegionGood region lanes ≡ true → 0 < strideOf (widthCode region)
+unfolding sourceRegionGood between
+width-some region lanes h =
+    let code = widthCode region in
+    let a = all4 (leb 2 code && leb code 6) (leb (strideOf code) lanes) _ _ h .first in
+    stride-some code (leb-true 2 code (left (leb 2 code) (leb code 6) a)) (leb-true code 6 (right (leb 2 code) (leb code 6) a))
+
+-- from the first byte of any lane's element to the last byte of any other's are at most two registers
+pub reach-each : (f : ℕ → ℕ) (lanes start size : ℕ) → reachGood f lanes start size ≡ true → (j k : ℕ) → j < lanes → k < lanes
+    → (start + f j * size + size - 1) / registerSize ≤ (start + f k * size) / registerSize + 1
+unfolding reachGood twoRegisters
+reach-each f lanes start size h j k p q =
+    omega (
+      arith,
+      leb-true ((start + highest f lanes * size + size - 1) / registerSize) ((start + lowest f lanes * size) / registerSize + 1) h,
+      mul-le-mul-right size (highest-each f lanes j p),
+      mul-le-mul-right size (lowest-each f lanes k q),
+    )
+
+-- "32/size" is exact: a row of elements is a register
+pub row-whole : (code : ℕ) → isListed code ≡ true → registerSize / sizeOf code * sizeOf code ≡ registerSize
+row-whole = register-whole registerSize refl
+
+destination-stride : (region : ℕ) → destinationRegionGood region ≡ true → 0 < strideOf (horizontalCode region)
+unfolding destinationRegionGood between
+destination-stride region h =
+    let code = horizontalCode region in
+    let a = all3 (leb 2 code && leb code 4) _ _ h .first in
+    let b = leb-true code 4 (right (leb 2 code) (leb code 4) a) in
+    stride-some code (leb-true 2 code (left (leb 2 code) (leb code 4) a)) (omega arith)
+
+apart-plain : (start first stride size j k : ℕ) → 0 < stride → j < k → start + (first + j * stride) * size + size ≤ start + (first + k * stride) * size
+apart-plain start first stride size j k s h =
+    let a : j + 1 ≤ k = omega arith in
+    let b : first + j * stride + 1 ≤ first + k * stride = omega (arith, mul-le-mul-right stride a) in
+    omega (arith, mul-le-mul-right size b)
+
+-- no element of a good destination touches another's bytes
+pub destination-apart : (g : General) (lanes start size j k : ℕ) → regionGood role.Destination (g .region) lanes ≡ true → j < k
+    → elementByte start size (elementOf role.Destination g size) j + size ≤ elementByte start size (elementOf role.Destination g size) k
+unfolding regionGood elementByte elementOf
+destination-apart g lanes start size j k good l =
+    apart-plain start (firstElement g size) (strideOf (horizontalCode (g .region))) size j k (destination-stride (g .region) good) l

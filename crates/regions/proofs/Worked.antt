@@ -1,0 +1,80 @@
+-- Document 01's lines on regions, and the edges of their tests, computed.
+use mathlib.Core.Path.{_≡_, refl}
+use mathlib.Core.Bool.{cond, not, _&&_, _||_}
+use Prim.Native.Nat.{ℕ, _+_, _*_, _-_}
+use lib.Dec.{ltb, eqb}
+use Rattle.types.specs.Types.{UW, sizeOf}
+use Rattle.types.proofs.Sizes.{sizes}
+use Rattle.field_groups.specs.declared.General.{General}
+use Rattle.regions.specs.declared.Role.{Role}
+use Rattle.regions.specs.declared.Role.the-variants as role
+use Rattle.regions.specs.declared.Variable.{Variable}
+use Rattle.regions.specs.Regions.{verticalCode, widthCode, horizontalCode, strideOf, between, sourceRegionGood, scalarRegionGood, destinationRegionGood, regionGood, firstElement, sourceElement, elementOf}
+use Rattle.regions.specs.Reach.{smaller, larger, lowest, highest, twoRegisters, reachGood, elementsGood}
+use Rattle.regions.specs.Positions.{elementByte}
+use Rattle.regions.proofs.ReachLaws.{inside-highest}
+
+-- 6, 7 or 0, by the tests of a region
+abbrev pub regionNumber : Role → ℕ → General → Variable → ℕ
+regionNumber o lanes g v = cond (not (regionGood o (g .region) lanes)) 6 (cond (not (elementsGood v (elementOf o g (sizeOf (v .code))) lanes)) 7 0)
+
+-- <V;W,H> by codes, from row and column 0
+abbrev pub region : ℕ → ℕ → ℕ → General
+region vertical width horizontal = record { index = 0; row = 0; column = 0; region = vertical + 16 * width + 256 * horizontal }
+
+-- a variable of so many UW
+abbrev pub words : ℕ → Variable
+words count = record { code = UW; start = 0; count = count }
+
+-- "UW <16;8,2>, size 16, start 0: last byte 61, good. <32;8,2>: last byte 93, three registers, 7."
+abbrev pub Edges : (Role → ℕ → General → ℕ → ℕ) → Type 0
+Edges number =
+    (number role.Source 16 (region 6 5 3) 31 ≡ 0)
+    × (elementByte 0 2 (elementOf role.Source (region 6 5 3) 2) 15 + 2 - 1 ≡ 61)
+    × (number role.Source 16 (region 7 5 3) 64 ≡ 7)
+    × (elementByte 0 2 (elementOf role.Source (region 7 5 3) 2) 15 + 2 - 1 ≡ 93)
+    × (number role.Source 16 (region 6 5 3) 30 ≡ 7)
+    × (number role.Source 4 (region 6 5 3) 64 ≡ 6)
+    × (number role.Source 32 (region 6 7 3) 128 ≡ 6)
+    × (number role.Source 16 (region 6 5 5) 64 ≡ 6)
+    × (number role.Source 16 (region 6 0 3) 64 ≡ 6)
+    × (number role.Source 16 (region 0 5 3) 64 ≡ 6)
+    × (number role.Source 2 (region 7 2 1) 64 ≡ 7)
+    × (number role.Scalar 16 (region 1 2 1) 1 ≡ 0)
+    × (number role.Scalar 16 (region 1 2 2) 64 ≡ 6)
+    × (number role.Destination 8 (region 0 0 2) 8 ≡ 0)
+    × (number role.Destination 8 (region 0 0 2) 7 ≡ 7)
+    × (number role.Destination 8 (region 0 0 1) 8 ≡ 6)
+    × (number role.Destination 8 (region 1 0 2) 8 ≡ 6)
+
+-- the number by what is computed
+computed : Role → ℕ → General → ℕ → ℕ
+computed o lanes g count =
+    let f = elementOf o g 2 in
+    cond (not (regionGood o (g .region) lanes)) 6 (cond (not ((eqb lanes 0 || ltb (highest f lanes) count) && reachGood f lanes 0 2)) 7 0)
+
+number-is : (o : Role) (lanes : ℕ) (g : General) (count : ℕ) → regionNumber o lanes g (words count) ≡ computed o lanes g count
+unfolding computed elementsGood
+number-is o lanes g count = rw (sizes .uw, ← inside-highest (elementOf o g 2) count lanes)
+
+pub regions-worked : Edges (λ o lanes g count. regionNumber o lanes g (words count))
+unfolding computed verticalCode widthCode horizontalCode strideOf between sourceRegionGood scalarRegionGood destinationRegionGood regionGood firstElement sourceElement elementOf smaller larger lowest highest twoRegisters reachGood elementByte
+regions-worked = (
+  number-is role.Source 16 (region 6 5 3) 31,
+  refl,
+  number-is role.Source 16 (region 7 5 3) 64,
+  refl,
+  number-is role.Source 16 (region 6 5 3) 30,
+  number-is role.Source 4 (region 6 5 3) 64,
+  number-is role.Source 32 (region 6 7 3) 128,
+  number-is role.Source 16 (region 6 5 5) 64,
+  number-is role.Source 16 (region 6 0 3) 64,
+  number-is role.Source 16 (region 0 5 3) 64,
+  number-is role.Source 2 (region 7 2 1) 64,
+  number-is role.Scalar 16 (region 1 2 1) 1,
+  number-is role.Scalar 16 (region 1 2 2) 64,
+  number-is role.Destination 8 (region 0 0 2) 8,
+  number-is role.Destination 8 (region 0 0 2) 7,
+  number-is role.Destination 8 (region 0 0 1) 8,
+  number-is role.Destination 8 (region 1 0 2) 8,
+)

@@ -1,0 +1,4 @@
+pub mod Regions
+pub mod Reach
+pub mod Grid
+pub mod Positions

@@ -1,0 +1,244 @@
+// Regions: which region words are good, which element of its variable each lane takes, and where that is.
+use field_groups::General;
+ghost use mathlib.Core.Path.{_≡_};
+ghost use Prim.Native.Nat.{_+_, _-_, _/_, _%_, _<_};
+ghost use Rattle.types.specs.Types.{sizeOf};
+ghost use Rattle.regions.specs.Regions.{strideOf, sourceRegionGood, destinationRegionGood, regionGood, firstElement, elementOf};
+ghost use Rattle.regions.specs.Reach.{smaller, larger, lowest, highest, twoRegisters, elementsGood};
+ghost use Rattle.regions.specs.Grid.{gridElement, gridOf};
+ghost use Rattle.regions.specs.Positions.{lanePositions, elementByte};
+
+// <0;1,0>
+const SCALAR_REGION: u16 = 289;
+
+// What a vector operand or a scalar is for.
+pub enum Role {
+    Source,
+    Scalar,
+    Destination,
+}
+
+// A variable of the table: its type's code, start byte and element count.
+pub struct Variable {
+    pub code: u8,
+    pub start: u16,
+    pub count: u16,
+}
+
+// The first element, the strides and the width of a region, in elements.
+struct Grid {
+    first: u16,
+    vertical: u8,
+    width: u8,
+    horizontal: u8,
+}
+
+// The lowest and the highest element of all lanes.
+struct Reach {
+    low: u32,
+    high: u32,
+}
+
+// The stride of a code; Null is 0 too.
+fn stride_of(code: u16) -> u8
+    ensures { λ r. ⌜ r ≡ strideOf code ⌝ }
+{
+    if code == 2 {
+        return 1;
+    }
+    if code == 3 {
+        return 2;
+    }
+    if code == 4 {
+        return 4;
+    }
+    if code == 5 {
+        return 8;
+    }
+    if code == 6 {
+        return 16;
+    }
+    if code == 7 { 32 } else { 0 }
+}
+
+fn source_region_good(region: u16, lanes: u8) -> bool
+    ensures { λ r. ⌜ r ≡ sourceRegionGood region lanes ⌝ }
+{
+    let vertical = region % 16;
+    let width = region / 16 % 16;
+    let horizontal = region / 256 % 16;
+    (2 <= width)
+        & (width <= 6)
+        & (stride_of(width) <= lanes)
+        & ((1 <= vertical) & (vertical <= 7))
+        & ((1 <= horizontal) & (horizontal <= 4))
+}
+
+fn destination_region_good(region: u16) -> bool
+    ensures { λ r. ⌜ r ≡ destinationRegionGood region ⌝ }
+{
+    let vertical = region % 16;
+    let width = region / 16 % 16;
+    let horizontal = region / 256 % 16;
+    (2 <= horizontal) & (horizontal <= 4) & (vertical == 0) & (width == 0)
+}
+
+// Whether a region word is good for an operand of so many lanes.
+pub fn region_good(role: Role, region: u16, lanes: u8) -> bool
+    ensures { λ r. ⌜ r ≡ regionGood role region lanes ⌝ }
+{
+    match role {
+        Role::Source => source_region_good(region, lanes),
+        Role::Scalar => region == SCALAR_REGION,
+        Role::Destination => destination_region_good(region),
+    }
+}
+
+// 0 where the divisor is 0.
+fn quotient(number: u8, divisor: u8) -> u8
+    ensures { λ r. ⌜ r ≡ number / divisor ⌝ }
+{
+    if divisor == 0 { 0 } else { number / divisor }
+}
+
+// The number itself where the divisor is 0.
+fn remainder(number: u8, divisor: u8) -> u8
+    ensures { λ r. ⌜ r ≡ number % divisor ⌝ }
+{
+    if divisor == 0 {
+        number
+    } else {
+        number % divisor
+    }
+}
+
+fn first_element(general: General, size: u8) -> u16
+    ensures { λ r. ⌜ r ≡ firstElement general size ⌝ }
+{
+    let in_register = quotient(tables::REGISTER_SIZE as u8, size) as u16;
+    (general.row as u16) * in_register + (general.column as u16)
+}
+
+fn grid_of(role: Role, general: General, size: u8) -> Grid
+    ensures { λ r. ⌜ r ≡ gridOf role general size ⌝ }
+{
+    let first = first_element(general, size);
+    let horizontal = stride_of(general.region / 256 % 16);
+    match role {
+        Role::Source => Grid {
+            first,
+            vertical: stride_of(general.region % 16),
+            width: stride_of(general.region / 16 % 16),
+            horizontal,
+        },
+        Role::Scalar => Grid {
+            first,
+            vertical: 0,
+            width: 1,
+            horizontal: 0,
+        },
+        Role::Destination => Grid {
+            first,
+            vertical: horizontal,
+            width: 1,
+            horizontal: 0,
+        },
+    }
+}
+
+fn element_of(grid: Grid, lane: u8) -> u32
+    ensures { λ r. ⌜ r ≡ gridElement grid lane ⌝ }
+{
+    let row = quotient(lane, grid.width) as u32;
+    let place = remainder(lane, grid.width) as u32;
+    (grid.first as u32) + row * (grid.vertical as u32) + place * (grid.horizontal as u32)
+}
+
+fn smaller_of(a: u32, b: u32) -> u32
+    ensures { λ r. ⌜ r ≡ smaller a b ⌝ }
+{
+    if b < a { b } else { a }
+}
+
+fn larger_of(a: u32, b: u32) -> u32
+    ensures { λ r. ⌜ r ≡ larger a b ⌝ }
+{
+    if a < b { b } else { a }
+}
+
+fn reach_of(grid: Grid, lanes: u8) -> Reach
+    ensures { λ r. ⌜ r ≡ record { low = lowest (gridElement grid) lanes; high = highest (gridElement grid) lanes } ⌝ }
+{
+    let mut low = element_of(grid, 0);
+    let mut high = element_of(grid, 0);
+    let mut lane: u8 = 0;
+    while lane < lanes {
+        let element = element_of(grid, lane);
+        low = smaller_of(low, element);
+        high = larger_of(high, element);
+        lane += 1;
+    }
+    Reach { low, high }
+}
+
+// Whether the bytes from the first to the one before the end are in two adjacent registers.
+fn two_registers(first: u64, end: u64) -> bool
+    ensures { λ r. ⌜ r ≡ twoRegisters first (end - 1) ⌝ }
+{
+    if end == 0 {
+        return true;
+    }
+    (end - 1) / tables::REGISTER_SIZE as u64 <= first / tables::REGISTER_SIZE as u64 + 1
+}
+
+// Whether the elements of all lanes lie in their variable and in two adjacent registers.
+pub fn elements_good(role: Role, general: General, variable: Variable, lanes: u8) -> bool
+    ensures { λ r. ⌜ r ≡ elementsGood variable (elementOf role general (sizeOf (variable .code))) lanes ⌝ }
+{
+    let size = types::size_of(variable.code);
+    let grid = grid_of(role, general, size);
+    let reach = reach_of(grid, lanes);
+    let start = variable.start as u64;
+    let low = reach.low as u64;
+    let high = reach.high as u64;
+    let bytes = size as u64;
+    ((lanes == 0) | (high < (variable.count as u64)))
+        & two_registers(start + low * bytes, start + high * bytes + bytes)
+}
+
+// The position of each lane's element, counted from a base.
+fn lane_positions(base: u32, grid: Grid, size: u8) -> [u32; 32]
+    requires { ⌜ base < 131072 ⌝ }
+    ensures { λ r. ⌜ r ≡ lanePositions (elementByte base size (gridElement grid)) ⌝ }
+{
+    let mut at = [0u32; 32];
+    let mut lane: u8 = 0;
+    while lane < 32 {
+        at[lane as usize] = base + element_of(grid, lane) * (size as u32);
+        lane += 1;
+    }
+    at
+}
+
+// The byte of each lane's element.
+pub fn element_positions(role: Role, general: General, variable: Variable) -> [u32; 32]
+    ensures { λ r. ⌜ r ≡ lanePositions (elementByte (variable .start) (sizeOf (variable .code)) (elementOf role general (sizeOf (variable .code)))) ⌝ }
+{
+    let size = types::size_of(variable.code);
+    let grid = grid_of(role, general, size);
+    lane_positions(variable.start as u32, grid, size)
+}
+
+// The byte of each lane's element, where they follow one another from an offset on.
+pub fn raw_positions(variable: Variable, offset: u16) -> [u32; 32]
+    ensures { λ r. ⌜ r ≡ lanePositions (elementByte (variable .start + offset) (sizeOf (variable .code)) (λ k. k)) ⌝ }
+{
+    let size = types::size_of(variable.code);
+    let consecutive = Grid {
+        first: 0,
+        vertical: 1,
+        width: 1,
+        horizontal: 0,
+    };
+    lane_positions((variable.start as u32) + (offset as u32), consecutive, size)
+}
