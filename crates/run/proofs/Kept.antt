@@ -9,7 +9,7 @@ use Rattle.little_endian.specs.LittleEndian.{Bytes}
 use Rattle.cells.specs.Writes.{writtenAll}
 use Rattle.cells.proofs.WriteLaws.{written-append}
 use Rattle.cells.proofs.StayLaws.{writesAt, Kept, stays}
-use Rattle.cells.proofs.RefusalLaws.{no-writes}
+use Rattle.cells.proofs.EffectLaws.{nothing-written}
 use Rattle.tables.specs.Tables.{tablesGood}
 use Rattle.step.specs.State.{Setup, State, lengthsOf}
 use Rattle.step.specs.Step.{Stepped, stepAt, after}
@@ -49,15 +49,15 @@ refused-stops step end fuel completed at n s h e = rw (lt-ltb at end h, e)
 module _ (step : ℕ → State → Stepped) (end : ℕ) where
   pub ran-registers : {c at : ℕ} {s : State} {r : Outcome} → (p : Ran step end c at s r) → r .state .registers ≡ writtenAll (registersWritten step end p) (s .registers)
   unfolding registersWritten
-  ran-registers {c} {at} {s} ended = sym (no-writes (s .registers))
-  ran-registers {c} {at} {s} (refusedAt h e) = sym (no-writes (s .registers))
+  ran-registers {c} {at} {s} ended = sym (nothing-written (s .registers))
+  ran-registers {c} {at} {s} (refusedAt h e) = sym (nothing-written (s .registers))
   ran-registers {c} {at} {s} (went h e rest) =
       ran-registers rest ∙ sym (written-append (step at s .effect .registers) (registersWritten step end rest) (s .registers))
 
   pub ran-memory : {c at : ℕ} {s : State} {r : Outcome} → (p : Ran step end c at s r) → r .state .memory ≡ writtenAll (memoryWritten step end p) (s .memory)
   unfolding memoryWritten
-  ran-memory {c} {at} {s} ended = sym (no-writes (s .memory))
-  ran-memory {c} {at} {s} (refusedAt h e) = sym (no-writes (s .memory))
+  ran-memory {c} {at} {s} ended = sym (nothing-written (s .memory))
+  ran-memory {c} {at} {s} (refusedAt h e) = sym (nothing-written (s .memory))
   ran-memory {c} {at} {s} (went h e rest) =
       ran-memory rest ∙ sym (written-append (step at s .effect .memory) (memoryWritten step end rest) (s .memory))
 
