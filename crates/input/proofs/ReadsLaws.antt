@@ -12,22 +12,22 @@ use Rattle.feeding.proofs.KeptLaws.{Kept, Told, kept-none, kept-more}
 use Rattle.input.specs.Texts.{Reads}
 
 -- some text was fed to a machine, and no buffer has another length
-pub record Fed (m n : Machine) : Type 0 where
+pub record SoFar (m n : Machine) : Type 0 where
   pub reads : Reads m n
   pub line : length (n .row .line) ≡ length (m .row .line)
   pub kept : Kept (m .reading) (n .reading)
 
-pub none-fed : (line : List ℕ) (state : State) (contents : Contents) (tables : Tables) → state ≡ fresh →
-    Fed (machine line fresh contents tables) (machine line state contents tables)
-none-fed line state contents tables e =
+pub none-read : (line : List ℕ) (state : State) (contents : Contents) (tables : Tables) → state ≡ fresh →
+    SoFar (machine line fresh contents tables) (machine line state contents tables)
+none-read line state contents tables e =
     record {
       reads = record { text = []; is = ap (λ (s : State). machine line s contents tables) e ∙ sym (fed-none (machine line fresh contents tables)) };
       line = refl;
       kept = kept-none (reading (fresh .case) contents tables) (state .case);
     }
 
-pub more-fed : (m n o : Machine) (text : List ℕ) → Fed m n → o ≡ fed text n → length (o .row .line) ≡ length (n .row .line) → Told (n .reading) (o .reading) → Fed m o
-more-fed m n o text f e l k =
+pub more-read : (m n o : Machine) (text : List ℕ) → SoFar m n → o ≡ fed text n → length (o .row .line) ≡ length (n .row .line) → Told (n .reading) (o .reading) → SoFar m o
+more-read m n o text f e l k =
     record {
       reads = record { text = f .reads .text ++ text; is = e ∙ (ap (fed text) (f .reads .is) ∙ sym (fed-append (f .reads .text) text m)) };
       line = l ∙ f .line;

@@ -10,7 +10,7 @@ use Rattle.regions.specs.declared.Role.{Role}
 use Rattle.regions.specs.declared.Role.the-variants as role
 use Rattle.regions.specs.declared.Grid.{Grid}
 use Rattle.regions.specs.Regions.{strideOf, sourceElement, elementOf}
-use Rattle.regions.specs.Grid.{gridElement, gridOf, consecutive}
+use Rattle.regions.specs.Grid.{gridElement, gridOf}
 use Rattle.regions.proofs.ReachLaws.{cond-either}
 
 none : (n : ℕ) → 2 ≤ n → n ≤ 6 → (n ≡ 2 → ⊥) → (n ≡ 3 → ⊥) → (n ≡ 4 → ⊥) → (n ≡ 5 → ⊥) → (n ≡ 6 → ⊥) → ⊥
@@ -31,6 +31,10 @@ grid-elements r g size = fun-ext (grid-is r g size)
 -- as the code learns it
 pub grid-known : (r : Role) (g : General) (size whole : ℕ) (grid : Grid) → size ≡ whole → grid ≡ gridOf r g size → gridElement grid ≡ elementOf r g whole
 grid-known r g size whole grid e h = rw (h, e) (grid-elements r g whole)
+
+-- elements one after the other, as a raw operand's are
+abbrev consecutive : Grid
+consecutive = record { first = 0; vertical = 1; width = 1; horizontal = 0 }
 
 consecutive-is : (k : ℕ) → gridElement consecutive k ≡ k
 unfolding gridElement

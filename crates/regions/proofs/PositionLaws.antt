@@ -28,11 +28,7 @@ filled-each l f (suc n) h k g =
     (λ j p. getD-set-other (filled l f n) n j (f n) 0 (λ e. absurd (omega (arith, e, p))) ∙ filled-each l f n (omega arith) j p)
     (getD-set-same (filled l f n) n (f n) 0 m) k (rw (add-one n) g)
 
--- there are 32, and each is its lane's
-pub length-positions : (f : ℕ → ℕ) → length (lanePositions f) ≡ 32
-unfolding lanePositions
-length-positions f = length-filled (replicate 32 0) f 32 ∙ length-replicate {A = ℕ} 32 0
-
+-- each is its lane's
 pub position-of : (f : ℕ → ℕ) (k : ℕ) → k < 32 → getD (lanePositions f) k 0 ≡ f k
 unfolding lanePositions
 position-of f k h = filled-each (replicate 32 0) f 32 (rw (length-replicate {A = ℕ} 32 0) (omega arith)) k h

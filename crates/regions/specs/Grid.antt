@@ -23,7 +23,3 @@ gridOf role.Source g size =
 gridOf role.Scalar g size = record { first = firstElement g size; vertical = 0; width = 1; horizontal = 0 }
 gridOf role.Destination g size =
     record { first = firstElement g size; vertical = strideOf (horizontalCode (g .region)); width = 1; horizontal = 0 }
-
--- elements one after the other, as a raw operand's are
-abbrev pub consecutive : Grid
-consecutive = record { first = 0; vertical = 1; width = 1; horizontal = 0 }

@@ -1,13 +1,13 @@
 -- `input::read_all` meets its contract. The invariant: the machine is the first one, fed what was read so far.
 use Rattle.frames.specs.Reading.{contents, tables}
 use Rattle.feeding.specs.Feeding.{machine, fresh}
-use Rattle.input.proofs.ReadsLaws.{Fed, none-fed, more-fed, turn-less}
+use Rattle.input.proofs.ReadsLaws.{SoFar, none-read, more-read, turn-less}
 use Rattle.input.proofs.read_all.Statement.{statement}
 use Rattle.input.proofs.read_all.Tie as tie
 
 abbrev Inv-loop : tie.InvT-loop
 Inv-loop line₀ registers₀ memory₀ kernel₀ registerTaint₀ surfaceTaint₀ memoryTaint₀ types₀ starts₀ counts₀ predicateValues₀ surfaceBytes₀ surfaceLengths₀ block₀ state₀ turns₀ line registers memory kernel registerTaint surfaceTaint memoryTaint types starts counts predicateValues surfaceBytes surfaceLengths block state turns =
-    Fed
+    SoFar
     (machine line₀ fresh (contents registers₀ memory₀ kernel₀ registerTaint₀ surfaceTaint₀ memoryTaint₀) (tables types₀ starts₀ counts₀ predicateValues₀ surfaceBytes₀ surfaceLengths₀))
     (machine line state (contents registers memory kernel registerTaint surfaceTaint memoryTaint) (tables types starts counts predicateValues surfaceBytes surfaceLengths))
 
@@ -27,14 +27,14 @@ abbrev turn : tie.After-feed Inv-loop μ-loop → tie.In-loop Inv-loop μ-loop
 turn c = c .before .before .before .before .before .before .before .before .before .before .before .before .before .before .before .before .before .before .before
 
 loop-holds : tie.Need-loop-holds Inv-loop μ-loop
-loop-holds c = none-fed _ _ _ _ (c .start .ensures)
+loop-holds c = none-read _ _ _ _ (c .start .ensures)
 
 loop-less : tie.Need-loop-less Inv-loop μ-loop
 loop-less c = turn-less _ (turn (feeds c) .loop-test .taken)
 
 loop-again : tie.Need-loop-again Inv-loop μ-loop
 loop-again c =
-    more-fed _ _ _ _ (turn (feeds c) .before .loop .inv)
+    more-read _ _ _ _ (turn (feeds c) .before .loop .inv)
     (feeds c .feed .ensures)
     (feeds c .feed .kept .1 .0)
     (feeds c .feed .kept .1 .1)

@@ -19,38 +19,47 @@ abbrev μ-loop : tie.MeasureT-loop
 μ-loop kernel types starts counts predicates surface-lengths constants surfaces surface-taint registers₀ register-taint₀ memory₀ memory-taint₀ completed₀ at₀ registers register-taint memory memory-taint completed at =
     length kernel - at
 
+-- where the step was taken, from where its number is asked
+abbrev stepped : tie.After-struct-known Inv-loop μ-loop → tie.After-step Inv-loop μ-loop
+stepped c = c .before .before .before .before .before .before .before .before .before
+
+-- the turn's start, from there
+abbrev turn : tie.After-step Inv-loop μ-loop → tie.In-loop Inv-loop μ-loop
+turn c = c .before .before .before .before .before
+
+-- the function's start, from a turn's
+abbrev start : tie.In-loop Inv-loop μ-loop → tie.Start Inv-loop μ-loop
+start c = c .before .before .before .before .before .before .before .before .before .before .before .before .before .before
+
 loop-holds : tie.Need-loop-holds Inv-loop μ-loop
 loop-holds c = let a = c .before .before .before .before .before .before .before .before .before .before .before in begins _ _ (λ k. omega (arith, a .shared-slice-known .given k)) (a .before .pre)
 
+-- a step keeps the lengths, and so did all before it
 same-length : tie.Need-same-length Inv-loop μ-loop
-same-length c = let a = c .before .before .before .before .before .before .before .before .before .before in a .step .kept .1 .1 .1 .1 .1 .1 .1 .1 .1 .1 .0 ∙ ap (λ (l : Lengths). l .registers) (a .before .before .before .before .before .before .loop .inv .lengths)
+same-length c = let a = stepped (c .before) in a .step .kept .1 .1 .1 .1 .1 .1 .1 .1 .1 .1 .0 ∙ ap (λ (l : Lengths). l .registers) (turn a .before .loop .inv .lengths)
 
 same-length-2 : tie.Need-same-length-2 Inv-loop μ-loop
-same-length-2 c = let a = c .before .before .before .before .before .before .before .before .before .before in a .step .kept .1 .1 .1 .1 .1 .1 .1 .1 .1 .1 .1 .0 ∙ ap (λ (l : Lengths). l .taint .registers) (a .before .before .before .before .before .before .loop .inv .lengths)
+same-length-2 c = let a = stepped (c .before) in a .step .kept .1 .1 .1 .1 .1 .1 .1 .1 .1 .1 .1 .0 ∙ ap (λ (l : Lengths). l .taint .registers) (turn a .before .loop .inv .lengths)
 
 same-length-3 : tie.Need-same-length-3 Inv-loop μ-loop
-same-length-3 c = let a = c .before .before .before .before .before .before .before .before .before .before in a .step .kept .1 .1 .1 .1 .1 .1 .1 .1 .1 .1 .1 .1 .0 ∙ ap (λ (l : Lengths). l .memory) (a .before .before .before .before .before .before .loop .inv .lengths)
+same-length-3 c = let a = stepped (c .before) in a .step .kept .1 .1 .1 .1 .1 .1 .1 .1 .1 .1 .1 .1 .0 ∙ ap (λ (l : Lengths). l .memory) (turn a .before .loop .inv .lengths)
 
 same-length-4 : tie.Need-same-length-4 Inv-loop μ-loop
-same-length-4 c = let a = c .before .before .before .before .before .before .before .before .before .before in a .step .kept .1 .1 .1 .1 .1 .1 .1 .1 .1 .1 .1 .1 .1 .0 ∙ ap (λ (l : Lengths). l .taint .memory) (a .before .before .before .before .before .before .loop .inv .lengths)
+same-length-4 c = let a = stepped (c .before) in a .step .kept .1 .1 .1 .1 .1 .1 .1 .1 .1 .1 .1 .1 .1 .0 ∙ ap (λ (l : Lengths). l .taint .memory) (turn a .before .loop .inv .lengths)
 
 returns : tie.Need-returns Inv-loop μ-loop
-returns c = let a = c .before .before .before .before .before .before .before .before .before .before in stops _ _ _ _ _ (a .before .before .before .before .before .before .loop .inv) (a .before .before .before .before .before .loop-test .taken) _ _ (a .step .ensures) (c .if1 .taken)
+returns c = let a = stepped (c .before) in stops _ _ _ _ _ (turn a .before .loop .inv) (turn a .loop-test .taken) _ _ (a .step .ensures) (c .if1 .taken)
 
 add-completed : tie.Need-add-completed Inv-loop μ-loop
-add-completed c =
-    let a = c .before .before .before .before .before .before .before .before .before .before in
-    omega (arith, a .before .before .before .before .before .before .loop .inv .few, a .before .before .before .before .before .loop-test .taken, a .before .before .before .before .before .before .before .before .before .before .before .before .before .before .before .before .before .before .before .good .0 .0)
+add-completed c = let t = turn (stepped (c .before)) in omega (arith, t .before .loop .inv .few, t .loop-test .taken, start t .good .0 .0)
 
 loop-less : tie.Need-loop-less Inv-loop μ-loop
 loop-less c =
-    let a = c .before .before .before .before .before .before .before .before .before .before in
-    omega (arith, a .before .before .before .before .before .loop-test .taken, onward _ _ _ _ _ (a .before .before .before .before .before .before .loop .inv) (a .before .before .before .before .before .loop-test .taken) _ _ (a .step .ensures) (c .if1 .left) .0)
+    let a = stepped (c .before) in
+    omega (arith, turn a .loop-test .taken, onward _ _ _ _ _ (turn a .before .loop .inv) (turn a .loop-test .taken) _ _ (a .step .ensures) (c .if1 .left) .0)
 
 loop-again : tie.Need-loop-again Inv-loop μ-loop
-loop-again c =
-    let a = c .before .before .before .before .before .before .before .before .before .before in
-    goes _ _ _ _ _ (a .before .before .before .before .before .before .loop .inv) (a .before .before .before .before .before .loop-test .taken) _ _ (a .step .ensures) (c .if1 .left)
+loop-again c = let a = stepped (c .before) in goes _ _ _ _ _ (turn a .before .loop .inv) (turn a .loop-test .taken) _ _ (a .step .ensures) (c .if1 .left)
 
 same-length-5 : tie.Need-same-length-5 Inv-loop μ-loop
 same-length-5 c = ap (λ (l : Lengths). l .registers) (c .before .loop .inv .lengths)
