@@ -4,5 +4,4 @@ pub mod KeptLaws
 pub mod FeedingLaws
 pub mod RowLaws
 pub mod TextLaws
-pub mod FirstBad
 pub mod Worked

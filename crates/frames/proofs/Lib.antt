@@ -1,5 +1,5 @@
 pub mod FrameLaws
-pub mod Judged
 pub mod OnceLaws
 pub mod Room
+pub mod Stays
 pub mod VariableLaws

@@ -4,21 +4,18 @@ use mathlib.Core.List.{_++_}
 use Rattle.little_endian.specs.LittleEndian.{bytesOf}
 use Rattle.hex.specs.Digits.{isDecimal, isLetter, isDigit, digitOf, allDigits, characterOf}
 use Rattle.hex.specs.Bytes.{isHex, hexBytes, hexOf}
-use Rattle.hex.specs.Storing.{placed, fits, stored}
-use Rattle.frames.specs.Lines.{nothing, next, badLine, longLine, goodLine, metOf, lengthOf, counted, sized, based, masked}
-use Rattle.frames.specs.Repeated.{variableRead, predicateRead, surfaceRead}
-use Rattle.frames.specs.Once.{contentRead, memoryRead, maskRead, onceRead}
-use Rattle.frames.specs.Frames.{frameRead, lineRead}
-use Rattle.frames.specs.Verdicts.{verdictOf, taintLength}
-use Rattle.feeding.specs.Text.{linesFrom, linesOf, anyLineRead, linesRead, textRead}
+use Rattle.feeding.specs.Text.{linesFrom, linesOf}
 use Rattle.output.specs.Output.{lineOf, answerLine, contentLine, memoryLine, bufferLines, outputBytes}
-use Rattle.answering.specs.Setting.{setupOf, taintOf, stateOf}
-use Rattle.answering.specs.Bench.{outcomeOutput, goodOutput, caseOutput, benchOutput}
+use Rattle.answering.specs.Bench.{outcomeOutput}
+use Rattle.case_file.specs.Frames.{contentsOf, firstOf, joined}
+use Rattle.case_file.specs.BadLine.{lengthGood, repeats, frameGood, lineGood, firstBad}
+use Rattle.case_file.specs.Case.{typeOf, startOf, countOf, dwordOf, baseOf, memoryOf, setupOf, marksOf, stateOf}
+use Rattle.case_file.specs.Output.{framesOutput, positionOf, linesOutput, caseFileOutput}
 use Rattle.worked.specs.Case.{hex}
 use Rattle.worked.proofs.Opened.{opened}
 
 pub whole-case :
-    benchOutput
+    caseFileOutput
     (lineOf (hex 33 0x010100020003000400050006000700080000000000000000000000000000000000)
     ++ lineOf (hex 6 0x020200000800)
     ++ lineOf (hex 6 0x020210000800)
@@ -30,5 +27,5 @@ pub whole-case :
     ++ lineOf (hex 9 0x050000000000000000)
     ++ lineOf (hex 33 0x080000010000000000000000000000000000000101000000000000000000000000)
     ++ lineOf (hex 1 0x0a)
-unfolding opened hex bytesOf isDecimal isLetter isDigit digitOf allDigits characterOf isHex hexBytes hexOf placed fits stored nothing next badLine longLine goodLine metOf lengthOf counted sized based masked variableRead predicateRead surfaceRead contentRead memoryRead maskRead onceRead frameRead lineRead verdictOf taintLength linesFrom linesOf anyLineRead linesRead textRead lineOf answerLine contentLine memoryLine bufferLines outputBytes setupOf taintOf stateOf outcomeOutput goodOutput caseOutput benchOutput
+unfolding opened hex bytesOf isDecimal isLetter isDigit digitOf allDigits characterOf isHex hexBytes hexOf linesFrom linesOf lineOf answerLine contentLine memoryLine bufferLines outputBytes outcomeOutput contentsOf firstOf joined lengthGood repeats frameGood lineGood firstBad typeOf startOf countOf dwordOf baseOf memoryOf setupOf marksOf stateOf framesOutput positionOf linesOutput caseFileOutput
 whole-case = refl

@@ -1,7 +1,7 @@
 -- `frames::take_line` meets its contract: at each return the law of such a line.
 use mathlib.Core.Path.{sym}
 use borrow.Author.Tests.{ne-eqb}
-use Rattle.frames.proofs.Judged.{line-stays}
+use Rattle.frames.proofs.Stays.{line-stays}
 use Rattle.frames.proofs.FrameLaws.{no-frame, variable-frame, predicate-frame, surface-frame, once-frame}
 use Rattle.frames.proofs.take_line.Statement.{statement}
 use Rattle.frames.proofs.take_line.Tie as tie

@@ -1,0 +1,11 @@
+pub mod Padded
+pub mod ByKind
+pub mod Good
+pub mod Loaded
+pub mod Room
+pub mod Broken
+pub mod Held
+pub mod Counted
+pub mod Bad
+pub mod Lines
+pub mod Whole

@@ -1,0 +1,155 @@
+-- One more frame: where its content has room, the loader holds what the frames say; where it has none, the case is full.
+use mathlib.Core.Path.{_≡_, refl, sym, ap, _∙_}
+use mathlib.Core.Bool.{true, false}
+use mathlib.Core.List.{List, [], _∷_, _++_, map, append-nil, append-assoc}
+use Prim.Native.Nat.{ℕ, zero, suc, _+_, _*_, _≤_, _<_}
+use native.Mathlib.Omega.{arith}
+use lib.ListN.{length, getD, drop, length-append}
+use lib.Dec.{ltb}
+use borrow.Author.Tests.{lt-ltb, le-leb, le-ltb, lt-leb}
+use Rattle.little_endian.specs.LittleEndian.{numberAt}
+use Rattle.frames.specs.Reading.{Contents, Tables}
+use Rattle.frames.specs.Lines.{next, goodLine, metOf, lengthOf, counted, sized, based, masked}
+use Rattle.frames.specs.Repeated.{variableRead, predicateRead, surfaceRead}
+use Rattle.frames.specs.Once.{contentRead, memoryRead, maskRead, onceRead}
+use Rattle.frames.specs.Frames.{frameRead}
+use Rattle.case_file.specs.Frames.{firstOf, joined}
+use Rattle.case_file.specs.Case.{typeOf, startOf, countOf, dwordOf, baseOf, memoryOf}
+use Rattle.case_file.proofs.Padded.{padded, fits-padded, stored-padded, fits-once, stored-once, no-room, length-table, set-table}
+use Rattle.case_file.proofs.ByKind.{Kinds, added, one-more}
+use Rattle.case_file.proofs.Loaded.{readingAt}
+
+-- the loader reads a content where it stands behind its kind
+number-behind : (n x : ℕ) (l : List ℕ) (at : ℕ) → numberAt n (x ∷ l) (suc at) ≡ numberAt n l at
+unfolding numberAt
+number-behind zero x l at = refl
+number-behind (suc n) x l at = ap (λ (m : ℕ). getD l at 0 + 256 * m) (number-behind n x l (suc at))
+
+type-behind : (c : List ℕ) → getD c 0 0 ≡ typeOf c
+unfolding typeOf
+type-behind c = refl
+
+start-behind : (x : ℕ) (c : List ℕ) → numberAt 2 (x ∷ c) 2 ≡ startOf c
+unfolding startOf
+start-behind x c = number-behind 2 x c 1
+
+count-behind : (x : ℕ) (c : List ℕ) → numberAt 2 (x ∷ c) 4 ≡ countOf c
+unfolding countOf
+count-behind x c = number-behind 2 x c 3
+
+dword-behind : (x : ℕ) (c : List ℕ) → numberAt 4 (x ∷ c) 1 ≡ dwordOf c
+unfolding dwordOf
+dword-behind x c = number-behind 4 x c 0
+
+base-behind : (x : ℕ) (c : List ℕ) → numberAt 8 (x ∷ c) 1 ≡ baseOf c
+unfolding baseOf
+base-behind x c = number-behind 8 x c 0
+
+memory-behind : (c : List ℕ) → drop 8 c ≡ memoryOf c
+unfolding memoryOf
+memory-behind c = refl
+
+memory-none : memoryOf [] ≡ []
+unfolding memoryOf
+memory-none = refl
+
+pub joined-more : (cs : List (List ℕ)) (c : List ℕ) → joined (cs ++ (c ∷ [])) ≡ joined cs ++ c
+unfolding joined
+joined-more [] c = append-nil c
+joined-more (x ∷ cs) c = ap (λ (l : List ℕ). x ++ l) (joined-more cs c) ∙ sym (append-assoc x (joined cs) c)
+
+module _ (z : Contents) (t : Tables) (g : Kinds) (n : ℕ) (c : List ℕ) where
+  pub registers-read : g 1 ≡ [] → length c ≤ length (z .registers) → frameRead 1 (1 ∷ c) (readingAt z t g n) ≡ readingAt z t (added 1 c g) (next n)
+  unfolding frameRead onceRead contentRead metOf counted sized goodLine firstOf
+  registers-read e room = rw (e, fits-once (z .registers) c room, stored-once (z .registers) c room) refl
+
+  pub registers-full : g 1 ≡ [] → length (z .registers) < length c → frameRead 1 (1 ∷ c) (readingAt z t g n) .case .full ≡ true
+  unfolding frameRead onceRead contentRead metOf counted sized goodLine firstOf
+  registers-full e h = rw (e, no-room (z .registers) c h) refl
+
+  pub kernel-read : g 7 ≡ [] → length c ≤ length (z .kernel) → frameRead 7 (7 ∷ c) (readingAt z t g n) ≡ readingAt z t (added 7 c g) (next n)
+  unfolding frameRead onceRead contentRead metOf counted sized goodLine firstOf
+  kernel-read e room = rw (e, fits-once (z .kernel) c room, stored-once (z .kernel) c room) refl
+
+  pub kernel-full : g 7 ≡ [] → length (z .kernel) < length c → frameRead 7 (7 ∷ c) (readingAt z t g n) .case .full ≡ true
+  unfolding frameRead onceRead contentRead metOf counted sized goodLine firstOf
+  kernel-full e h = rw (e, no-room (z .kernel) c h) refl
+
+  pub register-taint-read : g 8 ≡ [] → length c ≤ length (z .registerTaint) → frameRead 8 (8 ∷ c) (readingAt z t g n) ≡ readingAt z t (added 8 c g) (next n)
+  unfolding frameRead onceRead contentRead metOf counted sized goodLine firstOf
+  register-taint-read e room = rw (e, fits-once (z .registerTaint) c room, stored-once (z .registerTaint) c room) refl
+
+  pub register-taint-full : g 8 ≡ [] → length (z .registerTaint) < length c → frameRead 8 (8 ∷ c) (readingAt z t g n) .case .full ≡ true
+  unfolding frameRead onceRead contentRead metOf counted sized goodLine firstOf
+  register-taint-full e h = rw (e, no-room (z .registerTaint) c h) refl
+
+  pub surface-taint-read : g 9 ≡ [] → length c ≤ length (z .surfaceTaint) → frameRead 9 (9 ∷ c) (readingAt z t g n) ≡ readingAt z t (added 9 c g) (next n)
+  unfolding frameRead onceRead contentRead metOf counted sized goodLine firstOf
+  surface-taint-read e room = rw (e, fits-once (z .surfaceTaint) c room, stored-once (z .surfaceTaint) c room) refl
+
+  pub surface-taint-full : g 9 ≡ [] → length (z .surfaceTaint) < length c → frameRead 9 (9 ∷ c) (readingAt z t g n) .case .full ≡ true
+  unfolding frameRead onceRead contentRead metOf counted sized goodLine firstOf
+  surface-taint-full e h = rw (e, no-room (z .surfaceTaint) c h) refl
+
+  pub memory-taint-read : g 10 ≡ [] → length c ≤ length (z .memoryTaint) → frameRead 10 (10 ∷ c) (readingAt z t g n) ≡ readingAt z t (added 10 c g) (next n)
+  unfolding frameRead onceRead contentRead metOf counted sized goodLine firstOf
+  memory-taint-read e room = rw (e, fits-once (z .memoryTaint) c room, stored-once (z .memoryTaint) c room) refl
+
+  pub memory-taint-full : g 10 ≡ [] → length (z .memoryTaint) < length c → frameRead 10 (10 ∷ c) (readingAt z t g n) .case .full ≡ true
+  unfolding frameRead onceRead contentRead metOf counted sized goodLine firstOf
+  memory-taint-full e h = rw (e, no-room (z .memoryTaint) c h) refl
+
+  pub memory-read : g 5 ≡ [] → 8 ≤ length c → length (memoryOf c) ≤ length (z .memory) → frameRead 5 (5 ∷ c) (readingAt z t g n) ≡ readingAt z t (added 5 c g) (next n)
+  unfolding frameRead onceRead memoryRead contentRead metOf counted sized based goodLine firstOf
+  memory-read e eight room =
+      rw (e, le-ltb (length c) 8 eight, memory-behind c, memory-none, base-behind 5 c, fits-once (z .memory) (memoryOf c) room, stored-once (z .memory) (memoryOf c) room) refl
+
+  pub memory-full : g 5 ≡ [] → 8 ≤ length c → length (z .memory) < length (memoryOf c) → frameRead 5 (5 ∷ c) (readingAt z t g n) .case .full ≡ true
+  unfolding frameRead onceRead memoryRead contentRead metOf counted sized based goodLine firstOf
+  memory-full e eight h = rw (e, le-ltb (length c) 8 eight, memory-behind c, memory-none, no-room (z .memory) (memoryOf c) h) refl
+
+  pub mask-read : g 6 ≡ [] → length c ≡ 4 → frameRead 6 (6 ∷ c) (readingAt z t g n) ≡ readingAt z t (added 6 c g) (next n)
+  unfolding frameRead onceRead maskRead metOf counted masked goodLine firstOf
+  mask-read e four = rw (e, four, dword-behind 6 c) refl
+
+  pub variable-read : length c ≡ 5 → length (g 2) < length (t .types) → length (g 2) < length (t .starts) → length (g 2) < length (t .counts) →
+      frameRead 2 (2 ∷ c) (readingAt z t g n) ≡ readingAt z t (added 2 c g) (next n)
+  unfolding frameRead variableRead metOf counted goodLine
+  variable-read five r₁ r₂ r₃ =
+      rw (five, length-table typeOf (t .types) (g 2) (omega (arith, r₁)), length-table startOf (t .starts) (g 2) (omega (arith, r₂)), length-table countOf (t .counts) (g 2) (omega (arith, r₃)), lt-ltb _ _ r₁, lt-ltb _ _ r₂, lt-ltb _ _ r₃, one-more (g 2) c, ← set-table typeOf (t .types) (g 2) c r₁, ← set-table startOf (t .starts) (g 2) c r₂, ← set-table countOf (t .counts) (g 2) c r₃, type-behind c, start-behind 2 c, count-behind 2 c) refl
+
+  pub variable-full : length c ≡ 5 → length (g 2) ≡ length (t .types) → frameRead 2 (2 ∷ c) (readingAt z t g n) .case .full ≡ true
+  unfolding frameRead variableRead metOf counted goodLine
+  variable-full five h =
+      let l = padded (t .types) (map typeOf (g 2)) in
+      let r : ltb (length (g 2)) (length l) ≡ false = le-ltb (length (g 2)) (length l) (omega (arith, h, length-table typeOf (t .types) (g 2) (omega (arith, h)))) in
+      rw (five, r) refl
+
+  pub predicate-read : length c ≡ 4 → length (g 3) < length (t .predicates) → frameRead 3 (3 ∷ c) (readingAt z t g n) ≡ readingAt z t (added 3 c g) (next n)
+  unfolding frameRead predicateRead metOf counted goodLine
+  predicate-read four r =
+      rw (four, length-table dwordOf (t .predicates) (g 3) (omega (arith, r)), lt-ltb _ _ r, one-more (g 3) c, ← set-table dwordOf (t .predicates) (g 3) c r, dword-behind 3 c) refl
+
+  pub predicate-full : length c ≡ 4 → length (g 3) ≡ length (t .predicates) → frameRead 3 (3 ∷ c) (readingAt z t g n) .case .full ≡ true
+  unfolding frameRead predicateRead metOf counted goodLine
+  predicate-full four h =
+      let l = padded (t .predicates) (map dwordOf (g 3)) in
+      let r : ltb (length (g 3)) (length l) ≡ false = le-ltb (length (g 3)) (length l) (omega (arith, h, length-table dwordOf (t .predicates) (g 3) (omega (arith, h)))) in
+      rw (four, r) refl
+
+  pub surface-read : length c ≤ 1024 → length (g 4) < length (t .lengths) → length (joined (g 4)) + length c ≤ length (t .surfaces) →
+      frameRead 4 (4 ∷ c) (readingAt z t g n) ≡ readingAt z t (added 4 c g) (next n)
+  unfolding frameRead surfaceRead metOf lengthOf counted sized goodLine
+  surface-read small r₁ r₂ =
+      rw (le-leb _ _ small, length-table {A = List ℕ} length (t .lengths) (g 4) (omega (arith, r₁)), lt-ltb _ _ r₁, fits-padded (t .surfaces) (joined (g 4)) c r₂, stored-padded (t .surfaces) (joined (g 4)) c r₂, one-more (g 4) c, joined-more (g 4) c, length-append (joined (g 4)) c, ← set-table {A = List ℕ} length (t .lengths) (g 4) c r₁) refl
+
+  pub surface-long : 1024 < length c → frameRead 4 (4 ∷ c) (readingAt z t g n) .case .full ≡ true
+  unfolding frameRead surfaceRead metOf lengthOf counted sized goodLine
+  surface-long h = rw (lt-leb (length c) 1024 h) refl
+
+  pub surface-full : length c ≤ 1024 → length (g 4) ≡ length (t .lengths) → frameRead 4 (4 ∷ c) (readingAt z t g n) .case .full ≡ true
+  unfolding frameRead surfaceRead metOf lengthOf counted sized goodLine
+  surface-full small h =
+      let l = padded (t .lengths) (map length (g 4)) in
+      let r : ltb (length (g 4)) (length l) ≡ false = le-ltb (length (g 4)) (length l) (omega (arith, h, length-table {A = List ℕ} length (t .lengths) (g 4) (omega (arith, h)))) in
+      rw (le-leb (length c) 1024 small, r) refl

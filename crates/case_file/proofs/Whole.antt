@@ -1,0 +1,133 @@
+-- For every input the bench's output, through the loader's buffers, is that of the case file.
+use mathlib.Core.Path.{_≡_, refl, sym, ap, ap₂, _∙_}
+use mathlib.Core.Bool.{Bool, true, false, true≢false, cond}
+use mathlib.Core.Logic.{inl, ⊎-elim}
+use mathlib.Core.List.{List, [], _∷_, map, append-nil}
+use Prim.Native.Nat.{ℕ, zero, suc, _≤_}
+use native.Mathlib.Omega.{arith}
+use lib.ListN.{length, take, replicate, length-replicate, getD-replicate}
+use lib.Dec.{ltb}
+use borrow.Author.Tests.{lt-ltb, ltb-true, ltb-false}
+use Rattle.little_endian.specs.LittleEndian.{numberAt}
+use Rattle.hex.specs.Bytes.{hexBytes}
+use Rattle.hex.proofs.DigitLaws.{cond-both}
+use Rattle.frames.specs.Reading.{Contents, Tables, Reading, reading}
+use Rattle.frames.specs.Lines.{nothing, metOf, lengthOf}
+use Rattle.frames.specs.Verdicts.{taintLength, verdictOf}
+use Rattle.feeding.specs.Text.{linesOf, linesRead, textRead}
+use Rattle.step.specs.State.{Setup, State}
+use Rattle.output.specs.Output.{answerLine, outputBytes}
+use Rattle.run.specs.Run.{run}
+use Rattle.run.proofs.Whole.{tables-refused}
+use Rattle.run.proofs.PlainRunLaws.{zeros}
+use Rattle.answering.specs.Setting as loader
+use Rattle.answering.specs.Setting.{taintOf}
+use Rattle.answering.specs.Bench.{outcomeOutput, goodOutput, caseOutput, unread, benchOutput}
+use Rattle.case_file.specs.Frames.{contentsOf, firstOf, joined}
+use Rattle.case_file.specs.BadLine.{repeats, firstBad}
+use Rattle.case_file.specs.Case.{typeOf, startOf, countOf, dwordOf, baseOf, memoryOf, marksOf, setupOf, stateOf}
+use Rattle.case_file.specs.Output.{framesOutput, positionOf, linesOutput, caseFileOutput}
+use Rattle.case_file.proofs.Padded.{padded, padded-none, take-padded, take-table}
+use Rattle.case_file.proofs.ByKind.{Kinds, kindsOf}
+use Rattle.case_file.proofs.Loaded.{caseAt, contentsAt, tablesAt, readingAt}
+use Rattle.case_file.proofs.Broken.{Broken, broken-bad}
+use Rattle.case_file.proofs.Held.{Sizes, Few, Held}
+use Rattle.case_file.proofs.Lines.{After, Told, lines-told, position-positive}
+
+marks-taken : (size : ℕ) (cs : List (List ℕ)) (z bytes : List ℕ) → length bytes ≤ size →
+    take (cond (ltb 0 (length cs)) (length (firstOf cs)) (length bytes)) (cond (ltb 0 (length cs)) (padded z (firstOf cs)) (replicate size 0)) ≡ marksOf cs bytes
+unfolding firstOf marksOf
+marks-taken size [] z bytes h = zeros (length bytes) size h
+marks-taken size (c ∷ cs) z bytes h = rw (lt-ltb 0 (suc (length cs)) (omega arith)) (take-padded z c)
+
+-- what the loader holds, cut to what was read, is the case
+module _ (z : Contents) (t : Tables) (frames : List (List ℕ)) (n : ℕ) where
+  abbrev g : Kinds
+  g = kindsOf frames
+
+  setup-same : loader.setupOf (caseAt g n) (contentsAt z t g .kernel) (tablesAt z t g) ≡ setupOf frames
+  unfolding loader.setupOf setupOf metOf lengthOf
+  setup-same =
+      rw (take-padded (z .kernel) (firstOf (g 7)), take-table typeOf (t .types) (g 2), take-table startOf (t .starts) (g 2), take-table countOf (t .counts) (g 2), take-table dwordOf (t .predicates) (g 3), take-table {A = List ℕ} length (t .lengths) (g 4)) refl
+
+  state-same : Few g → loader.stateOf (caseAt g n) (contentsAt z t g) (tablesAt z t g .surfaces) ≡ stateOf frames
+  unfolding loader.stateOf stateOf metOf lengthOf taintOf taintLength
+  state-same f =
+      let surfaces : length (joined (g 4)) ≤ 8192 = omega (arith, f .bytes-small, f .surfaces-few) in
+      rw (
+        take-padded (z .registers) (firstOf (g 1)),
+        take-padded (t .surfaces) (joined (g 4)),
+        take-padded (z .memory) (memoryOf (firstOf (g 5))),
+        marks-taken 4096 (g 8) (z .registerTaint) (firstOf (g 1)) (f .registers-small),
+        marks-taken 8192 (g 9) (z .surfaceTaint) (joined (g 4)) surfaces,
+        marks-taken 4096 (g 10) (z .memoryTaint) (memoryOf (firstOf (g 5))) (f .memory-small),
+      ) refl
+
+  kept-output : Few g → caseOutput (readingAt z t g n) ≡ framesOutput frames
+  unfolding caseOutput goodOutput framesOutput verdictOf
+  kept-output f = ap₂ (λ (x : Setup) (s : State). outcomeOutput (baseOf (firstOf (g 5))) (run x s)) setup-same (state-same f)
+
+broken-output : (frames : List (List ℕ)) (r : Reading) → r .case .bad ≡ 0 → r .case .full ≡ true → Broken (kindsOf frames) → caseOutput r ≡ framesOutput frames
+unfolding caseOutput framesOutput verdictOf outcomeOutput outputBytes
+broken-output frames r b f k =
+    let none : ltb 0 (r .case .bad) ≡ false = rw b refl in
+    rw (none, f, tables-refused (setupOf frames) (stateOf frames) (broken-bad frames k)) (sym (append-nil (answerLine 13 0 0)))
+
+bad-output : (r : Reading) (n : ℕ) → r .case .bad ≡ positionOf n → ltb 0 n ≡ true → caseOutput r ≡ answerLine 14 0 (positionOf n)
+unfolding caseOutput verdictOf
+bad-output r zero e h = absurd (true≢false (sym h))
+bad-output r (suc n) e h = let some : ltb 0 (r .case .bad) ≡ true = ap (ltb 0) e ∙ lt-ltb 0 (positionOf (suc n)) (position-positive n) in rw some (ap (answerLine 14 0) e)
+
+module _ (z : Contents) (t : Tables) (s : Sizes z t) where
+  held-output : (frames : List (List ℕ)) (r : Reading) → r .case .bad ≡ 0 → Held z t (kindsOf frames) r → caseOutput r ≡ framesOutput frames
+  held-output frames r b held =
+      ⊎-elim (λ k. ap caseOutput (k .same) ∙ kept-output z t frames (k .lines) (k .few)) (λ w. broken-output frames r b (w .0) (w .1)) held
+
+  abbrev start : Reading
+  start = reading nothing z t
+
+  none-met : (k : ℕ) → metOf k nothing ≡ 0
+  unfolding metOf nothing
+  none-met k = cond-both (λ (m : ℕ). m ≡ 0) (ltb k 11) (λ h. getD-replicate {A = ℕ} 11 k 0 0 (ltb-true k 11 h)) (λ _. refl)
+
+  at-start : After z t s [] start
+  unfolding positionOf nothing contentsOf firstOf joined memoryOf baseOf dwordOf numberAt metOf
+  at-start =
+      record {
+        judges = record { places = refl; met = λ k _ _. none-met k; bad = refl; lines = refl };
+        held = inl (record { lines = 0; same = sym (rw (padded-none (z .registers), padded-none (z .memory), padded-none (z .kernel), padded-none (z .registerTaint), padded-none (z .surfaceTaint), padded-none (z .memoryTaint), padded-none (t .types), padded-none (t .starts), padded-none (t .counts), padded-none (t .predicates), padded-none (t .surfaces), padded-none (t .lengths)) refl); few = record { registers-small = omega arith; memory-small = omega arith; variables-few = omega arith; predicates-few = omega arith; surfaces-few = omega arith; bytes-small = omega arith } });
+      }
+
+  pub lines-output : (lines : List (List ℕ)) → linesOutput lines ≡ caseOutput (linesRead 16386 lines start)
+  unfolding linesOutput positionOf
+  lines-output lines = sym (told (ltb 0 (firstBad [] lines)) refl)
+    where
+      w : Told z t s [] lines start
+      w = lines-told z t s lines [] start at-start
+
+      told : (q : Bool) → ltb 0 (firstBad [] lines) ≡ q → caseOutput (linesRead 16386 lines start) ≡ cond (ltb 0 (firstBad [] lines)) (answerLine 14 0 (positionOf (firstBad [] lines))) (framesOutput (map hexBytes lines))
+      told true e = rw e (bad-output (linesRead 16386 lines start) (firstBad [] lines) (w .bad) e)
+      told false e =
+          let none : firstBad [] lines ≡ 0 = let k : firstBad [] lines ≤ 0 = ltb-false 0 (firstBad [] lines) e in omega (arith, k) in
+          rw e (held-output (map hexBytes lines) (linesRead 16386 lines start) (w .bad ∙ ap positionOf none) (w .held none))
+
+sizes : Sizes (unread .contents) (unread .tables)
+sizes =
+    record {
+      registers = length-replicate {A = ℕ} 4096 0;
+      memory = length-replicate {A = ℕ} 4096 0;
+      kernel = length-replicate {A = ℕ} 4096 0;
+      registerTaint = length-replicate {A = ℕ} 4096 0;
+      surfaceTaint = length-replicate {A = ℕ} 8192 0;
+      memoryTaint = length-replicate {A = ℕ} 4096 0;
+      types = length-replicate {A = ℕ} 256 0;
+      starts = length-replicate {A = ℕ} 256 0;
+      counts = length-replicate {A = ℕ} 256 0;
+      predicates = length-replicate {A = ℕ} 64 0;
+      surfaces = length-replicate {A = ℕ} 8192 0;
+      lengths = length-replicate {A = ℕ} 8 0;
+    }
+
+pub case-file-output : (input : List ℕ) → benchOutput input ≡ caseFileOutput input
+unfolding caseFileOutput benchOutput textRead
+case-file-output input = sym (lines-output (unread .contents) (unread .tables) sizes (linesOf input))

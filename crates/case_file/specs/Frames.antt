@@ -1,0 +1,29 @@
+-- The frames of a case file. Document 01, "The bench table": "first byte the kind: 01 registers, 02 variable (type ub, start uw, count uw), 03
+-- predicate ud, 04 surface, 05 base uq and memory, 06 EM ud, 07 kernel, 08, 09, 0a marks of registers, surfaces in order, memory".
+use Prim.Native.Nat.{ℕ}
+use mathlib.Core.Bool.{cond}
+use mathlib.Core.List.{List, [], _∷_, _++_}
+use lib.Dec.{eqb}
+use lib.ListN.{getD, drop}
+
+-- a frame is the bytes of a line: its kind, then its content
+abbrev pub kindOf : List ℕ → ℕ
+kindOf frame = getD frame 0 0
+
+abbrev pub contentOf : List ℕ → List ℕ
+contentOf frame = drop 1 frame
+
+-- the contents of the frames of a kind: "numbered from 0 in their order"
+unfoldable pub contentsOf : ℕ → List (List ℕ) → List (List ℕ)
+contentsOf kind [] = []
+contentsOf kind (frame ∷ frames) = cond (eqb (kindOf frame) kind) (contentOf frame ∷ contentsOf kind frames) (contentsOf kind frames)
+
+-- of a kind that comes "once at most"; "absent means empty"
+unfoldable pub firstOf : List (List ℕ) → List ℕ
+firstOf [] = []
+firstOf (content ∷ contents) = content
+
+-- one content after the other
+unfoldable pub joined : List (List ℕ) → List ℕ
+joined [] = []
+joined (content ∷ contents) = content ++ joined contents

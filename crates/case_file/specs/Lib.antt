@@ -1,0 +1,4 @@
+pub mod Frames
+pub mod BadLine
+pub mod Case
+pub mod Output
