@@ -1,14 +1,14 @@
 -- The bench as a whole: an input, cut into any blocks, fed from the start over empty buffers of document 01's sizes, finished and answered,
 -- leaves the output that the input has by definition.
 use mathlib.Core.Path.{_≡_, ap, _∙_}
-use mathlib.Core.List.{List}
+use mathlib.Core.List.{List, flatten}
 use Prim.Native.Nat.{ℕ, _≤_}
 use native.Mathlib.Omega.{arith}
 use lib.ListN.{length, take}
 use Rattle.frames.specs.Reading.{Reading}
 use Rattle.feeding.specs.Feeding.{Machine, machine, fresh, fed, finished}
 use Rattle.feeding.specs.Text.{textRead}
-use Rattle.feeding.proofs.FeedingLaws.{blocksFed, joined, blocks-fed}
+use Rattle.feeding.proofs.FeedingLaws.{blocksFed, blocks-fed}
 use Rattle.feeding.proofs.TextLaws.{fed-text}
 use Rattle.output.specs.Page.{Page, page, written}
 use Rattle.output.proofs.PageLaws.{written-room, written-whole}
@@ -34,7 +34,7 @@ answer-count r out after used h e =
     ap (λ (p : Page). p .used) e ∙ (ap (λ (p : Page). p .used) (written-room (caseOutput r) out 0 (omega (arith, case-size r))) ∙ omega arith)
 
 pub blocks-answered : (blocks : List (List ℕ)) (line out after : List ℕ) (used : ℕ) → length line ≡ 16386 → 32813 ≤ length out →
-    page after used ≡ written (caseOutput (finished (blocksFed blocks (begun line)) .reading)) (page out 0) → take used after ≡ benchOutput (joined blocks)
+    page after used ≡ written (caseOutput (finished (blocksFed blocks (begun line)) .reading)) (page out 0) → take used after ≡ benchOutput (flatten blocks)
 blocks-answered blocks line out after used h k e =
     answer-whole (finished (blocksFed blocks (begun line)) .reading) out after used k e
-    ∙ (ap (λ (m : Machine). caseOutput (finished m .reading)) (blocks-fed blocks (begun line)) ∙ text-output (joined blocks) line h)
+    ∙ (ap (λ (m : Machine). caseOutput (finished m .reading)) (blocks-fed blocks (begun line)) ∙ text-output (flatten blocks) line h)

@@ -2,7 +2,7 @@
 use mathlib.Core.Path.{_≡_, refl, sym, subst}
 use mathlib.Core.Bool.{Bool, true, false, _||_}
 use mathlib.Core.Logic.{_⊎_, inl, inr}
-use mathlib.Core.List.{List, [], _∷_, _++_, map, map-append}
+use mathlib.Core.List.{List, [], _∷_, _++_, map, map-append, flatten}
 use Prim.Native.Nat.{ℕ, _+_, _*_, _≤_, _<_}
 use native.Mathlib.Omega.{arith}
 use lib.ListN.{length, getD, length-append}
@@ -12,13 +12,13 @@ use borrow.Author.Tests.{leb-true, leb-false}
 use Rattle.frames.specs.Reading.{Contents, Tables, Reading}
 use Rattle.frames.specs.Lines.{next}
 use Rattle.frames.specs.Frames.{frameRead}
-use Rattle.case_file.specs.Frames.{kindOf, contentOf, firstOf, joined}
+use Rattle.case_file.specs.Frames.{kindOf, contentOf, firstOf}
 use Rattle.case_file.specs.BadLine.{repeats}
 use Rattle.case_file.specs.Case.{memoryOf}
 use Rattle.case_file.proofs.Padded.{length-map}
 use Rattle.case_file.proofs.ByKind.{Kinds, added, one-more, first-new, none-yet}
 use Rattle.case_file.proofs.Loaded.{readingAt}
-use Rattle.case_file.proofs.Room.{joined-more, registers-read, registers-full, kernel-read, kernel-full, register-taint-read, register-taint-full, surface-taint-read, surface-taint-full, memory-taint-read, memory-taint-full, memory-read, memory-full, mask-read, variable-read, variable-full, predicate-read, predicate-full, surface-read, surface-long, surface-full}
+use Rattle.case_file.proofs.Room.{flatten-more, registers-read, registers-full, kernel-read, kernel-full, register-taint-read, register-taint-full, surface-taint-read, surface-taint-full, memory-taint-read, memory-taint-full, memory-read, memory-full, mask-read, variable-read, variable-full, predicate-read, predicate-full, surface-read, surface-long, surface-full}
 use Rattle.case_file.proofs.Good as good
 use Rattle.case_file.proofs.Good.{Good}
 use Rattle.case_file.proofs.Broken as broken
@@ -49,7 +49,7 @@ pub record Within (registers memory variables predicates surfaces bytes : ℕ) :
   pub bytes-small : bytes ≤ 1024 * surfaces
 
 abbrev pub Few : Kinds → Type 0
-Few g = Within (length (firstOf (g 1))) (length (memoryOf (firstOf (g 5)))) (length (g 2)) (length (g 3)) (length (g 4)) (length (joined (g 4)))
+Few g = Within (length (firstOf (g 1))) (length (memoryOf (firstOf (g 5)))) (length (g 2)) (length (g 3)) (length (g 4)) (length (flatten (g 4)))
 
 pub record Kept (z : Contents) (t : Tables) (g : Kinds) (r : Reading) : Type 0 where
   pub lines : ℕ
@@ -112,7 +112,7 @@ module _ (g : Kinds) (c : List ℕ) (f : Few g) where
         variables-few = f .variables-few;
         predicates-few = f .predicates-few;
         surfaces-few = omega (arith, h, one-more (g 4) c);
-        bytes-small = rw (joined-more (g 4) c, length-append (joined (g 4)) c, one-more (g 4) c) (omega (arith, k, f .bytes-small));
+        bytes-small = rw (flatten-more (g 4) c, length-append (flatten (g 4)) c, one-more (g 4) c) (omega (arith, k, f .bytes-small));
       }
 
 one-over : (l : List (List ℕ)) (c : List ℕ) (n : ℕ) → n ≤ length l → n < length (l ++ (c ∷ []))

@@ -1,11 +1,11 @@
 -- What the loader holds, as a function of the contents of each kind: the counters, and each content at its buffer's start.
 use mathlib.Core.Bool.{false}
-use mathlib.Core.List.{List, [], _∷_, map}
+use mathlib.Core.List.{List, [], _∷_, map, flatten}
 use Prim.Native.Nat.{ℕ}
 use lib.ListN.{length}
 use Rattle.frames.specs.declared.Case.{Case}
 use Rattle.frames.specs.Reading.{Contents, contents, Tables, tables, Reading, reading}
-use Rattle.case_file.specs.Frames.{firstOf, joined}
+use Rattle.case_file.specs.Frames.{firstOf}
 use Rattle.case_file.specs.Case.{typeOf, startOf, countOf, dwordOf, baseOf, memoryOf}
 use Rattle.case_file.proofs.Padded.{padded}
 use Rattle.case_file.proofs.ByKind.{Kinds}
@@ -17,7 +17,7 @@ caseAt g lines =
       bad = 0;
       full = false;
       met = 0 ∷ length (g 1) ∷ length (g 2) ∷ length (g 3) ∷ length (g 4) ∷ length (g 5) ∷ length (g 6) ∷ length (g 7) ∷ length (g 8) ∷ length (g 9) ∷ length (g 10) ∷ [];
-      lengths = 0 ∷ length (firstOf (g 1)) ∷ 0 ∷ 0 ∷ length (joined (g 4)) ∷ length (memoryOf (firstOf (g 5))) ∷ 0 ∷ length (firstOf (g 7)) ∷ length (firstOf (g 8)) ∷ length (firstOf (g 9)) ∷ length (firstOf (g 10)) ∷ [];
+      lengths = 0 ∷ length (firstOf (g 1)) ∷ 0 ∷ 0 ∷ length (flatten (g 4)) ∷ length (memoryOf (firstOf (g 5))) ∷ 0 ∷ length (firstOf (g 7)) ∷ length (firstOf (g 8)) ∷ length (firstOf (g 9)) ∷ length (firstOf (g 10)) ∷ [];
       base = baseOf (firstOf (g 5));
       mask = dwordOf (firstOf (g 6));
     }
@@ -41,7 +41,7 @@ module _ (z : Contents) (t : Tables) where
       (padded (t .starts) (map startOf (g 2)))
       (padded (t .counts) (map countOf (g 2)))
       (padded (t .predicates) (map dwordOf (g 3)))
-      (padded (t .surfaces) (joined (g 4)))
+      (padded (t .surfaces) (flatten (g 4)))
       (padded (t .lengths) (map length (g 4)))
 
   abbrev pub readingAt : Kinds → ℕ → Reading

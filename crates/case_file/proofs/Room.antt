@@ -1,7 +1,7 @@
 -- One more frame: where its content has room, the loader holds what the frames say; where it has none, the case is full.
 use mathlib.Core.Path.{_≡_, refl, sym, ap, _∙_}
 use mathlib.Core.Bool.{true, false}
-use mathlib.Core.List.{List, [], _∷_, _++_, map, append-nil, append-assoc}
+use mathlib.Core.List.{List, [], _∷_, _++_, map, append-nil, append-assoc, flatten}
 use Prim.Native.Nat.{ℕ, zero, suc, _+_, _*_, _≤_, _<_}
 use native.Mathlib.Omega.{arith}
 use lib.ListN.{length, getD, drop, length-append}
@@ -13,7 +13,7 @@ use Rattle.frames.specs.Lines.{next, goodLine, metOf, lengthOf, counted, sized,
 use Rattle.frames.specs.Repeated.{variableRead, predicateRead, surfaceRead}
 use Rattle.frames.specs.Once.{contentRead, memoryRead, maskRead, onceRead}
 use Rattle.frames.specs.Frames.{frameRead}
-use Rattle.case_file.specs.Frames.{firstOf, joined}
+use Rattle.case_file.specs.Frames.{firstOf}
 use Rattle.case_file.specs.Case.{typeOf, startOf, countOf, dwordOf, baseOf, memoryOf}
 use Rattle.case_file.proofs.Padded.{padded, fits-padded, stored-padded, fits-once, stored-once, no-room, length-table, set-table}
 use Rattle.case_file.proofs.ByKind.{Kinds, added, one-more}
@@ -53,10 +53,10 @@ memory-none : memoryOf [] ≡ []
 unfolding memoryOf
 memory-none = refl
 
-pub joined-more : (cs : List (List ℕ)) (c : List ℕ) → joined (cs ++ (c ∷ [])) ≡ joined cs ++ c
-unfolding joined
-joined-more [] c = append-nil c
-joined-more (x ∷ cs) c = ap (λ (l : List ℕ). x ++ l) (joined-more cs c) ∙ sym (append-assoc x (joined cs) c)
+pub flatten-more : (cs : List (List ℕ)) (c : List ℕ) → flatten (cs ++ (c ∷ [])) ≡ flatten cs ++ c
+unfolding flatten
+flatten-more [] c = append-nil c
+flatten-more (x ∷ cs) c = ap (λ (l : List ℕ). x ++ l) (flatten-more cs c) ∙ sym (append-assoc x (flatten cs) c)
 
 module _ (z : Contents) (t : Tables) (g : Kinds) (n : ℕ) (c : List ℕ) where
   pub registers-read : g 1 ≡ [] → length c ≤ length (z .registers) → frameRead 1 (1 ∷ c) (readingAt z t g n) ≡ readingAt z t (added 1 c g) (next n)
@@ -137,11 +137,11 @@ module _ (z : Contents) (t : Tables) (g : Kinds) (n : ℕ) (c : List ℕ) where
       let r : ltb (length (g 3)) (length l) ≡ false = le-ltb (length (g 3)) (length l) (omega (arith, h, length-table dwordOf (t .predicates) (g 3) (omega (arith, h)))) in
       rw (four, r) refl
 
-  pub surface-read : length c ≤ 1024 → length (g 4) < length (t .lengths) → length (joined (g 4)) + length c ≤ length (t .surfaces) →
+  pub surface-read : length c ≤ 1024 → length (g 4) < length (t .lengths) → length (flatten (g 4)) + length c ≤ length (t .surfaces) →
       frameRead 4 (4 ∷ c) (readingAt z t g n) ≡ readingAt z t (added 4 c g) (next n)
   unfolding frameRead surfaceRead metOf lengthOf counted sized goodLine
   surface-read small r₁ r₂ =
-      rw (le-leb _ _ small, length-table {A = List ℕ} length (t .lengths) (g 4) (omega (arith, r₁)), lt-ltb _ _ r₁, fits-padded (t .surfaces) (joined (g 4)) c r₂, stored-padded (t .surfaces) (joined (g 4)) c r₂, one-more (g 4) c, joined-more (g 4) c, length-append (joined (g 4)) c, ← set-table {A = List ℕ} length (t .lengths) (g 4) c r₁) refl
+      rw (le-leb _ _ small, length-table {A = List ℕ} length (t .lengths) (g 4) (omega (arith, r₁)), lt-ltb _ _ r₁, fits-padded (t .surfaces) (flatten (g 4)) c r₂, stored-padded (t .surfaces) (flatten (g 4)) c r₂, one-more (g 4) c, flatten-more (g 4) c, length-append (flatten (g 4)) c, ← set-table {A = List ℕ} length (t .lengths) (g 4) c r₁) refl
 
   pub surface-long : 1024 < length c → frameRead 4 (4 ∷ c) (readingAt z t g n) .case .full ≡ true
   unfolding frameRead surfaceRead metOf lengthOf counted sized goodLine

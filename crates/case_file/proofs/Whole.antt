@@ -2,7 +2,7 @@
 use mathlib.Core.Path.{_≡_, refl, sym, ap, ap₂, _∙_}
 use mathlib.Core.Bool.{Bool, true, false, true≢false, cond}
 use mathlib.Core.Logic.{inl, ⊎-elim}
-use mathlib.Core.List.{List, [], _∷_, map, append-nil}
+use mathlib.Core.List.{List, [], _∷_, map, append-nil, flatten}
 use Prim.Native.Nat.{ℕ, zero, suc, _≤_}
 use native.Mathlib.Omega.{arith}
 use lib.ListN.{length, take, replicate, length-replicate, getD-replicate}
@@ -15,15 +15,19 @@ use Rattle.frames.specs.Reading.{Contents, Tables, Reading, reading}
 use Rattle.frames.specs.Lines.{nothing, metOf, lengthOf}
 use Rattle.frames.specs.Verdicts.{taintLength, verdictOf}
 use Rattle.feeding.specs.Text.{linesOf, linesRead, textRead}
+use Rattle.feeding.specs.Feeding.{finished}
+use Rattle.feeding.proofs.FeedingLaws.{blocksFed}
 use Rattle.step.specs.State.{Setup, State}
 use Rattle.output.specs.Output.{answerLine, outputBytes}
+use Rattle.output.specs.Page.{page, written}
 use Rattle.run.specs.Run.{run}
 use Rattle.run.proofs.Whole.{tables-refused}
 use Rattle.run.proofs.PlainRunLaws.{zeros}
 use Rattle.answering.specs.Setting as loader
 use Rattle.answering.specs.Setting.{taintOf}
+use Rattle.answering.proofs.BenchLaws.{begun, blocks-answered}
 use Rattle.answering.specs.Bench.{outcomeOutput, goodOutput, caseOutput, unread, benchOutput}
-use Rattle.case_file.specs.Frames.{contentsOf, firstOf, joined}
+use Rattle.case_file.specs.Frames.{contentsOf, firstOf}
 use Rattle.case_file.specs.BadLine.{repeats, firstBad}
 use Rattle.case_file.specs.Case.{typeOf, startOf, countOf, dwordOf, baseOf, memoryOf, marksOf, setupOf, stateOf}
 use Rattle.case_file.specs.Output.{framesOutput, positionOf, linesOutput, caseFileOutput}
@@ -53,13 +57,13 @@ module _ (z : Contents) (t : Tables) (frames : List (List ℕ)) (n : ℕ) where
   state-same : Few g → loader.stateOf (caseAt g n) (contentsAt z t g) (tablesAt z t g .surfaces) ≡ stateOf frames
   unfolding loader.stateOf stateOf metOf lengthOf taintOf taintLength
   state-same f =
-      let surfaces : length (joined (g 4)) ≤ 8192 = omega (arith, f .bytes-small, f .surfaces-few) in
+      let surfaces : length (flatten (g 4)) ≤ 8192 = omega (arith, f .bytes-small, f .surfaces-few) in
       rw (
         take-padded (z .registers) (firstOf (g 1)),
-        take-padded (t .surfaces) (joined (g 4)),
+        take-padded (t .surfaces) (flatten (g 4)),
         take-padded (z .memory) (memoryOf (firstOf (g 5))),
         marks-taken 4096 (g 8) (z .registerTaint) (firstOf (g 1)) (f .registers-small),
-        marks-taken 8192 (g 9) (z .surfaceTaint) (joined (g 4)) surfaces,
+        marks-taken 8192 (g 9) (z .surfaceTaint) (flatten (g 4)) surfaces,
         marks-taken 4096 (g 10) (z .memoryTaint) (memoryOf (firstOf (g 5))) (f .memory-small),
       ) refl
 
@@ -91,7 +95,7 @@ module _ (z : Contents) (t : Tables) (s : Sizes z t) where
   none-met k = cond-both (λ (m : ℕ). m ≡ 0) (ltb k 11) (λ h. getD-replicate {A = ℕ} 11 k 0 0 (ltb-true k 11 h)) (λ _. refl)
 
   at-start : After z t s [] start
-  unfolding positionOf nothing contentsOf firstOf joined memoryOf baseOf dwordOf numberAt metOf
+  unfolding positionOf nothing contentsOf firstOf flatten memoryOf baseOf dwordOf numberAt metOf
   at-start =
       record {
         judges = record { places = refl; met = λ k _ _. none-met k; bad = refl; lines = refl };
@@ -128,6 +132,12 @@ sizes =
       lengths = length-replicate {A = ℕ} 8 0;
     }
 
+-- what has no room in the loader's buffers breaks a size, so the run of the case answers 13 itself
 pub case-file-output : (input : List ℕ) → benchOutput input ≡ caseFileOutput input
 unfolding caseFileOutput benchOutput textRead
 case-file-output input = sym (lines-output (unread .contents) (unread .tables) sizes (linesOf input))
+
+-- however the input is cut into blocks
+pub case-file-answered : (blocks : List (List ℕ)) (line out after : List ℕ) (used : ℕ) → length line ≡ 16386 → 32813 ≤ length out →
+    page after used ≡ written (caseOutput (finished (blocksFed blocks (begun line)) .reading)) (page out 0) → take used after ≡ caseFileOutput (flatten blocks)
+case-file-answered blocks line out after used h k e = blocks-answered blocks line out after used h k e ∙ case-file-output (flatten blocks)

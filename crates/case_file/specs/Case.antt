@@ -1,12 +1,12 @@
 -- The case that the frames of a case file describe: what a run borrows. Document 01, "The bench table": "02, 03, 04 repeat, numbered from 0 in
 -- their order; others once at most; absent means empty, base 0, EM 0, marks all 0."
 use Prim.Native.Nat.{ℕ}
-use mathlib.Core.List.{List, [], _∷_, map}
+use mathlib.Core.List.{List, [], _∷_, map, flatten}
 use lib.ListN.{length, getD, drop, replicate}
 use Rattle.little_endian.specs.LittleEndian.{numberAt}
 use Rattle.tables.specs.Tables.{tables}
 use Rattle.step.specs.State.{Setup, setup, State, state}
-use Rattle.case_file.specs.Frames.{contentsOf, firstOf, joined}
+use Rattle.case_file.specs.Frames.{contentsOf, firstOf}
 
 -- "02 variable (type ub, start uw, count uw)"
 unfoldable pub typeOf : List ℕ → ℕ
@@ -54,7 +54,7 @@ stateOf frames =
     state
     (firstOf (contentsOf 1 frames))
     (marksOf (contentsOf 8 frames) (firstOf (contentsOf 1 frames)))
-    (joined (contentsOf 4 frames))
-    (marksOf (contentsOf 9 frames) (joined (contentsOf 4 frames)))
+    (flatten (contentsOf 4 frames))
+    (marksOf (contentsOf 9 frames) (flatten (contentsOf 4 frames)))
     (memoryOf (firstOf (contentsOf 5 frames)))
     (marksOf (contentsOf 10 frames) (memoryOf (firstOf (contentsOf 5 frames))))

@@ -2,7 +2,7 @@
 -- predicate ud, 04 surface, 05 base uq and memory, 06 EM ud, 07 kernel, 08, 09, 0a marks of registers, surfaces in order, memory".
 use Prim.Native.Nat.{ℕ}
 use mathlib.Core.Bool.{cond}
-use mathlib.Core.List.{List, [], _∷_, _++_}
+use mathlib.Core.List.{List, [], _∷_}
 use lib.Dec.{eqb}
 use lib.ListN.{getD, drop}
 
@@ -22,8 +22,3 @@ contentsOf kind (frame ∷ frames) = cond (eqb (kindOf frame) kind) (contentOf f
 unfoldable pub firstOf : List (List ℕ) → List ℕ
 firstOf [] = []
 firstOf (content ∷ contents) = content
-
--- one content after the other
-unfoldable pub joined : List (List ℕ) → List ℕ
-joined [] = []
-joined (content ∷ contents) = content ++ joined contents

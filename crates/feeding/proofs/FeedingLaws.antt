@@ -1,7 +1,7 @@
 -- Feeding is a fold: how a text is cut into blocks does not matter.
 use mathlib.Core.Path.{_≡_, refl, sym, _∙_}
 use mathlib.Core.Bool.{cond}
-use mathlib.Core.List.{List, [], _∷_, _++_}
+use mathlib.Core.List.{List, [], _∷_, _++_, flatten}
 use Prim.Native.Nat.{ℕ, _+_, _-_, _^_, _≤_, _<_}
 use native.Mathlib.Omega.{arith}
 use native.Mathlib.Numerals.{add-one}
@@ -89,11 +89,7 @@ unfoldable pub blocksFed : List (List ℕ) → Machine → Machine
 blocksFed [] m = m
 blocksFed (block ∷ blocks) m = blocksFed blocks (fed block m)
 
-unfoldable pub joined : List (List ℕ) → List ℕ
-joined [] = []
-joined (block ∷ blocks) = block ++ joined blocks
-
-pub blocks-fed : (blocks : List (List ℕ)) (m : Machine) → blocksFed blocks m ≡ fed (joined blocks) m
-unfolding blocksFed joined fed
+pub blocks-fed : (blocks : List (List ℕ)) (m : Machine) → blocksFed blocks m ≡ fed (flatten blocks) m
+unfolding blocksFed flatten fed
 blocks-fed [] m = refl
-blocks-fed (block ∷ blocks) m = blocks-fed blocks (fed block m) ∙ sym (fed-append block (joined blocks) m)
+blocks-fed (block ∷ blocks) m = blocks-fed blocks (fed block m) ∙ sym (fed-append block (flatten blocks) m)

@@ -2,7 +2,7 @@
 use mathlib.Core.Path.{_≡_, sym, ap, _∙_}
 use mathlib.Core.Bool.{Bool, true, false, cond}
 use mathlib.Core.Logic.{⊎-elim}
-use mathlib.Core.List.{List, [], _∷_, _++_}
+use mathlib.Core.List.{List, [], _∷_, _++_, flatten}
 use Prim.Native.Nat.{ℕ, _≤_, _<_}
 use native.Mathlib.Omega.{arith}
 use lib.ListN.{length}
@@ -12,7 +12,7 @@ use Rattle.frames.specs.Reading.{Contents, Tables, Reading, reading}
 use Rattle.frames.specs.Lines.{nothing}
 use Rattle.feeding.specs.Feeding.{Machine, machine, fresh, pushed, ended, byteFed, fed, isBegun, finished}
 use Rattle.feeding.specs.Text.{linesFrom, linesOf, anyLineRead, linesRead, textRead}
-use Rattle.feeding.proofs.FeedingLaws.{blocksFed, joined, blocks-fed}
+use Rattle.feeding.proofs.FeedingLaws.{blocksFed, blocks-fed}
 use Rattle.feeding.proofs.RowLaws.{Begun, begun-none, begun-more}
 
 -- a line that ends is read as the line that it is
@@ -83,6 +83,6 @@ fed-text text buffer contents tables = reads-all (length buffer) text [] (machin
 
 -- whatever the cut, the end is the text read line by line
 pub blocks-text : (blocks : List (List ℕ)) (buffer : List ℕ) (contents : Contents) (tables : Tables) →
-    finished (blocksFed blocks (machine buffer fresh contents tables)) .reading ≡ textRead (length buffer) (joined blocks) (reading nothing contents tables)
+    finished (blocksFed blocks (machine buffer fresh contents tables)) .reading ≡ textRead (length buffer) (flatten blocks) (reading nothing contents tables)
 blocks-text blocks buffer contents tables =
-    ap (λ (m : Machine). finished m .reading) (blocks-fed blocks (machine buffer fresh contents tables)) ∙ fed-text (joined blocks) buffer contents tables
+    ap (λ (m : Machine). finished m .reading) (blocks-fed blocks (machine buffer fresh contents tables)) ∙ fed-text (flatten blocks) buffer contents tables
