@@ -1,6 +1,7 @@
 //! The case generator: deterministic, its cases give the numbers that it means, and they cover what they
 //! are to cover.
 
+use reference::bench::bench;
 use reference::case::Case;
 use reference::case_file::read_case;
 use reference::decode::decode;
@@ -36,7 +37,8 @@ fn faults_answer_as_intended() {
             let generator = Generator::new(seed, Some(mode));
             let mut report = Report::default();
             for index in 0..2500 {
-                report.add(&generator.case(index));
+                let case = generator.case(index);
+                report.add(&case, &bench(&case.file));
             }
             assert_eq!(report.unintended, Vec::<String>::new());
         }
@@ -66,7 +68,8 @@ fn valid_cases_mostly_run_to_their_end() {
     let generator = Generator::new(6, Some(Mode::Valid));
     let mut report = Report::default();
     for index in 0..2000 {
-        report.add(&generator.case(index));
+        let case = generator.case(index);
+        report.add(&case, &bench(&case.file));
     }
     assert_eq!(report.valid, 2000);
     assert!(report.valid_complete >= 800, "{}", report.valid_complete);
