@@ -58,7 +58,8 @@ fn near_misses_have_every_number() {
         names.insert(case.name);
     }
     assert_eq!(numbers, (0..=13).collect());
-    // Cuts may share a name, and a scatter's faulty addresses come three times each.
+    // Cuts may share a name, a scatter's faulty addresses come three times each, and each last byte of the
+    // largest kernel four times.
     assert!(names.len() as u64 > ways - 60, "{} of {ways}", names.len());
 }
 

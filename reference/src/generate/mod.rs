@@ -3,8 +3,10 @@
 pub mod accepted;
 pub mod address_faults;
 pub mod bad_lines;
+pub mod far_rows;
 pub mod fault;
 pub mod faults;
+pub mod largest_kernel;
 pub mod limits;
 pub mod lines;
 pub mod near_misses;
@@ -14,6 +16,7 @@ pub mod random_bytes;
 pub mod reach;
 pub mod report;
 pub mod scene;
+pub mod slip_one;
 pub mod table_faults;
 pub mod two_faults;
 pub mod valid;

@@ -24,8 +24,8 @@ pub enum Place {
     Row127Completed,
     /// 14 at a line whose number takes more than a byte.
     LineOver255,
-    /// 10 where slip 1 answers 11: no lane before the first misaligned one is doubtful.
-    MisalignedBeforeDoubtful,
+    /// 10 where slip 1 answers 11: no lane before the first unaligned one is tainted.
+    UnalignedBeforeTainted,
     /// A refusal at the last byte of the largest kernel.
     LastByteOfLargestKernel,
 }
@@ -36,7 +36,7 @@ impl Place {
         Place::RowOver127RefusedBefore,
         Place::Row127Completed,
         Place::LineOver255,
-        Place::MisalignedBeforeDoubtful,
+        Place::UnalignedBeforeTainted,
         Place::LastByteOfLargestKernel,
     ];
 
@@ -46,7 +46,7 @@ impl Place {
             Place::RowOver127RefusedBefore => "a row over 127, another refusal",
             Place::Row127Completed => "row 127, completed",
             Place::LineOver255 => "14 at a line over 255",
-            Place::MisalignedBeforeDoubtful => "10 where slip 1 answers 11",
+            Place::UnalignedBeforeTainted => "10 where slip 1 answers 11",
             Place::LastByteOfLargestKernel => "a refusal at byte 4,095 of 4,096",
         }
     }
@@ -88,7 +88,7 @@ pub fn reached(file: &[u8], answer: &Answer) -> Vec<Place> {
     see(Place::RowOver127Outside, far && outside);
     see(Place::RowOver127RefusedBefore, far && !outside);
     see(
-        Place::MisalignedBeforeDoubtful,
+        Place::UnalignedBeforeTainted,
         answer.number == TAINTED_ADDRESS && slip_1_answers_11(case.clone(), &refused.instruction),
     );
     places
