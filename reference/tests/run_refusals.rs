@@ -274,8 +274,8 @@ fn elements_outside() {
     assert_eq!(run_on(&mut case, &[draft]).number, 7);
 }
 
-/// 7: row R starts at byte 32·R of its variable, whatever the type. The largest file has 4,096 bytes, so row 127 is
-/// the last that any variable has.
+/// 7: row R starts at byte 32·R of its variable, whatever the type. The largest file has 4,096 bytes, so row
+/// 127 is the last that any variable has.
 #[test]
 fn rows_of_the_largest_variable() {
     let of_type = |type_code, count| {

@@ -1,7 +1,7 @@
 //! Operands in the last row that a variable can have, and in the first that none can.
 //!
-//! Row R starts at byte 32·R of its variable, for every element size, and the largest register file has 4,096 bytes:
-//! row 127 may be good, row 128 and every later one is outside.
+//! Row R starts at byte 32·R of its variable, for every element size, and the largest register file has
+//! 4,096 bytes: row 127 may be good, row 128 and every later one is outside.
 
 use super::accepted::{exec, Kind};
 use super::limits::{byte_destination, one, with};

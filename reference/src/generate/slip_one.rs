@@ -108,8 +108,8 @@ pub fn unaligned_and_tainted(random: &mut Random) -> (Scene, String, u8) {
     (scene, name, number)
 }
 
-/// Turn each lane on or off as it is wanted, those for which nothing is wanted at random: by EM or by a predicate.
-/// Gives the lanes as bits.
+/// Turn each lane on or off as it is wanted, by EM or by a predicate; lanes for which nothing is wanted are on
+/// or off at random. Gives the lanes as bits.
 fn turn_lanes_on(
     random: &mut Random,
     scene: &mut Scene,
