@@ -8,8 +8,8 @@
 //! - "The numbers given back": `number`, `run_checks`, `run`
 //! - "The bench table" (the bench program): `case_file`, `case_writer`, `bench`, `batch`
 //!
-//! Beside the interpreter stand the case generator (`assemble`, `generate`) and the comparison
-//! (`command`, `difference`).
+//! Beside the interpreter stand the case generator (`assemble`, `generate`), the comparison (`source`,
+//! `command`, `difference`, `comparison`) and the programs (`programs`, `panics`).
 
 pub mod assemble;
 pub mod batch;
@@ -18,6 +18,7 @@ pub mod case;
 pub mod case_file;
 pub mod case_writer;
 pub mod command;
+pub mod comparison;
 pub mod cursor;
 pub mod decode;
 pub mod difference;
@@ -31,6 +32,8 @@ pub mod instruction;
 pub mod lanes;
 pub mod number;
 pub mod operands;
+pub mod panics;
+pub mod programs;
 pub mod region;
 pub mod run;
 pub mod run_checks;
@@ -38,3 +41,4 @@ pub mod scatter;
 pub mod shl;
 pub mod show;
 pub mod sizes;
+pub mod source;

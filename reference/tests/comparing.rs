@@ -1,5 +1,7 @@
 //! The comparison: equal outputs pass, every wrong copy is caught, and the report says where.
 
+mod wrong;
+
 use reference::difference::{first_difference, listing};
 use std::path::{Path, PathBuf};
 use std::process::{Command, Output};
@@ -8,12 +10,18 @@ const COMPARE: &str = env!("CARGO_BIN_EXE_compare");
 const REFERENCE: &str = env!("CARGO_BIN_EXE_reference");
 const CASES: &str = env!("CARGO_BIN_EXE_cases");
 
-fn compare(arguments: &[&str], wrong: &str) -> Output {
+/// Compare a command.
+fn compare(command: &str, arguments: &[&str]) -> Output {
     Command::new(COMPARE)
+        .args(["--command", command])
         .args(arguments)
-        .env("REFERENCE_TEST_ONLY_WRONG", wrong)
         .output()
         .unwrap()
+}
+
+/// The command that answers wrongly in a way.
+fn wrong_copy(way: &str) -> String {
+    format!("{} {way} reference", wrong::program())
 }
 
 fn text(output: &Output) -> String {
@@ -34,29 +42,44 @@ fn folder(name: &str) -> PathBuf {
     folder
 }
 
+/// Each process gets its own case and its output is judged for that case, one process at a time or several.
 #[test]
-fn the_reference_agrees_with_itself() {
-    let output = compare(&["--seed", "11", "--count", "200"], "");
-    assert_eq!(text(&output), "200 passed, 0 failed\n");
+fn equal_outputs_pass_with_a_process_for_each_case() {
+    for jobs in ["1", "2", "7"] {
+        let arguments = ["--seed", "11", "--count", "100", "--jobs", jobs];
+        let output = compare(REFERENCE, &arguments);
+        assert_eq!(text(&output), "100 passed, 0 failed\n");
+        assert!(output.status.success());
+    }
+}
+
+/// More cases than one process takes.
+#[test]
+fn equal_outputs_pass_in_the_batch_framing() {
+    let command = format!("{REFERENCE} --batch");
+    let output = compare(&command, &["--batch", "--seed", "12", "--count", "1500"]);
+    assert_eq!(text(&output), "1500 passed, 0 failed\n");
     assert!(output.status.success());
-    let output = compare(
-        &["--command", REFERENCE, "--count", "40", "--jobs", "1"],
-        "",
-    );
-    assert_eq!(last_line(&output), "40 passed, 0 failed");
 }
 
 #[test]
-fn the_batch_mode_agrees_too() {
-    let output = compare(&["--batch", "--seed", "12", "--count", "1500"], "");
-    assert_eq!(text(&output), "1500 passed, 0 failed\n");
-    assert!(output.status.success());
+fn a_command_is_needed() {
+    for arguments in [&[][..], &["--count", "1"], &["--command", " "]] {
+        let output = Command::new(COMPARE).args(arguments).output().unwrap();
+        assert_eq!(output.status.code(), Some(2));
+        assert_eq!(text(&output), "");
+        let problem = String::from_utf8(output.stderr).unwrap();
+        assert!(
+            problem.contains("usage: compare --command CMD"),
+            "{problem}"
+        );
+    }
 }
 
 /// Each wrong copy fails on the cases where its wrongness shows, and on those alone.
 #[test]
 fn wrong_copies_are_caught() {
-    for (wrong, place) in [
+    for (way, place) in [
         (
             "number",
             "line 1 (frame 40, the answer: number ub, completed uw, position ud), byte 1",
@@ -73,29 +96,31 @@ fn wrong_copies_are_caught() {
         ),
     ] {
         for batch in [false, true] {
+            let mut command = wrong_copy(way);
             let mut arguments = vec!["--count", "60", "--show", "60"];
             if batch {
+                command.push_str(" --batch");
                 arguments.push("--batch");
             }
-            let output = compare(&arguments, wrong);
-            assert!(!output.status.success(), "{wrong}");
+            let output = compare(&command, &arguments);
+            assert!(!output.status.success(), "{way}");
             let failed: u64 = last_line(&output)
                 .split(' ')
                 .nth(2)
                 .and_then(|count| count.parse().ok())
                 .expect("the last line counts");
-            assert!(failed > 0, "{wrong}");
+            assert!(failed > 0, "{way}");
             let report = text(&output);
-            assert!(report.contains(place), "{wrong}: {report}");
+            assert!(report.contains(place), "{way}: {report}");
             let shown = report.matches("first difference: ").count() as u64;
-            assert_eq!(shown, failed, "{wrong}");
+            assert_eq!(shown, failed, "{way}");
             for part in ["seed 1, case ", "\ncase:\n", "\nexpected:\n", "\ngot:\n"] {
-                assert!(report.contains(part), "{wrong}: {part:?}");
+                assert!(report.contains(part), "{way}: {part:?}");
             }
             // Cases whose answer is right are not among them: a wrong number shows only where the right
             // one is not 0, and a wrong end or silence everywhere.
-            let everywhere = wrong == "end" || wrong == "silent";
-            assert_eq!(failed == 60, everywhere, "{wrong}: {failed}");
+            let everywhere = way == "end" || way == "silent";
+            assert_eq!(failed == 60, everywhere, "{way}: {failed}");
         }
     }
 }
@@ -109,10 +134,7 @@ fn other_commands_fail() {
         ("sleep 9", "no end within 1 s"),
         ("no-such-program-anywhere", "cannot start"),
     ] {
-        let output = compare(
-            &["--command", command, "--count", "2", "--timeout", "1"],
-            "",
-        );
+        let output = compare(command, &["--count", "2", "--timeout", "1"]);
         assert!(!output.status.success());
         assert_eq!(last_line(&output), "0 passed, 2 failed", "{command}");
         assert!(
@@ -121,29 +143,45 @@ fn other_commands_fail() {
             text(&output)
         );
     }
-    let output = compare(&["--command", "true", "--batch", "--count", "2"], "");
+    let output = compare("true", &["--batch", "--count", "2"]);
     assert_eq!(last_line(&output), "0 passed, 2 failed");
 }
 
-/// Case files of a folder, in the order of their names.
+/// The case files of a folder, in the order of their names, and nothing else that stands there.
 #[test]
 fn a_folder_of_case_files() {
     let folder = folder("folder_of_cases");
-    std::fs::write(folder.join("1-empty"), "").unwrap();
-    std::fs::write(folder.join("2-bad-line"), "01\n\n").unwrap();
-    std::fs::write(folder.join("3-no-opcode"), "07ff").unwrap();
+    std::fs::write(folder.join("1-empty.case"), "").unwrap();
+    std::fs::write(folder.join("2-bad-line.case"), "01\n\n").unwrap();
+    std::fs::write(folder.join("3-no-opcode.case"), "07ff").unwrap();
+    std::fs::write(folder.join("1-empty.out"), "").unwrap();
+    std::fs::write(folder.join("README.md"), "").unwrap();
+    std::fs::write(folder.join("case"), "").unwrap();
+    std::fs::create_dir(folder.join("folder.case")).unwrap();
     let path = folder.display().to_string();
-    let output = compare(&["--folder", &path], "");
+    let output = compare(REFERENCE, &["--folder", &path]);
     assert_eq!(text(&output), "3 passed, 0 failed\n");
-    let output = compare(&["--folder", &path], "number");
+    let output = compare(&wrong_copy("number"), &["--folder", &path]);
     assert_eq!(last_line(&output), "1 passed, 2 failed");
     let report = text(&output);
     assert!(
-        report.starts_with(&format!("{path}/2-bad-line\n")),
+        report.starts_with(&format!("{path}/2-bad-line.case\n")),
         "{report}"
     );
     assert!(report.contains("byte 1: expected \"0e\", got \"00\""));
     assert!(report.contains("byte 1: expected \"02\", got \"00\""));
+}
+
+#[test]
+fn a_folder_without_case_files_is_refused() {
+    let folder = folder("folder_without_cases");
+    std::fs::write(folder.join("README.md"), "").unwrap();
+    std::fs::write(folder.join("1-empty.out"), "").unwrap();
+    for path in [folder.clone(), folder.join("nowhere")] {
+        let output = compare(REFERENCE, &["--folder", &path.display().to_string()]);
+        assert_eq!(output.status.code(), Some(2));
+        assert_eq!(text(&output), "");
+    }
 }
 
 /// Hand-made case files of this package answer what is written down beside them.
@@ -197,7 +235,7 @@ fn written_cases() {
         one.stdout,
         std::fs::read(folder.join("000017-bad-lines.case")).unwrap()
     );
-    let output = compare(&["--folder", &path], "");
+    let output = compare(REFERENCE, &["--folder", &path]);
     assert_eq!(text(&output), "40 passed, 0 failed\n");
 }
 

@@ -1,6 +1,7 @@
 //! The case generator: deterministic, its cases give the numbers that it means, and they cover what they
 //! are to cover.
 
+use reference::bench::bench;
 use reference::case::Case;
 use reference::case_file::read_case;
 use reference::decode::decode;
@@ -36,7 +37,8 @@ fn faults_answer_as_intended() {
             let generator = Generator::new(seed, Some(mode));
             let mut report = Report::default();
             for index in 0..2500 {
-                report.add(&generator.case(index));
+                let case = generator.case(index);
+                report.add(&case, &bench(&case.file));
             }
             assert_eq!(report.unintended, Vec::<String>::new());
         }
@@ -56,7 +58,8 @@ fn near_misses_have_every_number() {
         names.insert(case.name);
     }
     assert_eq!(numbers, (0..=13).collect());
-    // Cuts may share a name, and a scatter's faulty addresses come three times each.
+    // Cuts may share a name, a scatter's faulty addresses come three times each, and each last byte of the
+    // largest kernel four times.
     assert!(names.len() as u64 > ways - 60, "{} of {ways}", names.len());
 }
 
@@ -66,7 +69,8 @@ fn valid_cases_mostly_run_to_their_end() {
     let generator = Generator::new(6, Some(Mode::Valid));
     let mut report = Report::default();
     for index in 0..2000 {
-        report.add(&generator.case(index));
+        let case = generator.case(index);
+        report.add(&case, &bench(&case.file));
     }
     assert_eq!(report.valid, 2000);
     assert!(report.valid_complete >= 800, "{}", report.valid_complete);

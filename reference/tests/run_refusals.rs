@@ -274,6 +274,59 @@ fn elements_outside() {
     assert_eq!(run_on(&mut case, &[draft]).number, 7);
 }
 
+/// 7: row R starts at byte 32·R of its variable, whatever the type. The largest file has 4,096 bytes, so row
+/// 127 is the last that any variable has.
+#[test]
+fn rows_of_the_largest_variable() {
+    let of_type = |type_code, count| {
+        let mut case = stage();
+        case.registers = vec![0; 4096];
+        case.register_taint = vec![0; 4096];
+        case.variables.push(Variable {
+            type_code,
+            start: 0,
+            count,
+        });
+        case
+    };
+    for row in 0..=255 {
+        let expected = if row <= 127 { 0 } else { 7 };
+        for (type_code, count) in [
+            (0, 1024),
+            (1, 1024),
+            (2, 2048),
+            (3, 2048),
+            (4, 4096),
+            (5, 4096),
+        ] {
+            let src = general(NO_VARIABLE, row, 0, SCALAR_REGION);
+            let dst = general(NO_VARIABLE, row, 0, DST);
+            for draft in [
+                shl(0, 0, &dst, &one(), &one()),
+                shl(0, 0, &good_dst(), &src, &one()),
+                shl(0, 0, &good_dst(), &one(), &src),
+            ] {
+                let mut case = of_type(type_code, count);
+                assert_eq!(run_on(&mut case, &[draft]).number, expected, "row {row}");
+            }
+        }
+        let scalar = general(NO_VARIABLE, row, 0, SCALAR_REGION);
+        let mut case = of_type(0, 1024);
+        let draft = gather(0x03, 0, 2, 0, &scalar, &raw(UD, 0), &raw(UD, 0));
+        assert_eq!(run_on(&mut case, &[draft]).number, expected, "row {row}");
+        let mut case = of_type(11, 512);
+        // No lane on, so that the address itself is not asked about.
+        case.execution_mask = 0;
+        let draft = scatter(0x03, 0, 1, &scalar, &raw(UQ, 0), &raw(UD, 0));
+        assert_eq!(run_on(&mut case, &[draft]).number, expected, "row {row}");
+        // RAW_SEND: otherwise good.
+        let mut case = of_type(0, 1024);
+        let draft = raw_send(0x03, 0, 1, 0, &scalar, &raw(UD, 0), &raw(UD, 0));
+        let expected = if row <= 127 { 9 } else { 7 };
+        assert_eq!(run_on(&mut case, &[draft]).number, expected, "row {row}");
+    }
+}
+
 /// 7: "touch at most two adjacent registers, lowest byte to highest", in the register file.
 #[test]
 fn two_registers() {

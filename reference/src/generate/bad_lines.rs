@@ -18,12 +18,36 @@ pub fn bad_lines(random: &mut Random, number: u64) -> Generated {
     scene.case.kernel = prefix(random, &scene);
     let lines = lines_of(random, &scene.case);
     let bad = bad_line(random, lines, number % BAD_LINE_WAYS);
+    let (mut name, mut file) = (bad.name.to_string(), Vec::new());
+    if random.chance(30) {
+        let count = random.range(250, 300);
+        file = good_lines(random, count);
+        name = format!("{name}, {count} lines further down");
+    }
+    file.extend(bad.file);
     Generated {
         mode: Mode::BadLines,
-        name: bad.name.to_string(),
+        name,
         intended: Some(14),
-        file: bad.file,
+        file,
     }
+}
+
+/// So many short lines of the kinds that repeat: surfaces, predicates, variables, or all of them.
+fn good_lines(random: &mut Random, count: u64) -> Vec<u8> {
+    let kinds = random.pick(&[&[4][..], &[3], &[2], &[2, 3, 4]]);
+    let mut lines = Vec::new();
+    for _ in 0..count {
+        let kind = random.pick(kinds);
+        let bytes = match kind {
+            2 => 5,
+            3 => 4,
+            _ => random.below(2),
+        };
+        lines.extend(frame(random, kind, bytes));
+        lines.push(0x0a);
+    }
+    lines
 }
 
 /// A line of a kind with a body of so many bytes.

@@ -1,6 +1,7 @@
 //! Cases exactly at a limit: the last value that is still good, or what only looks wrong.
 
 use super::accepted::Kind;
+use super::far_rows::{in_row, FarOperand};
 use super::fault::Form;
 use super::near_misses::{base_instruction, base_scene, give_form, prefix};
 use super::random::Random;
@@ -17,7 +18,7 @@ pub struct Limit {
 }
 
 /// A scene whose kernel is a prefix and then this instruction.
-fn with(random: &mut Random, mut scene: Scene, draft: &Draft) -> Scene {
+pub fn with(random: &mut Random, mut scene: Scene, draft: &Draft) -> Scene {
     let mut kernel = prefix(random, &scene);
     kernel.extend(draft.bytes());
     scene.case.kernel = kernel;
@@ -25,7 +26,7 @@ fn with(random: &mut Random, mut scene: Scene, draft: &Draft) -> Scene {
 }
 
 /// A byte destination at the work area's start.
-fn byte_destination(scene: &mut Scene) -> Operand {
+pub fn byte_destination(scene: &mut Scene) -> Operand {
     scene.case.variables.push(variable(4, 0, 32));
     general(
         scene.case.variables.len() as u16 - 1,
@@ -35,7 +36,7 @@ fn byte_destination(scene: &mut Scene) -> Operand {
     )
 }
 
-fn one() -> Operand {
+pub fn one() -> Operand {
     immediate(0, 1)
 }
 
@@ -204,6 +205,30 @@ pub fn limits() -> Vec<Limit> {
                 with(r, scene, &draft)
             },
         ),
+        ("destination in row 127", 0, |r| {
+            in_row(r, 127, FarOperand::Destination)
+        }),
+        ("destination in row 128", 7, |r| {
+            in_row(r, 128, FarOperand::Destination)
+        }),
+        ("source in row 127", 0, |r| {
+            in_row(r, 127, FarOperand::Source)
+        }),
+        ("source in row 128", 7, |r| {
+            in_row(r, 128, FarOperand::Source)
+        }),
+        ("gather's offset in row 127", 0, |r| {
+            in_row(r, 127, FarOperand::Offset)
+        }),
+        ("gather's offset in row 128", 7, |r| {
+            in_row(r, 128, FarOperand::Offset)
+        }),
+        ("scatter's address in row 127", 0, |r| {
+            in_row(r, 127, FarOperand::Address)
+        }),
+        ("scatter's address in row 128", 7, |r| {
+            in_row(r, 128, FarOperand::Address)
+        }),
         ("three registers, the middle one touched or not", 7, |r| {
             let mut scene = base_scene(r);
             let dst = byte_destination(&mut scene);

@@ -3,16 +3,20 @@
 pub mod accepted;
 pub mod address_faults;
 pub mod bad_lines;
+pub mod far_rows;
 pub mod fault;
 pub mod faults;
+pub mod largest_kernel;
 pub mod limits;
 pub mod lines;
 pub mod near_misses;
 pub mod operand_faults;
 pub mod random;
 pub mod random_bytes;
+pub mod reach;
 pub mod report;
 pub mod scene;
+pub mod slip_one;
 pub mod table_faults;
 pub mod two_faults;
 pub mod valid;
@@ -46,6 +50,10 @@ impl Mode {
             Mode::BadLines => "bad-lines",
             Mode::RandomBytes => "random-bytes",
         }
+    }
+
+    pub fn of_name(name: &str) -> Option<Mode> {
+        Mode::ALL.into_iter().find(|mode| mode.name() == name)
     }
 }
 
@@ -83,19 +91,30 @@ impl Generator {
         self.ways.count()
     }
 
-    /// The case of an index. Of twenty cases eight are valid, six near misses, three have two faults,
-    /// one has a bad line and two are random bytes.
-    pub fn case(&self, index: u64) -> Generated {
-        let mut random = Random::new(self.seed, index);
+    /// What says which case has an index, before it is made.
+    pub fn place(&self, index: u64) -> String {
+        let mode = self.mode_and_number(index).0.name();
+        format!("seed {}, case {index} ({mode})", self.seed)
+    }
+
+    /// The mode of an index and its running number there. Of twenty cases eight are valid, six near misses,
+    /// three have two faults, one has a bad line and two are random bytes.
+    fn mode_and_number(&self, index: u64) -> (Mode, u64) {
         let (round, turn) = (index / 20, index % 20);
-        let (mode, number) = match (self.only, turn) {
+        match (self.only, turn) {
             (Some(mode), _) => (mode, index),
             (None, 0..=7) => (Mode::Valid, 0),
             (None, 8..=13) => (Mode::NearMiss, 6 * round + turn - 8),
             (None, 14..=16) => (Mode::TwoFaults, 3 * round + turn - 14),
             (None, 17) => (Mode::BadLines, round),
             (None, _) => (Mode::RandomBytes, 0),
-        };
+        }
+    }
+
+    /// The case of an index.
+    pub fn case(&self, index: u64) -> Generated {
+        let mut random = Random::new(self.seed, index);
+        let (mode, number) = self.mode_and_number(index);
         match mode {
             Mode::Valid => valid::valid(&mut random),
             Mode::NearMiss => self.ways.near_miss(&mut random, number),

@@ -3,6 +3,7 @@
 use super::accepted::Kind;
 use super::fault::{Fault, Form};
 use super::faults::faults_of;
+use super::largest_kernel::{self, refused_at_its_end};
 use super::limits::{limits, Limit};
 use super::lines::{file_of, lines_of};
 use super::random::Random;
@@ -15,6 +16,9 @@ pub const KINDS: [Kind; 4] = [Kind::Shl, Kind::Gather, Kind::Scatter, Kind::Send
 
 /// Cutting an instruction short counts as forty ways, ten for each kind.
 const CUTS: usize = 40;
+
+/// Refusing the largest kernel at its last byte counts as twenty ways, so that one case of a hundred does it.
+const LAST_BYTES: usize = 4 * largest_kernel::WAYS;
 
 /// Every way of being wrong by one thing.
 pub struct Ways {
@@ -36,7 +40,7 @@ impl Ways {
     /// How many ways there are.
     pub fn count(&self) -> usize {
         let faults: usize = self.faults.iter().map(Vec::len).sum();
-        faults + CUTS + self.tables.len() + self.limits.len()
+        faults + CUTS + LAST_BYTES + self.tables.len() + self.limits.len()
     }
 
     /// The near miss of a running number; all ways come in turn.
@@ -52,6 +56,11 @@ impl Ways {
             return cut_short(random, KINDS[way % 4]);
         }
         way -= CUTS;
+        if way < LAST_BYTES {
+            let (scene, name, number) = refused_at_its_end(random, way % largest_kernel::WAYS);
+            return near(random, &scene, &name, number);
+        }
+        way -= LAST_BYTES;
         if way < self.tables.len() {
             let fault = &self.tables[way];
             let mut scene = base_scene(random);

@@ -325,16 +325,36 @@ fn outside(
             .map(|part| Touch::Slot(at(*part)))
             .collect::<Vec<_>>()
     };
-    let row = format!("{name} row 255");
+    // Row 128 starts at byte 4,096 of its variable, and no variable is that long.
+    for (what, least) in [("row 255", 255), ("row over 127", 128)] {
+        faults.run(
+            &format!("{name} {what}"),
+            7,
+            rank,
+            general,
+            touch(&[Part::Row]),
+            move |_, _, draft| {
+                let row = draft.get(at(Part::Row)).unwrap()[0];
+                draft.set(at(Part::Row), &[row | least]);
+            },
+        );
+    }
     faults.run(
-        &row,
+        &format!("{name} row that is negative as a signed byte"),
         7,
         rank,
         general,
-        touch(&[Part::Row]),
-        move |_, _, draft| {
-            // At least 255 rows of 4 elements: more than any variable has.
-            draft.set(at(Part::Row), &[255]);
+        touch(&[Part::Index, Part::Row, Part::Column]),
+        move |random, scene, draft| {
+            let variable = scene.variable(word_of(draft.get(at(Part::Index)).unwrap()));
+            let byte = |part| u64::from(draft.get(at(part)).unwrap()[0]);
+            let in_a_row = 32 / size_of(&variable);
+            let element = byte(Part::Row) * in_a_row + byte(Part::Column);
+            // The column makes up for the rows below 0, as far as it can: read so, the element is the good one.
+            let back = random.range(1, (255u64.saturating_sub(element) / in_a_row).max(1));
+            let column = (element + back * in_a_row).min(255);
+            draft.set(at(Part::Row), &[(256 - back) as u8]);
+            draft.set(at(Part::Column), &[column as u8]);
         },
     );
     let everything = touch(&[Part::Index, Part::Row, Part::Column, Part::Region]);

@@ -1,8 +1,9 @@
 //! The generator's report: how many cases of each mode and intended number, how many valid cases ran all
-//! their instructions, and the numbers that the library answers.
+//! their instructions, the numbers that are answered, and the rare places that are reached.
 
+use super::reach::{reached, Place};
 use super::{Generated, Mode};
-use crate::bench::bench;
+use crate::run::Answer;
 use std::collections::BTreeMap;
 use std::fmt::{self, Display};
 
@@ -10,8 +11,10 @@ use std::fmt::{self, Display};
 pub struct Report {
     /// Cases by mode and intended number; none is intended for random bytes.
     pub intended: BTreeMap<(Mode, Option<u8>), u64>,
-    /// Cases by the library's answer.
+    /// Cases by the number answered.
     pub answered: BTreeMap<u8, u64>,
+    /// Cases that reach a rare place; one case may reach several.
+    pub reached: BTreeMap<Place, u64>,
     pub valid: u64,
     /// Valid cases that answer 0: all their instructions were completed.
     pub valid_complete: u64,
@@ -23,11 +26,16 @@ pub struct Report {
 }
 
 impl Report {
-    pub fn add(&mut self, case: &Generated) {
-        let (number, completed) = answer_of(&bench(&case.file));
+    /// Count a case and the output that it gives.
+    pub fn add(&mut self, case: &Generated, output: &[u8]) {
+        let answer = answer_of(output);
+        let number = answer.number;
         *self.intended.entry((case.mode, case.intended)).or_default() += 1;
         *self.answered.entry(number).or_default() += 1;
-        self.completed += completed;
+        for place in reached(&case.file, &answer) {
+            *self.reached.entry(place).or_default() += 1;
+        }
+        self.completed += answer.completed as u64;
         self.bytes += case.file.len() as u64;
         if case.mode == Mode::Valid {
             self.valid += 1;
@@ -37,17 +45,29 @@ impl Report {
             self.unintended.push(name);
         }
     }
+
+    /// How many cases reach a place.
+    pub fn count_of(&self, place: Place) -> u64 {
+        self.reached.get(&place).copied().unwrap_or_default()
+    }
 }
 
-/// Number and completed of an output's first line.
-pub fn answer_of(output: &[u8]) -> (u8, u64) {
-    let text = String::from_utf8_lossy(&output[..8.min(output.len())]).into_owned();
-    let byte = |at: usize| {
-        text.get(at..at + 2)
-            .and_then(|digits| u8::from_str_radix(digits, 16).ok())
-            .unwrap_or(255)
+/// The answer on an output's first line: "40 (number ub, completed uw, position ud)". Bytes that are not
+/// there count as 255.
+pub fn answer_of(output: &[u8]) -> Answer {
+    let text = String::from_utf8_lossy(&output[..16.min(output.len())]).into_owned();
+    let number = |from: usize, bytes: usize| {
+        let byte = |k: usize| {
+            let digits = text.get(2 * k..2 * k + 2)?;
+            usize::from_str_radix(digits, 16).ok()
+        };
+        (0..bytes).rfold(0, |number, k| 256 * number + byte(from + k).unwrap_or(255))
     };
-    (byte(2), u64::from(byte(4)) + 256 * u64::from(byte(6)))
+    Answer {
+        number: number(1, 1) as u8,
+        completed: number(2, 2),
+        position: number(4, 4),
+    }
 }
 
 impl Display for Report {
@@ -69,11 +89,15 @@ impl Display for Report {
             }
             writeln!(to)?;
         }
-        write!(to, "answers of the library: ")?;
+        write!(to, "answers: ")?;
         for (number, count) in &self.answered {
             write!(to, "  {number}: {count}")?;
         }
         writeln!(to)?;
+        writeln!(to, "rare places reached:")?;
+        for place in Place::ALL {
+            writeln!(to, "  {:<34}{:>6}", place.name(), self.count_of(place))?;
+        }
         let percent = 100 * self.valid_complete / self.valid.max(1);
         writeln!(
             to,

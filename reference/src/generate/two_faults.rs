@@ -7,6 +7,7 @@ use super::lines::{file_of, lines_of};
 use super::near_misses::{base_instruction, base_scene, give_form, prefix, suffix, Ways, KINDS};
 use super::random::Random;
 use super::scene::Scene;
+use super::slip_one::unaligned_and_tainted;
 use super::{Generated, Mode};
 use crate::assemble::{Draft, Slot};
 
@@ -52,13 +53,17 @@ impl Ways {
         if number % 3 == 0 {
             return self.cut_at_the_fault(random, number / 3);
         }
-        match random.below(20) {
+        match random.below(23) {
             0..=10 => self.in_one_instruction(random),
             11 | 12 => self.with_a_cut(random),
             13 | 14 => self.in_two_instructions(random),
             15 => self.with_the_tables(random),
             16..=18 => self.line_and_tables(random),
-            _ => two_lines(random),
+            19 => two_lines(random),
+            _ => {
+                let (scene, name, number) = unaligned_and_tainted(random);
+                two(random, &scene, name, number)
+            }
         }
     }
 

@@ -1,0 +1,217 @@
+//! The report's rare places: each is seen where a case reaches it and not seen beside it, and the fixed seed
+//! reaches all of them.
+
+mod common;
+
+use common::*;
+use reference::assemble::*;
+use reference::bench::bench;
+use reference::case::{Case, Variable};
+use reference::case_writer::write_case;
+use reference::generate::reach::{reached, Place};
+use reference::generate::report::{answer_of, Report};
+use reference::generate::Generator;
+
+fn places_of_file(file: &[u8]) -> Vec<Place> {
+    reached(file, &answer_of(&bench(file)))
+}
+
+fn places(case: &mut Case, drafts: &[Draft]) -> Vec<Place> {
+    case.kernel = kernel(drafts);
+    places_of_file(&write_case(case))
+}
+
+/// "40 (number ub, completed uw, position ud)", little-endian.
+#[test]
+fn answers_are_read_from_the_first_line() {
+    assert_eq!(
+        answer_of(b"400702030405060708\n01"),
+        answer(7, 0x0302, 0x0706_0504)
+    );
+    assert_eq!(answer_of(b"4000010018000000\n01\n"), answer(0, 1, 24));
+}
+
+/// A stage with the largest register file, and its number of a variable that is all of it, in dwords.
+fn largest_stage() -> (Case, u16) {
+    let mut case = stage();
+    case.registers.resize(4096, 0);
+    case.register_taint.resize(4096, 0);
+    case.variables.push(Variable {
+        type_code: 0,
+        start: 0,
+        count: 1024,
+    });
+    let index = case.variables.len() as u16 - 1;
+    (case, index)
+}
+
+#[test]
+fn rows() {
+    let (mut case, whole) = largest_stage();
+    let good = immediate(0, 1);
+    let dst = general(UD, 0, 0, destination_region(1));
+    let of_row = |row| general(whole, row, 0, SCALAR_REGION);
+    let source = |row| shl(0, 0, &dst, &of_row(row), &good);
+    let count = |row| shl(0, 0, &dst, &good, &of_row(row));
+    let destination = |row| {
+        let dst = general(whole, row, 0, destination_region(1));
+        shl(0, 0, &dst, &good, &good)
+    };
+    let offset = |row| gather(0, 0, 0, 0, &of_row(row), &raw(UD, 0), &raw(UD, 0));
+    for (last, next, far) in [
+        (source(127), source(128), source(255)),
+        (count(127), count(128), count(255)),
+        (destination(127), destination(128), destination(255)),
+        (offset(127), offset(128), offset(255)),
+    ] {
+        let accepted = places(&mut case.clone(), &[last.clone()]);
+        assert_eq!(accepted, [Place::Row127Completed]);
+        for over in [next, far] {
+            assert_eq!(
+                places(&mut case.clone(), &[over.clone()]),
+                [Place::RowOver127Outside]
+            );
+            assert_eq!(
+                places(&mut case.clone(), &[last.clone(), over]),
+                [Place::Row127Completed, Place::RowOver127Outside]
+            );
+        }
+    }
+    // Refused by an earlier test, here 8: M8 and size 8.
+    let over_32 = shl(0x73, 0, &dst, &of_row(128), &good);
+    let found = places(&mut case.clone(), &[over_32.clone()]);
+    assert_eq!(found, [Place::RowOver127RefusedBefore]);
+    // Not decoded, not reached, or row 127 in an instruction that is refused.
+    case.kernel = source(128).bytes();
+    case.kernel.pop();
+    assert_eq!(places_of_file(&write_case(&case)), []);
+    let refused = shl(0x73, 0, &dst, &good, &good);
+    assert_eq!(places(&mut case.clone(), &[refused, source(128)]), []);
+    assert_eq!(
+        places(&mut case, &[shl(0x73, 0, &dst, &of_row(127), &good)]),
+        []
+    );
+}
+
+#[test]
+fn bad_lines_behind_line_255() {
+    let file = |good: usize| ["04\n".repeat(good), "zz\n".to_string()].concat();
+    assert_eq!(places_of_file(file(254).as_bytes()), []);
+    assert_eq!(places_of_file(file(255).as_bytes()), [Place::LineOver255]);
+    assert_eq!(places_of_file(file(300).as_bytes()), [Place::LineOver255]);
+    // As many good lines: nine surfaces or more are 13.
+    assert_eq!(places_of_file("04\n".repeat(300).as_bytes()), []);
+}
+
+/// A scatter of eight lanes under a mask, with the element offsets of some lanes unaligned and of some tainted.
+fn scatter_places(unaligned: &[usize], tainted: &[usize], mask: u32) -> Vec<Place> {
+    let mut case = stage();
+    case.execution_mask = mask;
+    for lane in unaligned {
+        put(&mut case, start(UQ) + 8 * lane, &[2]);
+    }
+    for lane in tainted {
+        case.register_taint[start(UQ) + 8 * lane + 3] = 0x80;
+    }
+    let draft = scatter(0x03, 0, 2, &immediate_uq(0x1000), &raw(UQ, 0), &raw(UD, 0));
+    places(&mut case, &[draft])
+}
+
+#[test]
+fn slip_1() {
+    let slips = [Place::UnalignedBeforeTainted];
+    assert_eq!(scatter_places(&[0], &[7], 0xff), slips);
+    assert_eq!(scatter_places(&[3], &[3], 0xff), slips);
+    assert_eq!(scatter_places(&[3, 6], &[4, 5], 0xff), slips);
+    // A tainted lane that is off does not come before, nor does an unaligned one.
+    assert_eq!(scatter_places(&[3], &[2, 4], 0xfb), slips);
+    assert_eq!(scatter_places(&[2], &[4], 0xfb), []);
+    // 10 and 10: a program that asks lane by lane meets the tainted one first.
+    assert_eq!(scatter_places(&[4], &[3], 0xff), []);
+    // 10 alone, 11 alone, neither.
+    assert_eq!(scatter_places(&[], &[3], 0xff), []);
+    assert_eq!(scatter_places(&[3], &[], 0xff), []);
+    assert_eq!(scatter_places(&[3], &[4], 0x08), []);
+    assert_eq!(scatter_places(&[3], &[4], 0x00), []);
+}
+
+/// The scatter is judged by what the instructions before it left: a shift by 0 takes the taint along.
+#[test]
+fn slip_1_behind_another_instruction() {
+    let mut case = stage();
+    case.variables.push(Variable {
+        type_code: 0,
+        start: start(UQ) as u16,
+        count: 16,
+    });
+    let halves = case.variables.len() as u16 - 1;
+    put(&mut case, start(UD), &[1]);
+    case.register_taint[start(UD)] = 1;
+    let move_there = shl(
+        0,
+        0,
+        &general(halves, 0, 0, destination_region(1)),
+        &general(UD, 0, 0, SCALAR_REGION),
+        &immediate(0, 0),
+    );
+    let scatter = scatter(0x03, 0, 1, &immediate_uq(0x1000), &raw(UQ, 0), &raw(UD, 0));
+    assert_eq!(places(&mut case.clone(), &[scatter.clone()]), []);
+    assert_eq!(
+        places(&mut case, &[move_there, scatter]),
+        [Place::UnalignedBeforeTainted]
+    );
+}
+
+/// 177 instructions of 23 bytes and one of 24 are 4,095 bytes.
+#[test]
+fn the_last_byte_of_the_largest_kernel() {
+    let dst = general(UB, 0, 0, destination_region(1));
+    let general_source = general(UB, 0, 0, SCALAR_REGION);
+    let short = shl(0, 0, &dst, &immediate(0, 1), &immediate(0, 1)).bytes();
+    let long = shl(0, 0, &dst, &general_source, &immediate(0, 1)).bytes();
+    assert_eq!((short.len(), long.len()), (23, 24));
+    let mut case = stage();
+    for (last, place) in [
+        (Some(0x24), Some(Place::LastByteOfLargestKernel)),
+        (Some(0xff), Some(Place::LastByteOfLargestKernel)),
+        // The end of a kernel of 4,095 bytes is no refusal.
+        (None, None),
+    ] {
+        case.kernel = [short.repeat(177), long.clone()].concat();
+        case.kernel.extend(last);
+        let found = places_of_file(&write_case(&case));
+        assert_eq!(found, Vec::from_iter(place));
+    }
+    // One byte less before the refused one: position 4,094 of 4,095 bytes.
+    case.kernel = [short.repeat(178), vec![0x24]].concat();
+    assert_eq!(places_of_file(&write_case(&case)), []);
+    // As many bytes, refused before the last one.
+    case.kernel = [short.repeat(178), vec![0xff, 0xff]].concat();
+    assert_eq!(case.kernel.len(), 4096);
+    assert_eq!(places_of_file(&write_case(&case)), []);
+}
+
+/// Each in one case of a hundred; row 127 in several.
+#[test]
+fn the_fixed_seed_reaches_the_rare_places() {
+    let generator = Generator::new(1, None);
+    let mut report = Report::default();
+    for index in 0..20_000 {
+        let case = generator.case(index);
+        report.add(&case, &bench(&case.file));
+    }
+    assert_eq!(report.unintended, Vec::<String>::new());
+    for place in [
+        Place::RowOver127Outside,
+        Place::LineOver255,
+        Place::UnalignedBeforeTainted,
+        Place::LastByteOfLargestKernel,
+    ] {
+        let count = report.count_of(place);
+        assert!(count >= 200, "{}: {count}", place.name());
+    }
+    for place in [Place::RowOver127RefusedBefore, Place::Row127Completed] {
+        let count = report.count_of(place);
+        assert!(count >= 20, "{}: {count}", place.name());
+    }
+}

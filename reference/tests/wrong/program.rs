@@ -1,0 +1,68 @@
+//! A program of the tests: one of the three programs with an interpreter that is wrong on purpose.
+//!
+//! `wrong WAY PROGRAM ARGUMENTS`, the way being one of `number`, `completed`, `taint`, `end`, `silent` and
+//! `panic`.
+
+use reference::bench::bench;
+use reference::programs::{cases, compare, reference as answer, Interpreter};
+use std::process::ExitCode;
+
+fn main() -> ExitCode {
+    let mut arguments = std::env::args().skip(1);
+    let way = arguments.next().expect("a way of being wrong");
+    let program = arguments.next().expect("a program");
+    let interpreter: Interpreter = match way.as_str() {
+        "number" => |case| changed(case, answers_0_always),
+        "completed" => |case| changed(case, invents_the_count),
+        "taint" => |case| changed(case, taints_nothing),
+        "end" => |case| changed(case, lacks_the_last_end),
+        "silent" => |_| Vec::new(),
+        "panic" => panics_at_14,
+        other => panic!("no way {other:?} of being wrong"),
+    };
+    match program.as_str() {
+        "reference" => answer::main(arguments, interpreter),
+        "cases" => cases::main(arguments, interpreter),
+        "compare" => compare::main(arguments, interpreter),
+        other => panic!("no program {other:?}"),
+    }
+}
+
+/// The right output with its lines changed, each line with its end.
+fn changed(case: &[u8], change: fn(&mut [Vec<u8>])) -> Vec<u8> {
+    let mut lines: Vec<Vec<u8>> = bench(case)
+        .split_inclusive(|byte| *byte == 0x0a)
+        .map(<[u8]>::to_vec)
+        .collect();
+    change(&mut lines);
+    lines.concat()
+}
+
+fn answers_0_always(lines: &mut [Vec<u8>]) {
+    lines[0][2..4].copy_from_slice(b"00");
+}
+
+/// When some instruction was completed.
+fn invents_the_count(lines: &mut [Vec<u8>]) {
+    if lines[0][4..8] != *b"0000" {
+        lines[0][4..8].copy_from_slice(b"ff7f");
+    }
+}
+
+fn taints_nothing(lines: &mut [Vec<u8>]) {
+    for line in lines.iter_mut().skip(3) {
+        let end = line.len() - 1;
+        line[2..end].fill(b'0');
+    }
+}
+
+fn lacks_the_last_end(lines: &mut [Vec<u8>]) {
+    lines.last_mut().map(Vec::pop);
+}
+
+/// Right, but for the cases with a bad line.
+fn panics_at_14(case: &[u8]) -> Vec<u8> {
+    let output = bench(case);
+    assert!(!output.starts_with(b"400e"), "wrong on purpose");
+    output
+}
