@@ -2,9 +2,10 @@
 use mathlib.Core.Path.{refl}
 use Rattle.run.specs.PlainRun.{plainRun}
 use Rattle.worked.specs.Case.{hex, played, Every}
+use Rattle.worked.specs.Region.{lastByte, registersTouched}
 use Rattle.worked.specs.Table.{table}
 use Rattle.worked.proofs.Opened.{opened}
 
 pub worked : Every table
-unfolding opened hex played plainRun
-worked = (refl, (refl, (refl, (refl, (refl, (refl, (refl, (refl, (refl, (refl, (refl, (refl, (refl, (refl, (refl, (refl, (refl, (refl, tt))))))))))))))))))
+unfolding opened hex lastByte registersTouched played plainRun
+worked = (refl, (refl, (refl, (refl, (refl, (refl, (refl, (refl, (refl, (refl, (refl, (refl, (refl, (refl, (refl, (refl, (refl, (refl, (refl, (refl, (refl, (refl, (refl, (refl, (refl, (refl, tt))))))))))))))))))))))))))
