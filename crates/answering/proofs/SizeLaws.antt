@@ -17,7 +17,8 @@ use Rattle.run.specs.Run.{run}
 use Rattle.run.proofs.Whole.{tables-refused}
 use Rattle.run.proofs.Kept.{run-lengths}
 use Rattle.answering.specs.Setting.{setupOf, stateOf}
-use Rattle.answering.specs.Bench.{outcomeOutput, goodOutput, caseOutput}
+use Rattle.answering.specs.Outcome.{outcomeOutput}
+use Rattle.answering.specs.Bench.{goodOutput, caseOutput}
 
 -- a line of 17 characters, one of 19 and three of 3, and two for each of 4 times 4,096 bytes
 outcome-size : (base : ℕ) (x : Setup) (s : State) → length (outcomeOutput base (run x s)) ≤ 32813

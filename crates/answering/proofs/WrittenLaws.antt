@@ -14,7 +14,8 @@ use Rattle.step.specs.State.{State, state}
 use Rattle.run.specs.declared.Answer.{Answer}
 use Rattle.run.specs.Run.{Outcome, outcome, run}
 use Rattle.answering.specs.Setting.{setupOf, stateOf}
-use Rattle.answering.specs.Bench.{outcomeOutput, goodOutput, caseOutput}
+use Rattle.answering.specs.Outcome.{outcomeOutput}
+use Rattle.answering.specs.Bench.{goodOutput, caseOutput}
 
 pub outcome-written : (base : ℕ) (a : Answer) (registers registerTaint surfaces surfaceTaint memory memoryTaint : List ℕ) (o : Outcome) (p q : Page) →
     outcome a (state registers registerTaint surfaces surfaceTaint memory memoryTaint) ≡ o →

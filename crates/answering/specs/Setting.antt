@@ -1,5 +1,4 @@
--- The run that a case asks for. Document 01, "The bench table": "01 registers, 02 variable .., 03 predicate ud, 04 surface, 05 base uq and
--- memory, 06 EM ud, 07 kernel, 08, 09, 0a marks of registers, surfaces in order, memory".
+-- The run that a case asks for, out of the loader's buffers and counters.
 use Prim.Native.Nat.{ℕ}
 use mathlib.Core.Bool.{cond}
 use mathlib.Core.List.{List}

@@ -13,7 +13,8 @@ ghost use Rattle.output.specs.Output.{bufferLines, outputBytes};
 ghost use Rattle.step.specs.State.{state};
 ghost use Rattle.run.specs.Run.{outcome, run};
 ghost use Rattle.answering.specs.Setting.{taintOf, setupOf};
-ghost use Rattle.answering.specs.Bench.{outcomeOutput, goodOutput, caseOutput};
+ghost use Rattle.answering.specs.Outcome.{outcomeOutput};
+ghost use Rattle.answering.specs.Bench.{goodOutput, caseOutput};
 
 // As many bytes as a frame of this kind has, and no more than a buffer of 4,096.
 fn content_length(kind: u8, case: Case) -> usize

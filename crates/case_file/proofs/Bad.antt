@@ -14,7 +14,7 @@ use Rattle.frames.specs.Repeated.{variableRead, predicateRead}
 use Rattle.frames.specs.Once.{Once, memoryRead, maskRead, onceRead}
 use Rattle.frames.specs.Frames.{frameRead}
 use Rattle.case_file.specs.Frames.{kindOf, contentOf}
-use Rattle.case_file.specs.BadLine.{repeats, lengthGood}
+use Rattle.case_file.specs.BadLine.{repeats, contentGood}
 use Rattle.case_file.proofs.ByKind.{Kinds}
 use Rattle.case_file.proofs.Counted.{Judges}
 
@@ -74,8 +74,8 @@ module _ (g : Kinds) (n : ℕ) (r : Reading) (j : Judges g n (r .case)) where
   some : (k : ℕ) → k < 11 → repeats k ≡ false → eqb (length (g k)) 0 ≡ false → ltb 0 (metOf k (r .case)) ≡ true
   some k h once e = ap (ltb 0) (j .met k h once) ∙ positive (length (g k)) e
 
-  pub frame-bad : (f : List ℕ) → (lengthGood (kindOf f) (length (contentOf f)) && (repeats (kindOf f) || eqb (length (g (kindOf f))) 0)) ≡ false → Bad r (kindOf f) f
-  unfolding repeats lengthGood
+  pub frame-bad : (f : List ℕ) → (contentGood (kindOf f) (contentOf f) && (repeats (kindOf f) || eqb (length (g (kindOf f))) 0)) ≡ false → Bad r (kindOf f) f
+  unfolding repeats contentGood
   frame-bad [] e = unlisted r 0 [] refl refl refl refl refl refl refl refl refl refl
   frame-bad (zero ∷ c) e = unlisted r 0 (0 ∷ c) refl refl refl refl refl refl refl refl refl refl
   frame-bad (suc zero ∷ c) e = second r 1 (1 ∷ c) refl refl refl (some 1 (omega arith) refl e)

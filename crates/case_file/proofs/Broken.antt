@@ -10,8 +10,8 @@ use Rattle.tables.specs.Tables.{tablesGood}
 use Rattle.tables.proofs.Laws.{limited, counted, surface-small, surfaces-small}
 use Rattle.tables.proofs.SurfacePlaces.{length-is}
 use Rattle.step.specs.State.{lengthsOf}
-use Rattle.case_file.specs.Frames.{contentsOf, firstOf}
-use Rattle.case_file.specs.Case.{typeOf, dwordOf, memoryOf, marksOf, setupOf, stateOf}
+use Rattle.case_file.specs.Frames.{ofKind, firstOf}
+use Rattle.case_file.specs.Case.{typeOf, dwordOf, memoryOf, marksOf, caseSetup, caseState}
 use Rattle.case_file.proofs.Padded.{length-map}
 use Rattle.case_file.proofs.ByKind.{Kinds, kindsOf, added, one-more}
 
@@ -35,21 +35,21 @@ marks-long most (c ∷ cs) bytes h e k = omega arith
 
 module _ (frames : List (List ℕ)) where
   abbrev good : Bool
-  good = tablesGood (lengthsOf (setupOf frames) (stateOf frames)) (setupOf frames .tables)
+  good = tablesGood (lengthsOf (caseSetup frames) (caseState frames)) (caseSetup frames .tables)
 
   refuted : Broken (kindsOf frames) → good ≡ true → ⊥
-  unfolding setupOf stateOf
+  unfolding caseSetup caseState
   refuted (registers h) e = omega (arith, h, limited _ _ e .registers-small)
-  refuted (variables h) e = omega (arith, h, counted _ _ e .variables-few, length-map typeOf (contentsOf 2 frames))
-  refuted (predicates h) e = omega (arith, h, counted _ _ e .predicates-few, length-map dwordOf (contentsOf 3 frames))
-  refuted (surfaces h) e = omega (arith, h, counted _ _ e .surfaces-few, length-map {A = List ℕ} length (contentsOf 4 frames))
+  refuted (variables h) e = omega (arith, h, counted _ _ e .variables-few, length-map typeOf (ofKind 2 frames))
+  refuted (predicates h) e = omega (arith, h, counted _ _ e .predicates-few, length-map dwordOf (ofKind 3 frames))
+  refuted (surfaces h) e = omega (arith, h, counted _ _ e .surfaces-few, length-map {A = List ℕ} length (ofKind 4 frames))
   refuted (surface k h m) e =
-      omega (arith, m, length-is (map length (contentsOf 4 frames)) k, surface-small _ _ e k (rw (length-map {A = List ℕ} length (contentsOf 4 frames)) h))
+      omega (arith, m, length-is (map length (ofKind 4 frames)) k, surface-small _ _ e k (rw (length-map {A = List ℕ} length (ofKind 4 frames)) h))
   refuted (memory h) e = omega (arith, h, limited _ _ e .memory-small)
   refuted (kernel h) e = omega (arith, h, limited _ _ e .kernel-small)
-  refuted (registerTaint h) e = let l = limited _ _ e in marks-long 4096 (contentsOf 8 frames) _ h (l .registers-taint) (l .registers-small)
-  refuted (surfaceTaint h) e = marks-long 8192 (contentsOf 9 frames) _ h (limited _ _ e .surfaces-taint) (surfaces-small _ _ e)
-  refuted (memoryTaint h) e = let l = limited _ _ e in marks-long 4096 (contentsOf 10 frames) _ h (l .memory-taint) (l .memory-small)
+  refuted (registerTaint h) e = let l = limited _ _ e in marks-long 4096 (ofKind 8 frames) _ h (l .registers-taint) (l .registers-small)
+  refuted (surfaceTaint h) e = marks-long 8192 (ofKind 9 frames) _ h (limited _ _ e .surfaces-taint) (surfaces-small _ _ e)
+  refuted (memoryTaint h) e = let l = limited _ _ e in marks-long 4096 (ofKind 10 frames) _ h (l .memory-taint) (l .memory-small)
 
   pub broken-bad : Broken (kindsOf frames) → good ≡ false
   broken-bad b = told good refl

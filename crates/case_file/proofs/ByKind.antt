@@ -7,13 +7,13 @@ use lib.Dec.{eqb}
 use lib.ListN.{length, length-append}
 use borrow.Author.Tests.{eqb-true}
 use native.Mathlib.Omega.{arith}
-use Rattle.case_file.specs.Frames.{kindOf, contentOf, contentsOf, firstOf}
+use Rattle.case_file.specs.Frames.{kindOf, contentOf, ofKind, firstOf}
 
 abbrev pub Kinds : Type 0
 Kinds = ℕ → List (List ℕ)
 
 abbrev pub kindsOf : List (List ℕ) → Kinds
-kindsOf frames kind = contentsOf kind frames
+kindsOf frames kind = ofKind kind frames
 
 -- one content more, of this kind
 abbrev pub added : ℕ → List ℕ → Kinds → Kinds
@@ -25,11 +25,11 @@ push true false d c l m e = ap (λ (x : List (List ℕ)). d ∷ x) e
 push false true d c l m e = e
 push false false d c l m e = e
 
-contents-more : (k : ℕ) (f : List ℕ) (frames : List (List ℕ)) → contentsOf k (frames ++ (f ∷ [])) ≡ added (kindOf f) (contentOf f) (kindsOf frames) k
-unfolding contentsOf
+contents-more : (k : ℕ) (f : List ℕ) (frames : List (List ℕ)) → ofKind k (frames ++ (f ∷ [])) ≡ added (kindOf f) (contentOf f) (kindsOf frames) k
+unfolding ofKind
 contents-more k f [] = refl
 contents-more k f (d ∷ frames) =
-    push (eqb (kindOf d) k) (eqb (kindOf f) k) (contentOf d) (contentOf f) (contentsOf k frames) (contentsOf k (frames ++ (f ∷ []))) (contents-more k f frames)
+    push (eqb (kindOf d) k) (eqb (kindOf f) k) (contentOf d) (contentOf f) (ofKind k frames) (ofKind k (frames ++ (f ∷ []))) (contents-more k f frames)
 
 pub kinds-more : (frames : List (List ℕ)) (f : List ℕ) → kindsOf (frames ++ (f ∷ [])) ≡ added (kindOf f) (contentOf f) (kindsOf frames)
 kinds-more frames f = fun-ext (λ k. contents-more k f frames)

@@ -7,7 +7,7 @@ use native.Mathlib.Omega.{arith}
 use lib.ListN.{length}
 use borrow.Author.Tests.{eqb-true, leb-true, ne-eqb, le-leb, lt-leb}
 use Rattle.case_file.specs.Frames.{kindOf, contentOf}
-use Rattle.case_file.specs.BadLine.{lengthGood}
+use Rattle.case_file.specs.BadLine.{contentGood}
 
 pub data Good : List ℕ → Type 0 where
   registers : (c : List ℕ) → Good (1 ∷ c)
@@ -22,13 +22,13 @@ pub data Good : List ℕ → Type 0 where
   memoryTaint : (c : List ℕ) → Good (10 ∷ c)
 
 -- a kind past 0x0a
-late : (k n : ℕ) → 10 < k → lengthGood k n ≡ false
-unfolding lengthGood
-late k n h =
+late : (k : ℕ) (c : List ℕ) → 10 < k → contentGood k c ≡ false
+unfolding contentGood
+late k c h =
     rw (ne-eqb k 2 (λ e. absurd (omega arith)), ne-eqb k 3 (λ e. absurd (omega arith)), ne-eqb k 5 (λ e. absurd (omega arith)), ne-eqb k 6 (λ e. absurd (omega arith)), le-leb 1 k (omega arith), lt-leb k 10 h)
 
-pub good-frame : (f : List ℕ) → lengthGood (kindOf f) (length (contentOf f)) ≡ true → Good f
-unfolding lengthGood
+pub good-frame : (f : List ℕ) → contentGood (kindOf f) (contentOf f) ≡ true → Good f
+unfolding contentGood
 good-frame [] e = absurd (true≢false (sym e))
 good-frame (zero ∷ c) e = absurd (true≢false (sym e))
 good-frame (suc zero ∷ c) e = registers c
@@ -42,4 +42,4 @@ good-frame (suc (suc (suc (suc (suc (suc (suc (suc zero))))))) ∷ c) e = regist
 good-frame (suc (suc (suc (suc (suc (suc (suc (suc (suc zero)))))))) ∷ c) e = surfaceTaint c
 good-frame (suc (suc (suc (suc (suc (suc (suc (suc (suc (suc zero))))))))) ∷ c) e = memoryTaint c
 good-frame (suc (suc (suc (suc (suc (suc (suc (suc (suc (suc (suc k)))))))))) ∷ c) e =
-    absurd (true≢false (sym e ∙ late (suc (suc (suc (suc (suc (suc (suc (suc (suc (suc (suc k))))))))))) (length c) (omega arith)))
+    absurd (true≢false (sym e ∙ late (suc (suc (suc (suc (suc (suc (suc (suc (suc (suc (suc k))))))))))) c (omega arith)))

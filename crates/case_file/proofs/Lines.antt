@@ -3,12 +3,13 @@ use mathlib.Core.Path.{_≡_, refl, sym, ap, subst, _∙_}
 use mathlib.Core.Bool.{Bool, true, false, true≢false, _&&_, _||_}
 use mathlib.Core.Logic.{inr, ⊎-elim}
 use mathlib.Core.List.{List, [], _∷_, _++_, map, append-nil}
-use Prim.Native.Nat.{ℕ, suc, _+_, _≤_, _<_}
+use Prim.Native.Nat.{ℕ, suc, _+_, _≤_, _<_, min}
+use native.Mathlib.Nat.{min-eq-left, min-eq-right}
 use native.Mathlib.Omega.{arith}
 use lib.ListN.{length}
 use lib.Seq.{append-snoc}
 use lib.Dec.{eqb, ltb, leb}
-use borrow.Author.Tests.{le-leb, lt-leb, leb-true, leb-false, lt-ltb, le-ltb}
+use borrow.Author.Tests.{leb-true, leb-false, ltb-true, ltb-false}
 use Rattle.hex.specs.Bytes.{isHex, hexBytes}
 use Rattle.hex.proofs.DigitLaws.{cond-both}
 use Rattle.frames.specs.declared.Case.{Case}
@@ -18,7 +19,7 @@ use Rattle.frames.specs.Frames.{frameRead, lineRead}
 use Rattle.frames.proofs.Stays.{line-stays, long-stays}
 use Rattle.feeding.specs.Text.{anyLineRead, linesRead}
 use Rattle.case_file.specs.Frames.{kindOf, contentOf}
-use Rattle.case_file.specs.BadLine.{lengthGood, repeats, frameGood, lineGood, firstBad}
+use Rattle.case_file.specs.BadLine.{contentGood, repeats, frameGood, fileLineGood, firstBad}
 use Rattle.case_file.specs.Output.{positionOf}
 use Rattle.case_file.proofs.ByKind.{Kinds, kindsOf, added, kinds-more, one-more}
 use Rattle.case_file.proofs.Good.{Good, good-frame}
@@ -26,6 +27,12 @@ use Rattle.case_file.proofs.Broken.{broken-more}
 use Rattle.case_file.proofs.Held.{Sizes, Held, frame-held}
 use Rattle.case_file.proofs.Counted.{Judges, frame-judges, frame-full}
 use Rattle.case_file.proofs.Bad.{frame-bad}
+
+lt-le : {a b : ℕ} → a < b → a ≤ b
+lt-le h = omega arith
+
+le-suc : {a b : ℕ} → a ≤ b → a ≤ suc b
+le-suc h = omega arith
 
 -- after the first bad line nothing changes
 any-stays : (limit : ℕ) (line : List ℕ) (r : Reading) → 0 < r .case .bad → anyLineRead limit line r ≡ r
@@ -56,18 +63,18 @@ module _ (before : List (List ℕ)) (line : List ℕ) (r : Reading) (b : r .case
   none-bad : ltb 0 (r .case .bad) ≡ false
   none-bad = rw b
 
-  good-line : lineGood before line ≡ true → anyLineRead 16386 line r ≡ frameRead (kindOf (hexBytes line)) (hexBytes line) r
-  unfolding lineGood anyLineRead lineRead
+  good-line : fileLineGood before line ≡ true → anyLineRead 16386 line r ≡ frameRead (kindOf (hexBytes line)) (hexBytes line) r
+  unfolding fileLineGood anyLineRead lineRead
   good-line e =
       let two = and-left (leb (length line) 16386 && isHex line) (frameGood before (hexBytes line)) e in
       rw (and-left (leb (length line) 16386) (isHex line) two, none-bad, and-right (leb (length line) 16386) (isHex line) two) refl
 
-  good-told : lineGood before line ≡ true → frameGood before (hexBytes line) ≡ true
-  unfolding lineGood
+  good-told : fileLineGood before line ≡ true → frameGood before (hexBytes line) ≡ true
+  unfolding fileLineGood
   good-told e = and-right (leb (length line) 16386 && isHex line) (frameGood before (hexBytes line)) e
 
-  bad-line : (n : ℕ) → Judges (kindsOf before) n (r .case) → lineGood before line ≡ false → anyLineRead 16386 line r .case .bad ≡ next (r .case .lines)
-  unfolding lineGood anyLineRead lineRead longLine badLine frameGood
+  bad-line : (n : ℕ) → Judges (kindsOf before) n (r .case) → fileLineGood before line ≡ false → anyLineRead 16386 line r .case .bad ≡ next (r .case .lines)
+  unfolding fileLineGood anyLineRead lineRead longLine badLine frameGood
   bad-line n j e =
       three-false (leb (length line) 16386) (isHex line) (frameGood before (hexBytes line))
       (λ x. rw (x, none-bad) refl)
@@ -78,17 +85,19 @@ module _ (before : List (List ℕ)) (line : List ℕ) (r : Reading) (b : r .case
 -- the loader's line numbers stay at the largest ud
 next-position : (n : ℕ) → next (positionOf n) ≡ positionOf (suc n)
 unfolding next positionOf
-next-position n = told (leb (suc n) 4294967295) refl
+next-position n = told (ltb n 0xffffffff) refl
   where
-    told : (q : Bool) → leb (suc n) 4294967295 ≡ q → next (positionOf n) ≡ positionOf (suc n)
-    told true e = let h = leb-true (suc n) 4294967295 e in rw (e, le-leb n 4294967295 (omega (arith, h)), lt-ltb n 4294967295 (omega (arith, h))) (omega arith)
-    told false e =
-        let h = leb-false (suc n) 4294967295 e in
-        rw e (cond-both (λ (m : ℕ). next m ≡ 4294967295) (leb n 4294967295) (λ k. rw (le-ltb n 4294967295 (omega (arith, h))) refl) (λ _. refl))
+    told : (q : Bool) → ltb n 0xffffffff ≡ q → next (min n 0xffffffff) ≡ min (suc n) 0xffffffff
+    told true e = let h = ltb-true n 0xffffffff e in rw (min-eq-left (lt-le h), min-eq-left h, e) (omega arith)
+    told false e = let h = ltb-false n 0xffffffff e in rw (min-eq-right h, min-eq-right (le-suc h)) refl
 
 pub position-positive : (n : ℕ) → 0 < positionOf (suc n)
 unfolding positionOf
-position-positive n = cond-both (λ (m : ℕ). 0 < m) (leb (suc n) 4294967295) (λ _. omega arith) (λ _. omega arith)
+position-positive n = told (leb (suc n) 0xffffffff) refl
+  where
+    told : (q : Bool) → leb (suc n) 0xffffffff ≡ q → 0 < min (suc n) 0xffffffff
+    told true e = rw (min-eq-left (leb-true (suc n) 0xffffffff e)) (omega arith)
+    told false e = rw (min-eq-right (lt-le (leb-false (suc n) 0xffffffff e))) (omega arith)
 
 position-more : (before : List (List ℕ)) (f : List ℕ) → next (positionOf (length before)) ≡ positionOf (length (before ++ (f ∷ [])))
 position-more before f = next-position (length before) ∙ ap positionOf (omega (arith, one-more before f))
@@ -103,8 +112,8 @@ module _ (z : Contents) (t : Tables) (s : Sizes z t) where
   unfolding frameGood
   frame-after before f r e a =
       let once = repeats (kindOf f) || eqb (length (kindsOf before (kindOf f))) 0 in
-      let good : Good f = good-frame f (and-left (lengthGood (kindOf f) (length (contentOf f))) once e) in
-      let first : once ≡ true = and-right (lengthGood (kindOf f) (length (contentOf f))) once e in
+      let good : Good f = good-frame f (and-left (contentGood (kindOf f) (contentOf f)) once e) in
+      let first : once ≡ true = and-right (contentGood (kindOf f) (contentOf f)) once e in
       let judges = frame-judges (kindsOf before) _ r (a .judges) f good first in
       let held : Held z t (added (kindOf f) (contentOf f) (kindsOf before)) (frameRead (kindOf f) f r) =
       ⊎-elim
@@ -121,7 +130,7 @@ module _ (z : Contents) (t : Tables) (s : Sizes z t) where
     pub bad : linesRead 16386 lines r .case .bad ≡ positionOf (firstBad before lines)
     pub held : firstBad before lines ≡ 0 → Held z t (kindsOf (before ++ map hexBytes lines)) (linesRead 16386 lines r)
 
-  bad-next : (before : List (List ℕ)) (line : List ℕ) (lines : List (List ℕ)) (r : Reading) → After before r → lineGood before line ≡ false → Told before (line ∷ lines) r
+  bad-next : (before : List (List ℕ)) (line : List ℕ) (lines : List (List ℕ)) (r : Reading) → After before r → fileLineGood before line ≡ false → Told before (line ∷ lines) r
   unfolding linesRead firstBad
   bad-next before line lines r a e =
       let x = anyLineRead 16386 line r in
@@ -132,7 +141,7 @@ module _ (z : Contents) (t : Tables) (s : Sizes z t) where
         held = λ h. let y : suc (length before) ≡ 0 = rw e at h in absurd (omega (arith, y));
       }
 
-  good-next : (before : List (List ℕ)) (line : List ℕ) (lines : List (List ℕ)) (r : Reading) → lineGood before line ≡ true → Told (before ++ (hexBytes line ∷ [])) lines (anyLineRead 16386 line r) → Told before (line ∷ lines) r
+  good-next : (before : List (List ℕ)) (line : List ℕ) (lines : List (List ℕ)) (r : Reading) → fileLineGood before line ≡ true → Told (before ++ (hexBytes line ∷ [])) lines (anyLineRead 16386 line r) → Told before (line ∷ lines) r
   unfolding linesRead firstBad
   good-next before line lines r e w =
       record {
@@ -151,7 +160,7 @@ module _ (z : Contents) (t : Tables) (s : Sizes z t) where
       }
 
   turn : (before : List (List ℕ)) (line : List ℕ) (lines : List (List ℕ)) (r : Reading) → After before r →
-      (After (before ++ (hexBytes line ∷ [])) (anyLineRead 16386 line r) → Told (before ++ (hexBytes line ∷ [])) lines (anyLineRead 16386 line r)) → (q : Bool) → lineGood before line ≡ q → Told before (line ∷ lines) r
+      (After (before ++ (hexBytes line ∷ [])) (anyLineRead 16386 line r) → Told (before ++ (hexBytes line ∷ [])) lines (anyLineRead 16386 line r)) → (q : Bool) → fileLineGood before line ≡ q → Told before (line ∷ lines) r
   turn before line lines r a rest false e = bad-next before line lines r a e
   turn before line lines r a rest true e =
       good-next before line lines r e
@@ -162,4 +171,4 @@ module _ (z : Contents) (t : Tables) (s : Sizes z t) where
   lines-told (line ∷ lines) before r a =
       turn before line lines r a
       (λ b. lines-told lines (before ++ (hexBytes line ∷ [])) (anyLineRead 16386 line r) b)
-      (lineGood before line) refl
+      (fileLineGood before line) refl

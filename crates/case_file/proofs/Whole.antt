@@ -1,20 +1,21 @@
 -- For every input the bench's output, through the loader's buffers, is that of the case file.
 use mathlib.Core.Path.{_≡_, refl, sym, ap, ap₂, _∙_}
-use mathlib.Core.Bool.{Bool, true, false, true≢false, cond}
+use mathlib.Core.Bool.{true, false, cond}
 use mathlib.Core.Logic.{inl, ⊎-elim}
 use mathlib.Core.List.{List, [], _∷_, map, append-nil, flatten}
 use Prim.Native.Nat.{ℕ, zero, suc, _≤_}
 use native.Mathlib.Omega.{arith}
 use lib.ListN.{length, take, replicate, length-replicate, getD-replicate}
 use lib.Dec.{ltb}
-use borrow.Author.Tests.{lt-ltb, ltb-true, ltb-false}
+use borrow.Author.Tests.{lt-ltb, ltb-true}
 use Rattle.little_endian.specs.LittleEndian.{numberAt}
 use Rattle.hex.specs.Bytes.{hexBytes}
 use Rattle.hex.proofs.DigitLaws.{cond-both}
 use Rattle.frames.specs.Reading.{Contents, Tables, Reading, reading}
 use Rattle.frames.specs.Lines.{nothing, metOf, lengthOf}
 use Rattle.frames.specs.Verdicts.{taintLength, verdictOf}
-use Rattle.feeding.specs.Text.{linesOf, linesRead, textRead}
+use Rattle.feeding.specs.LinesOf.{linesOf}
+use Rattle.feeding.specs.Text.{linesRead, textRead}
 use Rattle.feeding.specs.Feeding.{finished}
 use Rattle.feeding.proofs.FeedingLaws.{blocksFed}
 use Rattle.step.specs.State.{Setup, State}
@@ -26,11 +27,12 @@ use Rattle.run.proofs.PlainRunLaws.{zeros}
 use Rattle.answering.specs.Setting as loader
 use Rattle.answering.specs.Setting.{taintOf}
 use Rattle.answering.proofs.BenchLaws.{begun, blocks-answered}
-use Rattle.answering.specs.Bench.{outcomeOutput, goodOutput, caseOutput, unread, benchOutput}
-use Rattle.case_file.specs.Frames.{contentsOf, firstOf}
+use Rattle.answering.specs.Outcome.{outcomeOutput}
+use Rattle.answering.specs.Bench.{goodOutput, caseOutput, unread, benchOutput}
+use Rattle.case_file.specs.Frames.{ofKind, firstOf}
 use Rattle.case_file.specs.BadLine.{repeats, firstBad}
-use Rattle.case_file.specs.Case.{typeOf, startOf, countOf, dwordOf, baseOf, memoryOf, marksOf, setupOf, stateOf}
-use Rattle.case_file.specs.Output.{framesOutput, positionOf, linesOutput, caseFileOutput}
+use Rattle.case_file.specs.Case.{typeOf, startOf, countOf, dwordOf, baseOf, memoryOf, marksOf, caseSetup, caseState}
+use Rattle.case_file.specs.Output.{framesOutput, positionOf, answered, caseFileOutput}
 use Rattle.case_file.proofs.Padded.{padded, padded-none, take-padded, take-table}
 use Rattle.case_file.proofs.ByKind.{Kinds, kindsOf}
 use Rattle.case_file.proofs.Loaded.{caseAt, contentsAt, tablesAt, readingAt}
@@ -49,13 +51,13 @@ module _ (z : Contents) (t : Tables) (frames : List (List ℕ)) (n : ℕ) where
   abbrev g : Kinds
   g = kindsOf frames
 
-  setup-same : loader.setupOf (caseAt g n) (contentsAt z t g .kernel) (tablesAt z t g) ≡ setupOf frames
-  unfolding loader.setupOf setupOf metOf lengthOf
+  setup-same : loader.setupOf (caseAt g n) (contentsAt z t g .kernel) (tablesAt z t g) ≡ caseSetup frames
+  unfolding loader.setupOf caseSetup metOf lengthOf
   setup-same =
       rw (take-padded (z .kernel) (firstOf (g 7)), take-table typeOf (t .types) (g 2), take-table startOf (t .starts) (g 2), take-table countOf (t .counts) (g 2), take-table dwordOf (t .predicates) (g 3), take-table {A = List ℕ} length (t .lengths) (g 4)) refl
 
-  state-same : Few g → loader.stateOf (caseAt g n) (contentsAt z t g) (tablesAt z t g .surfaces) ≡ stateOf frames
-  unfolding loader.stateOf stateOf metOf lengthOf taintOf taintLength
+  state-same : Few g → loader.stateOf (caseAt g n) (contentsAt z t g) (tablesAt z t g .surfaces) ≡ caseState frames
+  unfolding loader.stateOf caseState metOf lengthOf taintOf taintLength
   state-same f =
       let surfaces : length (flatten (g 4)) ≤ 8192 = omega (arith, f .bytes-small, f .surfaces-few) in
       rw (
@@ -68,19 +70,18 @@ module _ (z : Contents) (t : Tables) (frames : List (List ℕ)) (n : ℕ) where
       ) refl
 
   kept-output : Few g → caseOutput (readingAt z t g n) ≡ framesOutput frames
-  unfolding caseOutput goodOutput framesOutput verdictOf
+  unfolding caseOutput goodOutput framesOutput verdictOf caseSetup
   kept-output f = ap₂ (λ (x : Setup) (s : State). outcomeOutput (baseOf (firstOf (g 5))) (run x s)) setup-same (state-same f)
 
 broken-output : (frames : List (List ℕ)) (r : Reading) → r .case .bad ≡ 0 → r .case .full ≡ true → Broken (kindsOf frames) → caseOutput r ≡ framesOutput frames
 unfolding caseOutput framesOutput verdictOf outcomeOutput outputBytes
 broken-output frames r b f k =
     let none : ltb 0 (r .case .bad) ≡ false = rw b refl in
-    rw (none, f, tables-refused (setupOf frames) (stateOf frames) (broken-bad frames k)) (sym (append-nil (answerLine 13 0 0)))
+    rw (none, f, tables-refused (caseSetup frames) (caseState frames) (broken-bad frames k)) (sym (append-nil (answerLine 13 0 0)))
 
-bad-output : (r : Reading) (n : ℕ) → r .case .bad ≡ positionOf n → ltb 0 n ≡ true → caseOutput r ≡ answerLine 14 0 (positionOf n)
+bad-output : (r : Reading) (n : ℕ) → r .case .bad ≡ positionOf (suc n) → caseOutput r ≡ answerLine 14 0 (positionOf (suc n))
 unfolding caseOutput verdictOf
-bad-output r zero e h = absurd (true≢false (sym h))
-bad-output r (suc n) e h = let some : ltb 0 (r .case .bad) ≡ true = ap (ltb 0) e ∙ lt-ltb 0 (positionOf (suc n)) (position-positive n) in rw some (ap (answerLine 14 0) e)
+bad-output r n e = let some : ltb 0 (r .case .bad) ≡ true = ap (ltb 0) e ∙ lt-ltb 0 (positionOf (suc n)) (position-positive n) in rw some (ap (answerLine 14 0) e)
 
 module _ (z : Contents) (t : Tables) (s : Sizes z t) where
   held-output : (frames : List (List ℕ)) (r : Reading) → r .case .bad ≡ 0 → Held z t (kindsOf frames) r → caseOutput r ≡ framesOutput frames
@@ -95,25 +96,23 @@ module _ (z : Contents) (t : Tables) (s : Sizes z t) where
   none-met k = cond-both (λ (m : ℕ). m ≡ 0) (ltb k 11) (λ h. getD-replicate {A = ℕ} 11 k 0 0 (ltb-true k 11 h)) (λ _. refl)
 
   at-start : After z t s [] start
-  unfolding positionOf nothing contentsOf firstOf flatten memoryOf baseOf dwordOf numberAt metOf
+  unfolding positionOf nothing ofKind firstOf flatten memoryOf baseOf dwordOf numberAt metOf
   at-start =
       record {
         judges = record { places = refl; met = λ k _ _. none-met k; bad = refl; lines = refl };
         held = inl (record { lines = 0; same = sym (rw (padded-none (z .registers), padded-none (z .memory), padded-none (z .kernel), padded-none (z .registerTaint), padded-none (z .surfaceTaint), padded-none (z .memoryTaint), padded-none (t .types), padded-none (t .starts), padded-none (t .counts), padded-none (t .predicates), padded-none (t .surfaces), padded-none (t .lengths)) refl); few = record { registers-small = omega arith; memory-small = omega arith; variables-few = omega arith; predicates-few = omega arith; surfaces-few = omega arith; bytes-small = omega arith } });
       }
 
-  pub lines-output : (lines : List (List ℕ)) → linesOutput lines ≡ caseOutput (linesRead 16386 lines start)
-  unfolding linesOutput positionOf
-  lines-output lines = sym (told (ltb 0 (firstBad [] lines)) refl)
+  lines-output : (lines : List (List ℕ)) → caseOutput (linesRead 16386 lines start) ≡ answered (firstBad [] lines) (map hexBytes lines)
+  unfolding answered positionOf
+  lines-output lines = told (firstBad [] lines) refl
     where
       w : Told z t s [] lines start
       w = lines-told z t s lines [] start at-start
 
-      told : (q : Bool) → ltb 0 (firstBad [] lines) ≡ q → caseOutput (linesRead 16386 lines start) ≡ cond (ltb 0 (firstBad [] lines)) (answerLine 14 0 (positionOf (firstBad [] lines))) (framesOutput (map hexBytes lines))
-      told true e = rw e (bad-output (linesRead 16386 lines start) (firstBad [] lines) (w .bad) e)
-      told false e =
-          let none : firstBad [] lines ≡ 0 = let k : firstBad [] lines ≤ 0 = ltb-false 0 (firstBad [] lines) e in omega (arith, k) in
-          rw e (held-output (map hexBytes lines) (linesRead 16386 lines start) (w .bad ∙ ap positionOf none) (w .held none))
+      told : (n : ℕ) → firstBad [] lines ≡ n → caseOutput (linesRead 16386 lines start) ≡ answered n (map hexBytes lines)
+      told zero e = held-output (map hexBytes lines) (linesRead 16386 lines start) (w .bad ∙ ap positionOf e) (w .held e)
+      told (suc n) e = bad-output (linesRead 16386 lines start) n (w .bad ∙ ap positionOf e)
 
 sizes : Sizes (unread .contents) (unread .tables)
 sizes =
@@ -135,7 +134,7 @@ sizes =
 -- what has no room in the loader's buffers breaks a size, so the run of the case answers 13 itself
 pub case-file-output : (input : List ℕ) → benchOutput input ≡ caseFileOutput input
 unfolding caseFileOutput benchOutput textRead
-case-file-output input = sym (lines-output (unread .contents) (unread .tables) sizes (linesOf input))
+case-file-output input = lines-output (unread .contents) (unread .tables) sizes (linesOf input)
 
 -- however the input is cut into blocks
 pub case-file-answered : (blocks : List (List ℕ)) (line out after : List ℕ) (used : ℕ) → length line ≡ 16386 → 32813 ≤ length out →

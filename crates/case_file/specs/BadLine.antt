@@ -6,33 +6,33 @@ use mathlib.Core.List.{List, [], _∷_, _++_}
 use lib.Dec.{leb, eqb}
 use lib.ListN.{length}
 use Rattle.hex.specs.Bytes.{isHex, hexBytes}
-use Rattle.case_file.specs.Frames.{kindOf, contentOf, contentsOf}
+use Rattle.case_file.specs.Frames.{kindOf, contentOf, ofKind}
 
--- how many bytes the content of a kind may have; a kind that is not listed has none
-unfoldable pub lengthGood : ℕ → ℕ → Bool
-lengthGood kind n =
-    cond (eqb kind 2) (eqb n 5)  -- "type ub, start uw, count uw"
-    (cond (eqb kind 3) (eqb n 4)  -- "predicate ud"
-    (cond (eqb kind 5) (leb 8 n)  -- "base uq and memory"
-    (cond (eqb kind 6) (eqb n 4)  -- "EM ud"
-    (leb 1 kind && leb kind 10))))
+-- whether the kind is listed, and may have this content
+unfoldable pub contentGood : ℕ → List ℕ → Bool
+contentGood kind content =
+    cond (eqb kind 0x02) (eqb (length content) 5)  -- "type ub, start uw, count uw"
+    (cond (eqb kind 0x03) (eqb (length content) 4)  -- "predicate ud"
+    (cond (eqb kind 0x05) (leb 8 (length content))  -- "base uq and memory"
+    (cond (eqb kind 0x06) (eqb (length content) 4)  -- "EM ud"
+    (leb 0x01 kind && leb kind 0x0a))))  -- any bytes: registers, surface, kernel, marks
 
 -- "02, 03, 04 repeat .. others once at most"
 unfoldable pub repeats : ℕ → Bool
-repeats kind = eqb kind 2 || eqb kind 3 || eqb kind 4
+repeats kind = eqb kind 0x02 || eqb kind 0x03 || eqb kind 0x04
 
--- a frame, with those that stand before it
+-- a frame, after those that stand before it
 unfoldable pub frameGood : List (List ℕ) → List ℕ → Bool
 frameGood before frame =
-    lengthGood (kindOf frame) (length (contentOf frame))
-    && (repeats (kindOf frame) || eqb (length (contentsOf (kindOf frame) before)) 0)
+    contentGood (kindOf frame) (contentOf frame)
+    && (repeats (kindOf frame) || eqb (length (ofKind (kindOf frame) before)) 0)
 
--- a line, with the frames that stand before it
-unfoldable pub lineGood : List (List ℕ) → List ℕ → Bool
-lineGood before line = leb (length line) 16386 && isHex line && frameGood before (hexBytes line)
+-- a line, after the frames of the lines before it
+unfoldable pub fileLineGood : List (List ℕ) → List ℕ → Bool
+fileLineGood before line = leb (length line) 16386 && isHex line && frameGood before (hexBytes line)
 
--- the "line number from 1" of the first bad line, of which these frames stand before the lines; 0 if no line is bad
+-- the "line number from 1" of the first bad line, where `before` are the frames of the lines already met, all good; 0 if no line is bad
 unfoldable pub firstBad : List (List ℕ) → List (List ℕ) → ℕ
 firstBad before [] = 0
 firstBad before (line ∷ lines) =
-    cond (lineGood before line) (firstBad (before ++ (hexBytes line ∷ [])) lines) (suc (length before))
+    cond (fileLineGood before line) (firstBad (before ++ (hexBytes line ∷ [])) lines) (suc (length before))

@@ -4,9 +4,9 @@ use Prim.Native.Nat.{ℕ}
 use mathlib.Core.List.{List, [], _∷_, map, flatten}
 use lib.ListN.{length, getD, drop, replicate}
 use Rattle.little_endian.specs.LittleEndian.{numberAt}
-use Rattle.tables.specs.Tables.{tables}
-use Rattle.step.specs.State.{Setup, setup, State, state}
-use Rattle.case_file.specs.Frames.{contentsOf, firstOf}
+use Rattle.cells.specs.Buffer.{Buffer, buffer}
+use Rattle.step.specs.State.{Setup, State}
+use Rattle.case_file.specs.Frames.{ofKind, onlyOf}
 
 -- "02 variable (type ub, start uw, count uw)"
 unfoldable pub typeOf : List ℕ → ℕ
@@ -18,43 +18,46 @@ startOf content = numberAt 2 content 1
 unfoldable pub countOf : List ℕ → ℕ
 countOf content = numberAt 2 content 3
 
--- "03 predicate ud", "06 EM ud"; no content reads as 0
+-- "03 predicate ud", "06 EM ud"; of no content, "absent means .. EM 0"
 unfoldable pub dwordOf : List ℕ → ℕ
 dwordOf content = numberAt 4 content 0
 
--- "05 base uq and memory"; no content reads as base 0 and no memory
+-- "05 base uq and memory"; of no content, "absent means empty, base 0"
 unfoldable pub baseOf : List ℕ → ℕ
 baseOf content = numberAt 8 content 0
 
 unfoldable pub memoryOf : List ℕ → List ℕ
 memoryOf content = drop 8 content
 
--- what does not change: kernel, tables, base and EM
-unfoldable pub setupOf : List (List ℕ) → Setup
-setupOf frames =
-    setup
-    (firstOf (contentsOf 7 frames))
-    (tables
-    (map typeOf (contentsOf 2 frames))
-    (map startOf (contentsOf 2 frames))
-    (map countOf (contentsOf 2 frames))
-    (map dwordOf (contentsOf 3 frames))
-    (map length (contentsOf 4 frames)))
-    (baseOf (firstOf (contentsOf 5 frames)))
-    (dwordOf (firstOf (contentsOf 6 frames)))
+-- what does not change
+unfoldable pub caseSetup : List (List ℕ) → Setup
+caseSetup frames =
+    record {
+      kernel = onlyOf 0x07 frames;
+      tables = record {
+        types = map typeOf (ofKind 0x02 frames);
+        starts = map startOf (ofKind 0x02 frames);
+        counts = map countOf (ofKind 0x02 frames);
+        predicates = map dwordOf (ofKind 0x03 frames);
+        surfaces = map length (ofKind 0x04 frames);
+      };
+      base = baseOf (onlyOf 0x05 frames);
+      mask = dwordOf (onlyOf 0x06 frames);
+    }
 
 -- "absent means .. marks all 0": as many as there are bytes to mark
 unfoldable pub marksOf : List (List ℕ) → List ℕ → List ℕ
 marksOf [] bytes = replicate (length bytes) 0
 marksOf (content ∷ contents) bytes = content
 
--- registers, surfaces "in order" and memory, with their marks
-unfoldable pub stateOf : List (List ℕ) → State
-stateOf frames =
-    state
-    (firstOf (contentsOf 1 frames))
-    (marksOf (contentsOf 8 frames) (firstOf (contentsOf 1 frames)))
-    (flatten (contentsOf 4 frames))
-    (marksOf (contentsOf 9 frames) (flatten (contentsOf 4 frames)))
-    (memoryOf (firstOf (contentsOf 5 frames)))
-    (marksOf (contentsOf 10 frames) (memoryOf (firstOf (contentsOf 5 frames))))
+abbrev pub withMarks : List (List ℕ) → List ℕ → Buffer
+withMarks contents bytes = buffer bytes (marksOf contents bytes)
+
+-- "08, 09, 0a marks of registers, surfaces in order, memory"
+unfoldable pub caseState : List (List ℕ) → State
+caseState frames =
+    record {
+      registers = withMarks (ofKind 0x08 frames) (onlyOf 0x01 frames);
+      surfaces = withMarks (ofKind 0x09 frames) (flatten (ofKind 0x04 frames));
+      memory = withMarks (ofKind 0x0a frames) (memoryOf (onlyOf 0x05 frames));
+    }

@@ -14,11 +14,14 @@ abbrev pub contentOf : List ℕ → List ℕ
 contentOf frame = drop 1 frame
 
 -- the contents of the frames of a kind: "numbered from 0 in their order"
-unfoldable pub contentsOf : ℕ → List (List ℕ) → List (List ℕ)
-contentsOf kind [] = []
-contentsOf kind (frame ∷ frames) = cond (eqb (kindOf frame) kind) (contentOf frame ∷ contentsOf kind frames) (contentsOf kind frames)
+unfoldable pub ofKind : ℕ → List (List ℕ) → List (List ℕ)
+ofKind kind [] = []
+ofKind kind (frame ∷ frames) = cond (eqb (kindOf frame) kind) (contentOf frame ∷ ofKind kind frames) (ofKind kind frames)
 
--- of a kind that comes "once at most"; "absent means empty"
 unfoldable pub firstOf : List (List ℕ) → List ℕ
 firstOf [] = []
 firstOf (content ∷ contents) = content
+
+-- the content of a kind that comes "once at most"; "absent means empty"
+abbrev pub onlyOf : ℕ → List (List ℕ) → List ℕ
+onlyOf kind frames = firstOf (ofKind kind frames)

@@ -11,7 +11,8 @@ use borrow.Author.Tests.{lt-ltb, le-leb, lt-leb}
 use Rattle.frames.specs.Reading.{Contents, Tables, Reading, reading}
 use Rattle.frames.specs.Lines.{nothing}
 use Rattle.feeding.specs.Feeding.{Machine, machine, fresh, pushed, ended, byteFed, fed, isBegun, finished}
-use Rattle.feeding.specs.Text.{linesFrom, linesOf, anyLineRead, linesRead, textRead}
+use Rattle.feeding.specs.LinesOf.{linesFrom, linesOf}
+use Rattle.feeding.specs.Text.{anyLineRead, linesRead, textRead}
 use Rattle.feeding.proofs.FeedingLaws.{blocksFed, blocks-fed}
 use Rattle.feeding.proofs.RowLaws.{Begun, begun-none, begun-more}
 

@@ -14,7 +14,8 @@ use Rattle.frames.specs.Repeated.{variableRead, predicateRead, surfaceRead}
 use Rattle.frames.specs.Once.{contentRead, memoryRead, maskRead, onceRead}
 use Rattle.frames.specs.Frames.{frameRead, lineRead}
 use Rattle.frames.specs.Verdicts.{verdict, verdictOf, taintLength}
-use Rattle.feeding.specs.Text.{linesFrom, linesOf, anyLineRead, linesRead, textRead}
+use Rattle.feeding.specs.LinesOf.{linesFrom, linesOf}
+use Rattle.feeding.specs.Text.{anyLineRead, linesRead, textRead}
 
 -- small buffers of zeros, as the caller has them: 32 bytes for registers and kernel, two variables, one predicate, one surface of 4 bytes
 abbrev zeros : Reading

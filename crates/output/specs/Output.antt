@@ -8,10 +8,10 @@ use Rattle.hex.specs.Bytes.{hexOf}
 
 -- "A line ends in 0x0a"
 unfoldable pub lineOf : List ℕ → List ℕ
-lineOf bytes = hexOf bytes ++ (10 ∷ [])
+lineOf bytes = hexOf bytes ++ (0x0a ∷ [])
 
 unfoldable pub answerLine : ℕ → ℕ → ℕ → List ℕ
-answerLine number completed position = lineOf (64 ∷ bytesOf 1 number ++ bytesOf 2 completed ++ bytesOf 4 position)
+answerLine number completed position = lineOf (0x40 ∷ bytesOf 1 number ++ bytesOf 2 completed ++ bytesOf 4 position)
 
 -- "01 registers", "08, .. 0a marks of registers, .. memory"
 unfoldable pub contentLine : ℕ → List ℕ → List ℕ
@@ -19,11 +19,11 @@ contentLine kind bytes = lineOf (kind ∷ bytes)
 
 -- "05 base uq and memory"
 unfoldable pub memoryLine : ℕ → List ℕ → List ℕ
-memoryLine base memory = lineOf (5 ∷ bytesOf 8 base ++ memory)
+memoryLine base memory = lineOf (0x05 ∷ bytesOf 8 base ++ memory)
 
 unfoldable pub bufferLines : ℕ → List ℕ → List ℕ → List ℕ → List ℕ → List ℕ
 bufferLines base registers memory registerTaint memoryTaint =
-    contentLine 1 registers ++ memoryLine base memory ++ contentLine 8 registerTaint ++ contentLine 10 memoryTaint
+    contentLine 0x01 registers ++ memoryLine base memory ++ contentLine 0x08 registerTaint ++ contentLine 0x0a memoryTaint
 
 -- for 14 "only the 40 line", "13 likewise"
 unfoldable pub outputBytes : ℕ → ℕ → ℕ → List ℕ → List ℕ

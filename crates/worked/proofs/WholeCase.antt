@@ -4,13 +4,13 @@ use mathlib.Core.List.{_++_, flatten}
 use Rattle.little_endian.specs.LittleEndian.{bytesOf}
 use Rattle.hex.specs.Digits.{isDecimal, isLetter, isDigit, digitOf, allDigits, characterOf}
 use Rattle.hex.specs.Bytes.{isHex, hexBytes, hexOf}
-use Rattle.feeding.specs.Text.{linesFrom, linesOf}
+use Rattle.feeding.specs.LinesOf.{linesFrom, linesOf}
 use Rattle.output.specs.Output.{lineOf, answerLine, contentLine, memoryLine, bufferLines, outputBytes}
-use Rattle.answering.specs.Bench.{outcomeOutput}
-use Rattle.case_file.specs.Frames.{contentsOf, firstOf}
-use Rattle.case_file.specs.BadLine.{lengthGood, repeats, frameGood, lineGood, firstBad}
-use Rattle.case_file.specs.Case.{typeOf, startOf, countOf, dwordOf, baseOf, memoryOf, setupOf, marksOf, stateOf}
-use Rattle.case_file.specs.Output.{framesOutput, positionOf, linesOutput, caseFileOutput}
+use Rattle.answering.specs.Outcome.{outcomeOutput}
+use Rattle.case_file.specs.Frames.{ofKind, firstOf}
+use Rattle.case_file.specs.BadLine.{contentGood, repeats, frameGood, fileLineGood, firstBad}
+use Rattle.case_file.specs.Case.{typeOf, startOf, countOf, dwordOf, baseOf, memoryOf, caseSetup, marksOf, caseState}
+use Rattle.case_file.specs.Output.{framesOutput, positionOf, answered, caseFileOutput}
 use Rattle.worked.specs.Case.{hex}
 use Rattle.worked.proofs.Opened.{opened}
 
@@ -27,5 +27,5 @@ pub whole-case :
     ++ lineOf (hex 9 0x050000000000000000)
     ++ lineOf (hex 33 0x080000010000000000000000000000000000000101000000000000000000000000)
     ++ lineOf (hex 1 0x0a)
-unfolding opened hex bytesOf isDecimal isLetter isDigit digitOf allDigits characterOf isHex hexBytes hexOf linesFrom linesOf lineOf answerLine contentLine memoryLine bufferLines outputBytes outcomeOutput contentsOf firstOf flatten lengthGood repeats frameGood lineGood firstBad typeOf startOf countOf dwordOf baseOf memoryOf setupOf marksOf stateOf framesOutput positionOf linesOutput caseFileOutput
+unfolding opened hex bytesOf isDecimal isLetter isDigit digitOf allDigits characterOf isHex hexBytes hexOf linesFrom linesOf lineOf answerLine contentLine memoryLine bufferLines outputBytes outcomeOutput ofKind firstOf flatten contentGood repeats frameGood fileLineGood firstBad typeOf startOf countOf dwordOf baseOf memoryOf caseSetup marksOf caseState framesOutput positionOf answered caseFileOutput
 whole-case = refl
