@@ -1,6 +1,6 @@
 -- What the loader holds, as a function of the contents of each kind: the counters, and each content at its buffer's start.
 use mathlib.Core.Bool.{false}
-use mathlib.Core.List.{List, [], _∷_, map, flatten}
+use mathlib.Core.List.{[], _∷_, map, flatten}
 use Prim.Native.Nat.{ℕ}
 use lib.ListN.{length}
 use Rattle.frames.specs.declared.Case.{Case}

@@ -30,7 +30,7 @@ use Rattle.answering.proofs.BenchLaws.{begun, blocks-answered}
 use Rattle.answering.specs.Outcome.{outcomeOutput}
 use Rattle.answering.specs.Bench.{goodOutput, caseOutput, unread, benchOutput}
 use Rattle.case_file.specs.Frames.{ofKind, firstOf}
-use Rattle.case_file.specs.BadLine.{repeats, firstBad}
+use Rattle.case_file.specs.BadLine.{firstBad}
 use Rattle.case_file.specs.Case.{typeOf, startOf, countOf, dwordOf, baseOf, memoryOf, marksOf, caseSetup, caseState}
 use Rattle.case_file.specs.Output.{framesOutput, positionOf, answered, caseFileOutput}
 use Rattle.case_file.proofs.Padded.{padded, padded-none, take-padded, take-table}
