@@ -44,7 +44,7 @@ fn encode_again(instruction: Instruction, size: usize) {
 }
 
 // The number of decoding at the start, the instruction's own bytes, and encoding what was decoded.
-pub fn decode_and_encode(kernel: &[u8]) {
+pub(crate) fn decode_and_encode(kernel: &[u8]) {
     output::number(output::wide(decoder::decode_number(kernel, 0)));
     output::bytes(decoder::own_bytes(kernel, 0));
     match decoder::decode(kernel, 0) {
@@ -57,7 +57,7 @@ pub fn decode_and_encode(kernel: &[u8]) {
 }
 
 // Encoding the instruction of these numbers.
-pub fn encode_built(numbers: &[u8]) {
+pub(crate) fn encode_built(numbers: &[u8]) {
     let room = output::wide(built::byte(numbers, 0));
     output::text(b"=");
     encode(built::instruction(numbers), room);

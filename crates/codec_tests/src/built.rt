@@ -17,7 +17,7 @@ use reader::ReadDword;
 use reader::ReadWord;
 ghost use Prim.Native.Nat.{_≤_};
 
-pub fn byte(numbers: &[u8], at: usize) -> u8 {
+pub(crate) fn byte(numbers: &[u8], at: usize) -> u8 {
     let cursor = Cursor { at };
     match cursor.byte(numbers) {
         ReadByte::Got(v, _) => v,
@@ -138,7 +138,7 @@ fn raw_send(numbers: &[u8]) -> Instruction {
 }
 
 // The second number is the opcode. The first is the buffer's length, which is no part of the instruction.
-pub fn instruction(numbers: &[u8]) -> Instruction {
+pub(crate) fn instruction(numbers: &[u8]) -> Instruction {
     let opcode = byte(numbers, 1);
     if opcode == 0x24 {
         return shl(numbers);

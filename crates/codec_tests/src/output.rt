@@ -1,15 +1,15 @@
 // What the tests write to standard output: text, numbers and bytes in hex.
 
-pub fn wide(v: u8) -> usize {
+pub(crate) fn wide(v: u8) -> usize {
     v as usize
 }
 
-pub fn text(s: &[u8]) {
+pub(crate) fn text(s: &[u8]) {
     io::write_all(1, s);
 }
 
 // A number and a space.
-pub fn number(n: usize) {
+pub(crate) fn number(n: usize) {
     io::print_decimal(1, n as u64);
     text(b" ");
 }
@@ -19,7 +19,7 @@ fn byte(v: u8) {
 }
 
 // Bytes in hex, `-` where there are none.
-pub fn bytes(s: &[u8]) {
+pub(crate) fn bytes(s: &[u8]) {
     if s.len() == 0 {
         text(b"-");
     }

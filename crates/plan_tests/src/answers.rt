@@ -28,7 +28,7 @@ fn mask_of(lanes: Lanes) -> u32 {
 }
 
 // A line of exec byte, pred word, EM and the predicate's bits: size, offset, NM and the lanes.
-pub fn lanes(line: &[u8]) {
+pub(crate) fn lanes(line: &[u8]) {
     let exec = numbers::byte(line, 0);
     let mask = numbers::dword(line, 3);
     let bits = numbers::dword(line, 7);
@@ -73,7 +73,7 @@ fn tables_good(line: &[u8], variables: &[u8], surfaces: &[u8]) -> bool {
 }
 
 // A line of the lengths lent and of the tables' numbers of entries.
-pub fn tables(line: &[u8], variables: &[u8], surfaces: &[u8]) {
+pub(crate) fn tables(line: &[u8], variables: &[u8], surfaces: &[u8]) {
     if tables_good(line, variables, surfaces) {
         output::text(b" 0\n");
     } else {
@@ -152,7 +152,7 @@ fn plan_of(instruction: Instruction, variables: &[u8], predicates: &[u8], surfac
 }
 
 // A kernel of one instruction.
-pub fn instruction(line: &[u8], variables: &[u8], predicates: &[u8], surfaces: &[u8]) {
+pub(crate) fn instruction(line: &[u8], variables: &[u8], predicates: &[u8], surfaces: &[u8]) {
     let kernel = numbers::kernel_of(line);
     match decoder::decode(&kernel, 0) {
         Decoded::Accepted(instruction, _) => {

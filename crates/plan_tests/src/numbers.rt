@@ -20,38 +20,38 @@ fn digit_at(line: &[u8], at: usize) -> u8
     if at < line.len() { digit(line[at]) } else { 0 }
 }
 
-pub fn byte(line: &[u8], at: usize) -> u8
+pub(crate) fn byte(line: &[u8], at: usize) -> u8
     requires { ⌜ at ≤ 65536 ⌝ }
 {
     16 * digit_at(line, 2 * at) + digit_at(line, 2 * at + 1)
 }
 
-pub fn word(line: &[u8], at: usize) -> u16
+pub(crate) fn word(line: &[u8], at: usize) -> u16
     requires { ⌜ at ≤ 65535 ⌝ }
 {
     (byte(line, at) as u16) + 256 * (byte(line, at + 1) as u16)
 }
 
-pub fn dword(line: &[u8], at: usize) -> u32
+pub(crate) fn dword(line: &[u8], at: usize) -> u32
     requires { ⌜ at ≤ 65533 ⌝ }
 {
     (word(line, at) as u32) + 65536 * (word(line, at + 2) as u32)
 }
 
-pub fn qword(line: &[u8], at: usize) -> u64
+pub(crate) fn qword(line: &[u8], at: usize) -> u64
     requires { ⌜ at ≤ 65529 ⌝ }
 {
     (dword(line, at) as u64) + 4294967296 * (dword(line, at + 4) as u64)
 }
 
-pub fn size(line: &[u8], at: usize) -> usize
+pub(crate) fn size(line: &[u8], at: usize) -> usize
     requires { ⌜ at ≤ 65535 ⌝ }
 {
     word(line, at) as usize
 }
 
 // A number of entries that a table of 257 can have.
-pub fn entries(line: &[u8], at: usize) -> usize
+pub(crate) fn entries(line: &[u8], at: usize) -> usize
     requires { ⌜ at ≤ 65535 ⌝ }
     ensures { λ r. ⌜ r ≤ 257 ⌝ }
 {
@@ -59,7 +59,7 @@ pub fn entries(line: &[u8], at: usize) -> usize
 }
 
 // The bytes of a kernel, at most 64, and zeros behind them.
-pub fn kernel_of(line: &[u8]) -> [u8; 64]
+pub(crate) fn kernel_of(line: &[u8]) -> [u8; 64]
     ensures { λ r. ⌜ 64 ≡ length r ⌝ }
 {
     let mut kernel = [0u8; 64];
@@ -72,7 +72,7 @@ pub fn kernel_of(line: &[u8]) -> [u8; 64]
 }
 
 // In a table's line the number of its entries comes first. The types of a line of variables, 0 behind the last one.
-pub fn types_of(line: &[u8]) -> [u8; 257]
+pub(crate) fn types_of(line: &[u8]) -> [u8; 257]
     ensures { λ r. ⌜ 257 ≡ length r ⌝ }
 {
     let count = size(line, 0);
@@ -86,7 +86,7 @@ pub fn types_of(line: &[u8]) -> [u8; 257]
 }
 
 // The predicates' bits, 0 behind the last one.
-pub fn bits_of(line: &[u8]) -> [u32; 257]
+pub(crate) fn bits_of(line: &[u8]) -> [u32; 257]
     ensures { λ r. ⌜ 257 ≡ length r ⌝ }
 {
     let count = size(line, 0);
@@ -100,7 +100,7 @@ pub fn bits_of(line: &[u8]) -> [u32; 257]
 }
 
 // A word of each entry: the first entry's at `first`, the others' `stride` bytes apart, and `past` behind the last one.
-pub fn words_of(line: &[u8], first: usize, stride: usize, past: u16) -> [u16; 257]
+pub(crate) fn words_of(line: &[u8], first: usize, stride: usize, past: u16) -> [u16; 257]
     requires { ⌜ (first ≤ 16) × (stride ≤ 16) ⌝ }
     ensures { λ r. ⌜ 257 ≡ length r ⌝ }
 {

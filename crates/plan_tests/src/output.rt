@@ -1,22 +1,22 @@
 // What the tests write to standard output: text, numbers in decimal, words in hex.
 
-pub fn text(s: &[u8]) {
+pub(crate) fn text(s: &[u8]) {
     io::write_all(1, s);
 }
 
 // A space and a number.
-pub fn number(n: u64) {
+pub(crate) fn number(n: u64) {
     text(b" ");
     io::print_decimal(1, n);
 }
 
 // A space and a word in hex.
-pub fn word(v: u32) {
+pub(crate) fn word(v: u32) {
     text(b" ");
     io::print_hex(1, v as u64, 8);
 }
 
-pub fn flag(v: bool) {
+pub(crate) fn flag(v: bool) {
     if v {
         text(b" 1");
     } else {
