@@ -1,0 +1,54 @@
+-- What is known of the calls that read standard input. No contract can say which bytes a read gives, so each statement is of some calls.
+use mathlib.Core.Path.{_≡_}
+use mathlib.Core.Bool.{Bool, true, false}
+use mathlib.Core.List.{List, [], _∷_, _++_}
+use Prim.Native.Nat.{ℕ}
+use lib.IntN.{ℤ}
+use lib.ListN.{length, take}
+use Rattle.libc.specs.Io.{Moved}
+use Rattle.feeding.specs.Feeding.{Machine, fed}
+use Rattle.input.specs.Answers.{answerOf, onAnswer}
+
+-- a call: the number that it answered, and the block as it left it
+pub record Call : Type 0 where
+  pub got : ℤ
+  pub block : List ℕ
+
+abbrev pub call : ℤ → List ℕ → Call
+call got block = record { got = got; block = block }
+
+-- calls as they may follow each other: each is handed a block of 65,536 bytes, and there is none after the end or after a failure
+abbrev pub Possible : List Call → Type 0
+Possible [] = Unit
+Possible (c ∷ calls) =
+    Moved 65536 (c .got) × ((length (c .block) ≡ 65536) × onAnswer (answerOf (c .got)) (λ n. Possible calls) (calls ≡ []) (calls ≡ []))
+
+-- the text that they gave: the bytes of one after the bytes of the other
+unfoldable pub textOf : List Call → List ℕ
+textOf [] = []
+textOf (c ∷ calls) = onAnswer (answerOf (c .got)) (λ n. take n (c .block) ++ textOf calls) [] []
+
+-- whether they met the input's end; a failure is not the end
+unfoldable pub endedBy : List Call → Bool
+endedBy [] = false
+endedBy (c ∷ calls) = onAnswer (answerOf (c .got)) (λ n. endedBy calls) true false
+
+-- where reading stands: what was read was fed to a machine, and the input goes on, has ended, or neither, after a failure
+pub record Read : Type 0 where
+  pub machine : Machine
+  pub more : Bool
+  pub ended : Bool
+
+abbrev pub read : Machine → Bool → Bool → Read
+read machine more ended = record { machine = machine; more = more; ended = ended }
+
+-- after one call
+unfoldable pub callRead : Call → Machine → Read
+callRead c m = onAnswer (answerOf (c .got)) (λ n. read (fed (take n (c .block)) m) true false) (read m false true) (read m false false)
+
+-- after some calls a machine is another that was fed their text, and the input has ended if they met its end
+pub record Reads (first last : Machine) (ended : Bool) : Type 0 where
+  pub calls : List Call
+  pub possible : Possible calls
+  pub text : last ≡ fed (textOf calls) first
+  pub end : ended ≡ endedBy calls
