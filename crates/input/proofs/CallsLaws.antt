@@ -1,179 +1,110 @@
--- Calls, one after the other.
-use mathlib.Core.Path.{_≡_, refl, sym, ap, _∙_, subst}
-use mathlib.Core.Bool.{Bool, true, false, true≢false, cond}
+-- What the text and the end of calls say that may follow each other.
+use mathlib.Core.Path.{_≡_, refl, sym, ap, _∙_}
+use mathlib.Core.Bool.{Bool, true, false, true≢false, _||_}
 use mathlib.Core.List.{List, [], _∷_, _++_, append-assoc, append-nil}
-use Prim.Native.Nat.{ℕ, _-_, _^_, _<_}
+use Prim.Native.Nat.{ℕ}
 use native.Mathlib.Omega.{arith}
-use lib.IntN.{ℤ}
-use lib.ListN.{length, take}
-use lib.Signed.{mag}
-use mir.Syntax.{w64}
-use mir.Val.{hbits, toZ, ofZ}
-use mir.Facts.{toZ-ofZ}
-use borrow.Author.Needs.{sfits-of}
+use lib.IntN.{ℤ, pos}
+use lib.ListN.{length, length-append}
 use Rattle.libc.specs.Io.{Moved}
-use Rattle.frames.specs.Reading.{Contents, Tables, reading}
-use Rattle.feeding.specs.declared.State.{State}
-use Rattle.feeding.specs.Feeding.{Machine, machine, fresh, fed}
-use Rattle.feeding.proofs.FeedingLaws.{fed-none, fed-append}
-use Rattle.feeding.proofs.KeptLaws.{Kept, Told, kept-none, kept-more}
 use Rattle.input.specs.declared.Answer.{Answer}
 use Rattle.input.specs.declared.Answer.the-variants.{Bytes, End, Failed}
 use Rattle.input.specs.Answers.{answerOf, onAnswer}
-use Rattle.input.specs.Calls.{Call, call, Possible, textOf, endedBy, Read, read, callRead, Reads}
+use Rattle.input.specs.Calls.{Call, bytesOf, gaveBytes, metEnd, Possible, textOf, endedBy}
+use Rattle.input.proofs.AnswersLaws.{end-zero}
 
 -- a call that gave bytes
 pub record Gave (c : Call) : Type 0 where
   pub moved : Moved 65536 (c .got)
   pub room : length (c .block) ≡ 65536
-  pub count : ℕ
-  pub is : answerOf (c .got) ≡ Bytes count
+  pub gave : gaveBytes c ≡ true
 
 abbrev pub AllGave : List Call → Type 0
 AllGave [] = Unit
 AllGave (c ∷ calls) = Gave c × AllGave calls
 
-pub text-append : (a b : List Call) → AllGave a → textOf (a ++ b) ≡ textOf a ++ textOf b
+gave-no-end : (c : Call) → gaveBytes c ≡ true → metEnd c ≡ false
+unfolding gaveBytes metEnd
+gave-no-end c = told (answerOf (c .got))
+  where
+    told : (a : Answer) → onAnswer a (λ n. true) false false ≡ true → onAnswer a (λ n. false) true false ≡ false
+    told (Bytes n) g = refl
+    told End g = absurd (true≢false (sym g))
+    told Failed g = refl
+
+pub one-text : (c : Call) → textOf (c ∷ []) ≡ bytesOf c
 unfolding textOf
-text-append [] b g = refl
-text-append (c ∷ a) b g =
-    rw (g .0 .is, text-append a b (g .1)) (sym (append-assoc (take (g .0 .count) (c .block)) (textOf a) (textOf b)))
+one-text c = append-nil (bytesOf c)
+
+pub one-end : (c : Call) → endedBy (c ∷ []) ≡ metEnd c
+unfolding endedBy
+one-end c = told (metEnd c)
+  where
+    told : (b : Bool) → (b || false) ≡ b
+    told true = refl
+    told false = refl
+
+pub text-append : (a b : List Call) → textOf (a ++ b) ≡ textOf a ++ textOf b
+unfolding textOf
+text-append [] b = refl
+text-append (c ∷ a) b =
+    ap (λ (t : List ℕ). bytesOf c ++ t) (text-append a b) ∙ sym (append-assoc (bytesOf c) (textOf a) (textOf b))
 
 pub end-append : (a b : List Call) → AllGave a → endedBy (a ++ b) ≡ endedBy b
 unfolding endedBy
 end-append [] b g = refl
-end-append (c ∷ a) b g = rw (g .0 .is) (end-append a b (g .1))
+end-append (c ∷ a) b g = rw (gave-no-end c (g .0 .gave)) (end-append a b (g .1))
 
-pub possible-append : (a b : List Call) → AllGave a → Possible b → Possible (a ++ b)
-possible-append [] b g p = p
-possible-append (c ∷ a) b g p = (g .0 .moved, (g .0 .room, rw (g .0 .is) (possible-append a b (g .1) p)))
-
--- one call alone
-module _ (c : Call) where
-  one-text : (count : ℕ) → answerOf (c .got) ≡ Bytes count → textOf (c ∷ []) ≡ take count (c .block)
-  unfolding textOf
-  one-text count g = rw g (append-nil (take count (c .block)))
-
-  -- that met the end or failed
-  stop-text : (ended : Bool) → answerOf (c .got) ≡ cond ended End Failed → textOf (c ∷ []) ≡ []
-  unfolding textOf
-  stop-text true g = rw g
-  stop-text false g = rw g
-
-  stop-ends : (ended : Bool) → answerOf (c .got) ≡ cond ended End Failed → endedBy (c ∷ []) ≡ ended
-  unfolding endedBy
-  stop-ends true g = rw g
-  stop-ends false g = rw g
-
-  stop-possible : (ended : Bool) → answerOf (c .got) ≡ cond ended End Failed → Moved 65536 (c .got) → length (c .block) ≡ 65536 → Possible (c ∷ [])
-  stop-possible true g m r = (m, (r, rw g refl))
-  stop-possible false g m r = (m, (r, rw g refl))
-
-gave-append : (a b : List Call) → AllGave a → AllGave b → AllGave (a ++ b)
+pub gave-append : (a b : List Call) → AllGave a → AllGave b → AllGave (a ++ b)
 gave-append [] b g h = h
 gave-append (c ∷ a) b g h = (g .0, gave-append a b (g .1) h)
 
--- a call that gave bytes, took the input's end, or failed: what `take_answer` makes of it
-module _ (got : ℤ) (block : List ℕ) (m : Machine) (a : Answer) (e : a ≡ answerOf got) where
-  pub bytes-taken : (o : Machine) (n : ℕ) → a ≡ Bytes n → o ≡ fed (take n block) m → read o true false ≡ callRead (call got block) m
-  unfolding callRead
-  bytes-taken o n g h = rw (← e, g, h)
+pub possible-append : (a b : List Call) → AllGave a → Possible b → Possible (a ++ b)
+possible-append [] b g p = p
+possible-append (c ∷ a) b g p =
+    (g .0 .moved, (g .0 .room, ((λ f. absurd (true≢false (sym (g .0 .gave) ∙ f))), possible-append a b (g .1) p)))
 
-  pub end-taken : a ≡ End → read m false true ≡ callRead (call got block) m
-  unfolding callRead
-  end-taken g = rw (← e, g)
+-- the input has ended: the last call answered 0, and those before it gave bytes
+pub record Ended (calls : List Call) : Type 0 where
+  pub before : List Call
+  pub last : Call
+  pub are : calls ≡ before ++ (last ∷ [])
+  pub gave : AllGave before
+  pub zero : last .got ≡ pos 0
 
-  pub failed-taken : a ≡ Failed → read m false false ≡ callRead (call got block) m
-  unfolding callRead
-  failed-taken g = rw (← e, g)
+pub ended-at-zero : (calls : List Call) → Possible calls → endedBy calls ≡ true → Ended calls
+unfolding gaveBytes metEnd endedBy
+ended-at-zero [] p t = absurd (true≢false (sym t))
+ended-at-zero (c ∷ calls) p t = told (answerOf (c .got)) refl (p .1 .1 .0) t (ended-at-zero calls (p .1 .1 .1))
+  where
+    told : (a : Answer) → answerOf (c .got) ≡ a → (onAnswer a (λ n. true) false false ≡ false → calls ≡ []) →
+        (onAnswer a (λ n. false) true false || endedBy calls) ≡ true → (endedBy calls ≡ true → Ended calls) → Ended (c ∷ calls)
+    told (Bytes n) g q t on =
+        let r = on t in
+        record {
+          before = c ∷ r .before;
+          last = r .last;
+          are = ap (λ (l : List Call). c ∷ l) (r .are);
+          gave = (record { moved = p .0; room = p .1 .0; gave = rw g refl }, r .gave);
+          zero = r .zero;
+        }
+    told End g q t on =
+        record { before = []; last = c; are = ap (λ (l : List Call). c ∷ l) (q refl); gave = tt; zero = end-zero (c .got) g }
+    told Failed g q t on = absurd (true≢false (sym t ∙ ap endedBy (q refl)))
 
--- some calls that gave bytes were fed to a machine, and no buffer has another length
-pub record SoFar (m n : Machine) : Type 0 where
-  pub calls : List Call
-  pub gave : AllGave calls
-  pub text : n ≡ fed (textOf calls) m
-  pub line : length (n .row .line) ≡ length (m .row .line)
-  pub kept : Kept (m .reading) (n .reading)
+some-left : (a b : List Call) (c : Call) → a ++ (c ∷ b) ≡ [] → ⊥
+some-left a b c e =
+    let n : length (a ++ (c ∷ b)) ≡ 0 = ap (λ (l : List Call). length l) e in
+    omega (arith, n, length-append a (c ∷ b))
 
-pub none-read : (line : List ℕ) (state : State) (contents : Contents) (tables : Tables) → state ≡ fresh →
-    SoFar (machine line fresh contents tables) (machine line state contents tables)
-unfolding textOf
-none-read line state contents tables e =
-    record {
-      calls = [];
-      gave = tt;
-      text = ap (λ (s : State). machine line s contents tables) e ∙ sym (fed-none (machine line fresh contents tables));
-      line = refl;
-      kept = kept-none (reading (fresh .case) contents tables) (state .case);
-    }
-
-module _ (m n : Machine) (f : SoFar m n) where
-  text-then : (b : List Call) (o : Machine) → o ≡ fed (textOf b) n → o ≡ fed (textOf (f .calls ++ b)) m
-  text-then b o e =
-      e ∙ (ap (fed (textOf b)) (f .text) ∙ (sym (fed-append (textOf (f .calls)) (textOf b) m) ∙ ap (λ (t : List ℕ). fed t m) (sym (text-append (f .calls) b (f .gave)))))
-
-  reads-then : (b : List Call) (o : Machine) (ended : Bool) → Possible b → o ≡ fed (textOf b) n → ended ≡ endedBy b → Reads m o ended
-  reads-then b o ended p e h =
-      record {
-        calls = f .calls ++ b;
-        possible = possible-append (f .calls) b (f .gave) p;
-        text = text-then b o e;
-        end = h ∙ sym (end-append (f .calls) b (f .gave));
-      }
-
-  -- the turns are over
-  pub none-left : Reads m n false
-  unfolding textOf endedBy
-  none-left = reads-then [] n false tt (sym (fed-none n)) refl
-
-  -- one call more: its number, the block as it left it, and what `take_answer` made of them
-  module _ (got : ℤ) (block : List ℕ) (o : Machine) (more ended : Bool) (moved : Moved (length block) got) (room : length block ≡ 65536)
-      (e : read o more ended ≡ callRead (call got block) n) where
-    within : Moved 65536 got
-    within = subst (λ (k : ℕ). Moved k got) room moved
-
-    -- by what the call answered
-    abbrev Made : Answer → Type 0
-    Made a = read o more ended ≡ onAnswer a (λ count. read (fed (take count block) n) true false) (read n false true) (read n false false)
-
-    pub call-more : more ≡ true → length (o .row .line) ≡ length (n .row .line) → Told (n .reading) (o .reading) → SoFar m o
-    unfolding callRead
-    call-more t l k = told (answerOf got) refl e
-      where
-        told : (a : Answer) → answerOf got ≡ a → Made a → SoFar m o
-        told (Bytes count) g h =
-            let c = call got block in
-            record {
-              calls = f .calls ++ (c ∷ []);
-              gave = gave-append (f .calls) (c ∷ []) (f .gave) (record { moved = within; room = room; count = count; is = g }, tt);
-              text = text-then (c ∷ []) o (ap (λ (r : Read). r .machine) h ∙ ap (λ (x : List ℕ). fed x n) (sym (one-text c count g)));
-              line = l ∙ f .line;
-              kept = kept-more (m .reading) (n .reading) (o .reading) (f .kept) k;
-            }
-        told End g h = absurd (true≢false (sym t ∙ ap (λ (r : Read). r .more) h))
-        told Failed g h = absurd (true≢false (sym t ∙ ap (λ (r : Read). r .more) h))
-
-    pub call-last : more ≡ false → Reads m o ended
-    unfolding callRead
-    call-last t = told (answerOf got) refl e
-      where
-        last : (x : Bool) → answerOf got ≡ cond x End Failed → read o more ended ≡ read n false x → Reads m o ended
-        last x g h =
-            let c = call got block in
-            reads-then (c ∷ []) o ended (stop-possible c x g within room)
-            (ap (λ (r : Read). r .machine) h ∙ (sym (fed-none n) ∙ ap (λ (t : List ℕ). fed t n) (sym (stop-text c x g))))
-            (ap (λ (r : Read). r .ended) h ∙ sym (stop-ends c x g))
-
-        told : (a : Answer) → answerOf got ≡ a → Made a → Reads m o ended
-        told (Bytes count) g h = absurd (true≢false (sym (ap (λ (r : Read). r .more) h) ∙ t))
-        told End g h = last true g h
-        told Failed g h = last false g h
-
--- what a call answered fits the block as the call left it; the number is read back from its bits
-pub moved-after : (z : ℤ) (before after : ℕ) → mag z < 2 ^ hbits w64 → after ≡ before → Moved before z → Moved after (toZ w64 (ofZ w64 z))
-moved-after z before after f h m =
-    subst (λ (x : ℤ). Moved after x) (sym (toZ-ofZ {w = w64} {z = z} (sfits-of f))) (subst (λ (k : ℕ). Moved k z) (sym h) m)
-
--- a turn fewer is left
-pub turn-less : (turns : ℕ) → 0 < turns → turns - 1 < turns
-turn-less turns h = omega (arith, h)
+-- a read that failed is not the end of the input
+pub failed-not-ended : (before after : List Call) (c : Call) → Possible (before ++ (c ∷ after)) → answerOf (c .got) ≡ Failed → endedBy (before ++ (c ∷ after)) ≡ false
+unfolding gaveBytes metEnd endedBy
+failed-not-ended [] after c p g = rw g (ap endedBy (p .1 .1 .0 (rw g refl)))
+failed-not-ended (d ∷ before) after c p g = told (answerOf (d .got)) (p .1 .1 .0) (failed-not-ended before after c (p .1 .1 .1) g)
+  where
+    told : (a : Answer) → (onAnswer a (λ n. true) false false ≡ false → before ++ (c ∷ after) ≡ []) → endedBy (before ++ (c ∷ after)) ≡ false →
+        (onAnswer a (λ n. false) true false || endedBy (before ++ (c ∷ after))) ≡ false
+    told (Bytes n) q h = h
+    told End q h = absurd (some-left before after c (q refl))
+    told Failed q h = h

@@ -1,6 +1,6 @@
 -- What is known of the calls that read standard input. No contract can say which bytes a read gives, so each statement is of some calls.
 use mathlib.Core.Path.{_≡_}
-use mathlib.Core.Bool.{Bool, true, false}
+use mathlib.Core.Bool.{Bool, true, false, _||_}
 use mathlib.Core.List.{List, [], _∷_, _++_}
 use Prim.Native.Nat.{ℕ}
 use lib.IntN.{ℤ}
@@ -17,23 +17,34 @@ pub record Call : Type 0 where
 abbrev pub call : ℤ → List ℕ → Call
 call got block = record { got = got; block = block }
 
--- calls as they may follow each other: each is handed a block of 65,536 bytes, and there is none after the end or after a failure
+-- the bytes that it gave
+unfoldable pub bytesOf : Call → List ℕ
+bytesOf c = onAnswer (answerOf (c .got)) (λ n. take n (c .block)) [] []
+
+-- whether it gave any
+unfoldable pub gaveBytes : Call → Bool
+gaveBytes c = onAnswer (answerOf (c .got)) (λ n. true) false false
+
+-- whether it met the input's end; a failure is not the end
+unfoldable pub metEnd : Call → Bool
+metEnd c = onAnswer (answerOf (c .got)) (λ n. false) true false
+
+-- calls as they may follow each other: each is handed a block of 65,536 bytes, and after the end or a failure there is none
 abbrev pub Possible : List Call → Type 0
 Possible [] = Unit
-Possible (c ∷ calls) =
-    Moved 65536 (c .got) × ((length (c .block) ≡ 65536) × onAnswer (answerOf (c .got)) (λ n. Possible calls) (calls ≡ []) (calls ≡ []))
+Possible (c ∷ calls) = Moved 65536 (c .got) × ((length (c .block) ≡ 65536) × ((gaveBytes c ≡ false → calls ≡ []) × Possible calls))
 
--- the text that they gave: the bytes of one after the bytes of the other
+-- the text that they gave
 unfoldable pub textOf : List Call → List ℕ
 textOf [] = []
-textOf (c ∷ calls) = onAnswer (answerOf (c .got)) (λ n. take n (c .block) ++ textOf calls) [] []
+textOf (c ∷ calls) = bytesOf c ++ textOf calls
 
--- whether they met the input's end; a failure is not the end
+-- whether they met the input's end
 unfoldable pub endedBy : List Call → Bool
 endedBy [] = false
-endedBy (c ∷ calls) = onAnswer (answerOf (c .got)) (λ n. endedBy calls) true false
+endedBy (c ∷ calls) = metEnd c || endedBy calls
 
--- where reading stands: what was read was fed to a machine, and the input goes on, has ended, or neither, after a failure
+-- where a call leaves the reading: the machine is fed its bytes; there may be more to read; the input has ended
 pub record Read : Type 0 where
   pub machine : Machine
   pub more : Bool
@@ -42,9 +53,8 @@ pub record Read : Type 0 where
 abbrev pub read : Machine → Bool → Bool → Read
 read machine more ended = record { machine = machine; more = more; ended = ended }
 
--- after one call
 unfoldable pub callRead : Call → Machine → Read
-callRead c m = onAnswer (answerOf (c .got)) (λ n. read (fed (take n (c .block)) m) true false) (read m false true) (read m false false)
+callRead c m = read (fed (bytesOf c) m) (gaveBytes c) (metEnd c)
 
 -- after some calls a machine is another that was fed their text, and the input has ended if they met its end
 pub record Reads (first last : Machine) (ended : Bool) : Type 0 where

@@ -4,11 +4,11 @@ use Prim.Native.Nat.{ℕ}
 use lib.ListN.{length, length-replicate}
 use mir.Syntax.{w64}
 use mir.Val.{toZ, ofZ}
-use borrow.Author.Tests.{not-true, not-false}
+use borrow.Author.Tests.{not-false}
 use Rattle.libc.specs.Io.{Moved}
 use Rattle.frames.specs.Reading.{contents, tables}
 use Rattle.feeding.specs.Feeding.{machine, fresh}
-use Rattle.input.proofs.CallsLaws.{SoFar, none-read, call-more, call-last, none-left, moved-after, turn-less}
+use Rattle.input.proofs.ReadsLaws.{SoFar, none-read, call-more, call-last, none-left, moved-after, turn-less}
 use Rattle.input.proofs.read_all.Statement.{statement}
 use Rattle.input.proofs.read_all.Tie as tie
 
@@ -58,7 +58,6 @@ returns : tie.Need-returns Inv-loop μ-loop
 returns c =
     call-last _ _ (turn (calls (stops c)) .loop .inv .0) _ _ _ _ _ (moved (calls (stops c))) (room (calls (stops c)))
     (stops c .take-answer .ensures)
-    (not-true _ (c .if1 .taken))
 
 loop-less : tie.Need-loop-less Inv-loop μ-loop
 loop-less c = turn-less _ (calls (goes c) .before .before .loop-test .taken)

@@ -4,7 +4,7 @@ use mir.Facts.{toZ-ofZ}
 use lib.Seq.{length-take-le}
 use Rattle.input.specs.Answers.{answerOf}
 use Rattle.input.proofs.AnswersLaws.{count-inside}
-use Rattle.input.proofs.CallsLaws.{bytes-taken, end-taken, failed-taken}
+use Rattle.input.proofs.ReadsLaws.{bytes-taken, end-taken, failed-taken}
 use Rattle.input.proofs.take_answer.Statement.{statement}
 use Rattle.input.proofs.take_answer.Tie as tie
 
