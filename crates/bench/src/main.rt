@@ -119,12 +119,12 @@ fn answer_input(out: &mut [u8]) -> usize
 }
 
 // The same as a slice: what is handed on to be written.
-fn output_bytes<'a>(out: &'a mut [u8]) -> &'a [u8]
+fn output_bytes(out: &mut [u8]) -> &mut [u8]
     requires { ⌜ 32813 ≤ length (now out) ⌝ }
     ensures { λ r. ⌜ Answers (now r) ⌝ }
 {
     let used = answer_input(out);
-    &out[..used]
+    &mut out[..used]
 }
 
 fn main() {

@@ -65,10 +65,10 @@ loop-less c = turn-less _ (calls (goes c) .before .before .loop-test .taken)
 loop-again : tie.Need-loop-again Inv-loop μ-loop
 loop-again c = (
   call-more _ _ (turn (calls (goes c)) .loop .inv .0) _ _ _ _ _ (moved (calls (goes c))) (room (calls (goes c)))
-  (goes c .take-answer .ensures)
-  (not-false _ (c .if1 .left))
-  (goes c .take-answer .kept .1 .1 .0)
-  (goes c .take-answer .kept .1 .1 .1),
+      (goes c .take-answer .ensures)
+      (not-false _ (c .if1 .left))
+      (goes c .take-answer .kept .1 .1 .0)
+      (goes c .take-answer .kept .1 .1 .1),
   room (calls (goes c)),
 )
 
