@@ -1,28 +1,30 @@
 -- What was read, finished and answered.
-use mathlib.Core.Path.{_≡_, refl, sym, ap, _∙_}
-use mathlib.Core.Bool.{Bool, true, false, true≢false, cond}
+use mathlib.Core.Path.{_≡_, sym, ap, _∙_}
+use mathlib.Core.Bool.{Bool, true, false, cond, not}
 use mathlib.Core.List.{List, []}
-use Prim.Native.Nat.{ℕ, _≤_, _<_}
+use Prim.Native.Nat.{ℕ, _≤_}
 use native.Mathlib.Nat.{min-le-right}
 use native.Mathlib.Omega.{arith}
 use lib.ListN.{length, take, length-take}
+use borrow.Author.Tests.{not-true, not-false}
 use Rattle.io.specs.Counts.{Counts}
 use Rattle.frames.specs.Reading.{Reading}
 use Rattle.feeding.specs.Feeding.{Machine, fed, finished}
 use Rattle.output.specs.Page.{Page, page, written}
-use Rattle.answering.specs.Bench.{caseOutput, benchOutput}
+use Rattle.answering.specs.Bench.{caseOutput}
 use Rattle.answering.proofs.BenchLaws.{begun, text-output, answer-whole, answer-count}
-use Rattle.input.specs.Calls.{Call, textOf, endedBy, Reads}
+use Rattle.input.specs.Calls.{textOf, endedBy, Reads}
 use Rattle.bench.specs.Program.{endedOutput, programOutput, Answers}
 
-pub unended-written : (ended : Bool) (r : Reading) (out : List ℕ) → ended ≡ false → page out 0 ≡ written (endedOutput ended r) (page out 0)
+-- whether the input has ended, as the function asks it
+pub unended-written : (ended : Bool) (r : Reading) (out : List ℕ) → not ended ≡ true → page out 0 ≡ written (endedOutput ended r) (page out 0)
 unfolding endedOutput written
-unended-written ended r out h = rw h
+unended-written ended r out h = rw (not-true ended h)
 
-pub ended-written : (ended : Bool) (r : Reading) (out after : List ℕ) (used : ℕ) → ended ≡ true →
+pub ended-written : (ended : Bool) (r : Reading) (out after : List ℕ) (used : ℕ) → not ended ≡ false →
     page after used ≡ written (caseOutput r) (page out 0) → page after used ≡ written (endedOutput ended r) (page out 0)
 unfolding endedOutput
-ended-written ended r out after used h e = rw h e
+ended-written ended r out after used h e = rw (not-false ended h) e
 
 -- a buffer of 32,813 bytes holds the whole output
 module _ (r : Reading) (out after : List ℕ) (used : ℕ) (k : 32813 ≤ length out) where
