@@ -5,40 +5,49 @@ use mathlib.Core.List.{List, [], _∷_, _++_, append-assoc, append-nil}
 use Prim.Native.Nat.{ℕ}
 use native.Mathlib.Omega.{arith}
 use lib.IntN.{ℤ, pos}
-use lib.ListN.{length, length-append}
+use lib.ListN.{length, take, length-append}
 use Rattle.libc.specs.Io.{Moved}
 use Rattle.input.specs.declared.Answer.{Answer}
 use Rattle.input.specs.declared.Answer.the-variants.{Bytes, End, Failed}
-use Rattle.input.specs.Answers.{answerOf, onAnswer}
-use Rattle.input.specs.Calls.{Call, bytesOf, gaveBytes, metEnd, Possible, textOf, endedBy}
+use Rattle.input.specs.Answers.{answerOf, onAnswer, gaveBytes, metEnd}
+use Rattle.input.specs.Calls.{Call, bytesOf, Possible, textOf, endedBy}
 use Rattle.input.proofs.AnswersLaws.{end-zero}
 
 -- a call that gave bytes
 pub record Gave (c : Call) : Type 0 where
   pub moved : Moved 65536 (c .got)
   pub room : length (c .block) ≡ 65536
-  pub gave : gaveBytes c ≡ true
+  pub gave : gaveBytes (c .got) ≡ true
 
 abbrev pub AllGave : List Call → Type 0
 AllGave [] = Unit
 AllGave (c ∷ calls) = Gave c × AllGave calls
 
-gave-no-end : (c : Call) → gaveBytes c ≡ true → metEnd c ≡ false
+gave-no-end : (got : ℤ) → gaveBytes got ≡ true → metEnd got ≡ false
 unfolding gaveBytes metEnd
-gave-no-end c = told (answerOf (c .got))
+gave-no-end got = told (answerOf got)
   where
     told : (a : Answer) → onAnswer a (λ n. true) false false ≡ true → onAnswer a (λ n. false) true false ≡ false
     told (Bytes n) g = refl
     told End g = absurd (true≢false (sym g))
     told Failed g = refl
 
+pub some-gave : (c : Call) → (length (bytesOf c) ≡ 0 → ⊥) → gaveBytes (c .got) ≡ true
+unfolding bytesOf gaveBytes
+some-gave c = told (answerOf (c .got))
+  where
+    told : (a : Answer) → (length (onAnswer a (λ n. take n (c .block)) [] []) ≡ 0 → ⊥) → onAnswer a (λ n. true) false false ≡ true
+    told (Bytes n) h = refl
+    told End h = absurd (h refl)
+    told Failed h = absurd (h refl)
+
 pub one-text : (c : Call) → textOf (c ∷ []) ≡ bytesOf c
 unfolding textOf
 one-text c = append-nil (bytesOf c)
 
-pub one-end : (c : Call) → endedBy (c ∷ []) ≡ metEnd c
+pub one-end : (c : Call) → endedBy (c ∷ []) ≡ metEnd (c .got)
 unfolding endedBy
-one-end c = told (metEnd c)
+one-end c = told (metEnd (c .got))
   where
     told : (b : Bool) → (b || false) ≡ b
     told true = refl
@@ -53,7 +62,7 @@ text-append (c ∷ a) b =
 pub end-append : (a b : List Call) → AllGave a → endedBy (a ++ b) ≡ endedBy b
 unfolding endedBy
 end-append [] b g = refl
-end-append (c ∷ a) b g = rw (gave-no-end c (g .0 .gave)) (end-append a b (g .1))
+end-append (c ∷ a) b g = rw (gave-no-end (c .got) (g .0 .gave)) (end-append a b (g .1))
 
 pub gave-append : (a b : List Call) → AllGave a → AllGave b → AllGave (a ++ b)
 gave-append [] b g h = h

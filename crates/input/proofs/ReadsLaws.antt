@@ -1,11 +1,11 @@
 -- What reading has come to, call by call.
 use mathlib.Core.Path.{_≡_, refl, sym, ap, _∙_, subst}
-use mathlib.Core.Bool.{Bool, true, false}
+use mathlib.Core.Bool.{Bool, false}
 use mathlib.Core.List.{List, [], _∷_, _++_}
 use Prim.Native.Nat.{ℕ, _-_, _^_, _<_}
 use native.Mathlib.Omega.{arith}
 use lib.IntN.{ℤ}
-use lib.ListN.{length, take}
+use lib.ListN.{length}
 use lib.Signed.{mag}
 use mir.Syntax.{w64}
 use mir.Val.{hbits, toZ, ofZ}
@@ -17,25 +17,9 @@ use Rattle.feeding.specs.declared.State.{State}
 use Rattle.feeding.specs.Feeding.{Machine, machine, fresh, fed}
 use Rattle.feeding.proofs.FeedingLaws.{fed-none, fed-append}
 use Rattle.feeding.proofs.KeptLaws.{Kept, Told, kept-none, kept-more}
-use Rattle.input.specs.declared.Answer.{Answer}
-use Rattle.input.specs.declared.Answer.the-variants.{Bytes, End, Failed}
-use Rattle.input.specs.Answers.{answerOf}
-use Rattle.input.specs.Calls.{Call, call, bytesOf, gaveBytes, metEnd, Possible, textOf, endedBy, Read, read, callRead, Reads}
-use Rattle.input.proofs.CallsLaws.{AllGave, one-text, one-end, text-append, end-append, gave-append, possible-append}
-
--- what is to be made of a call that gave bytes, met the end or failed
-module _ (got : ℤ) (block : List ℕ) (m : Machine) (a : Answer) (e : a ≡ answerOf got) where
-  pub bytes-taken : (o : Machine) (n : ℕ) → a ≡ Bytes n → o ≡ fed (take n block) m → read o true false ≡ callRead (call got block) m
-  unfolding callRead bytesOf gaveBytes metEnd
-  bytes-taken o n g h = rw (← e, g, h)
-
-  pub end-taken : a ≡ End → read m false true ≡ callRead (call got block) m
-  unfolding callRead bytesOf gaveBytes metEnd
-  end-taken g = rw (← e, g, fed-none m)
-
-  pub failed-taken : a ≡ Failed → read m false false ≡ callRead (call got block) m
-  unfolding callRead bytesOf gaveBytes metEnd
-  failed-taken g = rw (← e, g, fed-none m)
+use Rattle.input.specs.Answers.{metEnd}
+use Rattle.input.specs.Calls.{Call, call, bytesOf, Possible, textOf, endedBy, Reads}
+use Rattle.input.proofs.CallsLaws.{AllGave, some-gave, one-text, one-end, text-append, end-append, gave-append, possible-append}
 
 -- a machine was fed what some calls gave, and no buffer has another length
 pub record SoFar (m n : Machine) : Type 0 where
@@ -57,6 +41,10 @@ none-read line state contents tables e =
       kept = kept-none (reading (fresh .case) contents tables) (state .case);
     }
 
+is-empty : (bytes : List ℕ) → length bytes ≡ 0 → bytes ≡ []
+is-empty [] h = refl
+is-empty (b ∷ bytes) h = absurd (omega (arith, h))
+
 module _ (m n : Machine) (f : SoFar m n) where
   text-then : (b : List Call) (o : Machine) → o ≡ fed (textOf b) n → o ≡ fed (textOf (f .calls ++ b)) m
   text-then b o e =
@@ -76,33 +64,30 @@ module _ (m n : Machine) (f : SoFar m n) where
   unfolding textOf endedBy
   none-left = reads-then [] n false tt (sym (fed-none n)) refl
 
-  -- one call more: its number, the block as it left it, and what was made of them
-  module _ (got : ℤ) (block : List ℕ) (o : Machine) (more ended : Bool) (moved : Moved (length block) got) (room : length block ≡ 65536)
-      (e : read o more ended ≡ callRead (call got block) n) where
+  -- one call more: its number, the block as it left it, and its bytes
+  module _ (got : ℤ) (block bytes : List ℕ) (moved : Moved (length block) got) (room : length block ≡ 65536) (b : bytes ≡ bytesOf (call got block)) where
     within : Moved 65536 got
     within = subst (λ (k : ℕ). Moved k got) room moved
 
-    was-fed : o ≡ fed (textOf (call got block ∷ [])) n
-    unfolding callRead
-    was-fed = ap (λ (r : Read). r .machine) e ∙ ap (λ (t : List ℕ). fed t n) (sym (one-text (call got block)))
+    was-fed : (o : Machine) → o ≡ fed bytes n → o ≡ fed (textOf (call got block ∷ [])) n
+    was-fed o e = e ∙ ap (λ (t : List ℕ). fed t n) (b ∙ sym (one-text (call got block)))
 
-    pub call-more : more ≡ true → length (o .row .line) ≡ length (n .row .line) → Told (n .reading) (o .reading) → SoFar m o
-    unfolding callRead
-    call-more t l k =
-        let b = call got block ∷ [] in
+    pub call-more : (o : Machine) → (length bytes ≡ 0 → ⊥) → o ≡ fed bytes n → length (o .row .line) ≡ length (n .row .line) → Told (n .reading) (o .reading) → SoFar m o
+    call-more o h e l k =
+        let c = call got block in
         record {
-          calls = f .calls ++ b;
-          gave = gave-append (f .calls) b (f .gave) (record { moved = within; room = room; gave = sym (ap (λ (r : Read). r .more) e) ∙ t }, tt);
-          text = text-then b o was-fed;
+          calls = f .calls ++ (c ∷ []);
+          gave = gave-append (f .calls) (c ∷ []) (f .gave) (record { moved = within; room = room; gave = some-gave c (λ z. h (ap (λ (x : List ℕ). length x) b ∙ z)) }, tt);
+          text = text-then (c ∷ []) o (was-fed o e);
           line = l ∙ f .line;
           kept = kept-more (m .reading) (n .reading) (o .reading) (f .kept) k;
         }
 
-    pub call-last : Reads m o ended
-    unfolding callRead
-    call-last =
-        reads-then (call got block ∷ []) o ended (within, (room, ((λ _. refl), tt))) was-fed
-        (ap (λ (r : Read). r .ended) e ∙ sym (one-end (call got block)))
+    pub call-last : (ended : Bool) → length bytes ≡ 0 → ended ≡ metEnd got → Reads m n ended
+    call-last ended h e =
+        reads-then (call got block ∷ []) n ended (within, (room, ((λ _. refl), tt)))
+        (was-fed n (sym (fed-none n) ∙ ap (λ (t : List ℕ). fed t n) (sym (is-empty bytes h))))
+        (e ∙ sym (one-end (call got block)))
 
 -- what a call answered fits the block as the call left it; the number is read back from its bits
 pub moved-after : (z : ℤ) (before after : ℕ) → mag z < 2 ^ hbits w64 → after ≡ before → Moved before z → Moved after (toZ w64 (ofZ w64 z))

@@ -1,13 +1,13 @@
 -- What is known of the calls that read standard input. No contract can say which bytes a read gives, so each statement is of some calls.
 use mathlib.Core.Path.{_≡_}
-use mathlib.Core.Bool.{Bool, true, false, _||_}
+use mathlib.Core.Bool.{Bool, false, _||_}
 use mathlib.Core.List.{List, [], _∷_, _++_}
 use Prim.Native.Nat.{ℕ}
 use lib.IntN.{ℤ}
 use lib.ListN.{length, take}
 use Rattle.libc.specs.Io.{Moved}
 use Rattle.feeding.specs.Feeding.{Machine, fed}
-use Rattle.input.specs.Answers.{answerOf, onAnswer}
+use Rattle.input.specs.Answers.{answerOf, onAnswer, gaveBytes, metEnd}
 
 -- a call: the number that it answered, and the block as it left it
 pub record Call : Type 0 where
@@ -21,18 +21,10 @@ call got block = record { got = got; block = block }
 unfoldable pub bytesOf : Call → List ℕ
 bytesOf c = onAnswer (answerOf (c .got)) (λ n. take n (c .block)) [] []
 
--- whether it gave any
-unfoldable pub gaveBytes : Call → Bool
-gaveBytes c = onAnswer (answerOf (c .got)) (λ n. true) false false
-
--- whether it met the input's end; a failure is not the end
-unfoldable pub metEnd : Call → Bool
-metEnd c = onAnswer (answerOf (c .got)) (λ n. false) true false
-
 -- calls as they may follow each other: each is handed a block of 65,536 bytes, and after the end or a failure there is none
 abbrev pub Possible : List Call → Type 0
 Possible [] = Unit
-Possible (c ∷ calls) = Moved 65536 (c .got) × ((length (c .block) ≡ 65536) × ((gaveBytes c ≡ false → calls ≡ []) × Possible calls))
+Possible (c ∷ calls) = Moved 65536 (c .got) × ((length (c .block) ≡ 65536) × ((gaveBytes (c .got) ≡ false → calls ≡ []) × Possible calls))
 
 -- the text that they gave
 unfoldable pub textOf : List Call → List ℕ
@@ -42,19 +34,7 @@ textOf (c ∷ calls) = bytesOf c ++ textOf calls
 -- whether they met the input's end
 unfoldable pub endedBy : List Call → Bool
 endedBy [] = false
-endedBy (c ∷ calls) = metEnd c || endedBy calls
-
--- where a call leaves the reading: the machine is fed its bytes; there may be more to read; the input has ended
-pub record Read : Type 0 where
-  pub machine : Machine
-  pub more : Bool
-  pub ended : Bool
-
-abbrev pub read : Machine → Bool → Bool → Read
-read machine more ended = record { machine = machine; more = more; ended = ended }
-
-unfoldable pub callRead : Call → Machine → Read
-callRead c m = read (fed (bytesOf c) m) (gaveBytes c) (metEnd c)
+endedBy (c ∷ calls) = metEnd (c .got) || endedBy calls
 
 -- after some calls a machine is another that was fed their text, and the input has ended if they met its end
 pub record Reads (first last : Machine) (ended : Bool) : Type 0 where

@@ -5,8 +5,8 @@ ghost use lib.ListN.{length};
 ghost use Rattle.libc.specs.Io.{Moved};
 ghost use Rattle.frames.specs.Reading.{contents, tables};
 ghost use Rattle.feeding.specs.Feeding.{machine, fresh};
-ghost use Rattle.input.specs.Answers.{answerOf};
-ghost use Rattle.input.specs.Calls.{call, read, callRead, Reads};
+ghost use Rattle.input.specs.Answers.{answerOf, metEnd};
+ghost use Rattle.input.specs.Calls.{call, bytesOf, Reads};
 
 // What a read answers: a number of bytes, the end of the input, or that it failed.
 enum Answer {
@@ -27,70 +27,26 @@ fn answer_of(got: isize) -> Answer
     Answer::End
 }
 
-// Where a call left the reading: whether there may be more to read, and if not, whether that is since the input has ended.
-struct Turn {
-    state: State,
-    more: bool,
-    ended: bool,
-}
-
-// What a read answered and the block as it left it, taken.
-fn take_answer(
-    got: isize,
-    block: &[u8],
-    line: &mut [u8],
-    registers: &mut [u8],
-    memory: &mut [u8],
-    kernel: &mut [u8],
-    register_taint: &mut [u8],
-    surface_taint: &mut [u8],
-    memory_taint: &mut [u8],
-    types: &mut [u8],
-    starts: &mut [u16],
-    counts: &mut [u16],
-    predicate_values: &mut [u32],
-    surface_bytes: &mut [u8],
-    surface_lengths: &mut [u16],
-    state: State,
-) -> Turn
-    requires { ⌜ Moved (length (now block)) got ⌝ }
-    ensures { λ r. ⌜ read (machine (now (line .exit)) (r .state) (contents (now (registers .exit)) (now (memory .exit)) (now (kernel .exit)) (now («register_taint» .exit)) (now («surface_taint» .exit)) (now («memory_taint» .exit))) (tables (now (types .exit)) (now (starts .exit)) (now (counts .exit)) (now («predicate_values» .exit)) (now («surface_bytes» .exit)) (now («surface_lengths» .exit)))) (r .more) (r .ended) ≡ callRead (call got (now (block .entry))) (machine (now (line .entry)) state (contents (now (registers .entry)) (now (memory .entry)) (now (kernel .entry)) (now («register_taint» .entry)) (now («surface_taint» .entry)) (now («memory_taint» .entry))) (tables (now (types .entry)) (now (starts .entry)) (now (counts .entry)) (now («predicate_values» .entry)) (now («surface_bytes» .entry)) (now («surface_lengths» .entry)))) ⌝ }
+// Whether a read met the input's end: one that failed did not.
+fn met_end(got: isize) -> bool
+    ensures { λ r. ⌜ r ≡ metEnd got ⌝ }
 {
     match answer_of(got) {
-        Answer::Bytes(count) => {
-            let next = feeding::feed(
-                &block[..count],
-                line,
-                registers,
-                memory,
-                kernel,
-                register_taint,
-                surface_taint,
-                memory_taint,
-                types,
-                starts,
-                counts,
-                predicate_values,
-                surface_bytes,
-                surface_lengths,
-                state,
-            );
-            Turn {
-                state: next,
-                more: true,
-                ended: false,
-            }
-        }
-        Answer::End => Turn {
-            state,
-            more: false,
-            ended: true,
-        },
-        Answer::Failed => Turn {
-            state,
-            more: false,
-            ended: false,
-        },
+        Answer::Bytes(_) => false,
+        Answer::End => true,
+        Answer::Failed => false,
+    }
+}
+
+// The bytes that it gave, of the block as it left it.
+fn bytes_of(got: isize, block: &[u8]) -> &[u8]
+    requires { ⌜ Moved (length (now block)) got ⌝ }
+    ensures { λ r. ⌜ now r ≡ bytesOf (call got (now (block .entry))) ⌝ }
+{
+    match answer_of(got) {
+        Answer::Bytes(count) => &block[..count],
+        Answer::End => &block[..0],
+        Answer::Failed => &block[..0],
     }
 }
 
@@ -124,9 +80,15 @@ pub fn read_all(
     while 0 < turns {
         turns -= 1;
         let got = libc::read(0, &mut block);
-        let turn = take_answer(
-            got,
-            &block,
+        let bytes = bytes_of(got, &block);
+        if bytes.len() == 0 {
+            return Input {
+                state,
+                ended: met_end(got),
+            };
+        }
+        let next = feeding::feed(
+            bytes,
             line,
             registers,
             memory,
@@ -142,14 +104,7 @@ pub fn read_all(
             surface_lengths,
             state,
         );
-        let next = turn.state;
         state = next;
-        if !turn.more {
-            return Input {
-                state,
-                ended: turn.ended,
-            };
-        }
     }
     Input {
         state,

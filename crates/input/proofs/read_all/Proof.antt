@@ -4,7 +4,6 @@ use Prim.Native.Nat.{ℕ}
 use lib.ListN.{length, length-replicate}
 use mir.Syntax.{w64}
 use mir.Val.{toZ, ofZ}
-use borrow.Author.Tests.{not-false}
 use Rattle.libc.specs.Io.{Moved}
 use Rattle.frames.specs.Reading.{contents, tables}
 use Rattle.feeding.specs.Feeding.{machine, fresh}
@@ -23,18 +22,23 @@ abbrev μ-loop : tie.MeasureT-loop
 μ-loop line₀ registers₀ memory₀ kernel₀ register-taint₀ surface-taint₀ memory-taint₀ types₀ starts₀ counts₀ predicate-values₀ surface-bytes₀ surface-lengths₀ block₀ state₀ turns₀ line registers memory kernel register-taint surface-taint memory-taint types starts counts predicate-values surface-bytes surface-lengths block state turns =
     turns
 
--- where a call's answer is taken, from the return after it, and from the turn's end
-abbrev stops : tie.Then1 Inv-loop μ-loop → tie.After-take-answer Inv-loop μ-loop
-stops c = c .before .before .before .before .before .before .before .before .before .before .before .before .before .before .before .before .before .before .before .before .before .before .before .before .before .before .before .before .before
+-- where a call's bytes are known, from the return for want of bytes
+abbrev stops : tie.After-met-end Inv-loop μ-loop → tie.After-bytes-of Inv-loop μ-loop
+stops c = c .before .before
 
-abbrev goes : tie.Else1 Inv-loop μ-loop → tie.After-take-answer Inv-loop μ-loop
-goes c = c .before .before .before .before .before .before .before .before .before .before .before .before .before .before .before .before .before .before .before .before .before .before .before .before .before .before .before .before .before
+-- where they are fed, from the turn's end
+abbrev feeds : tie.After-slice-known26 Inv-loop μ-loop → tie.After-feed Inv-loop μ-loop
+feeds c = c .before .before .before .before .before .before .before .before .before .before .before .before .before .before .before .before .before .before .before .before .before .before .before .before .before .before
+
+-- where they are known, from there
+abbrev goes : tie.After-feed Inv-loop μ-loop → tie.After-bytes-of Inv-loop μ-loop
+goes c = c .before .before .before .before .before .before .before .before .before .before .before .before .before .before .before
 
 -- the call
-abbrev calls : tie.After-take-answer Inv-loop μ-loop → tie.After-read Inv-loop μ-loop
-calls c = c .before .before .before .before .before .before .before .before .before .before .before .before .before .before .before .before
+abbrev calls : tie.After-bytes-of Inv-loop μ-loop → tie.After-read Inv-loop μ-loop
+calls c = c .before .before .before
 
--- the turn's start, from there
+-- the turn's start
 abbrev turn : tie.After-read Inv-loop μ-loop → tie.At-loop Inv-loop μ-loop
 turn c = c .before .before .before
 
@@ -48,48 +52,44 @@ room c = c .read .kept .1 .0 ∙ turn c .loop .inv .1
 loop-holds : tie.Need-loop-holds Inv-loop μ-loop
 loop-holds c = (none-read _ _ _ _ (c .start .ensures), length-replicate {A = ℕ} 65536 0)
 
-slice-aggregate-take-answer : tie.Need-slice-aggregate-take-answer Inv-loop μ-loop
-slice-aggregate-take-answer c = sym (room (c .before .before))
-
-take-answer-requires : tie.Need-take-answer-requires Inv-loop μ-loop
-take-answer-requires c κs = moved (c .before .before .before .before .before .before .before .before .before .before .before .before .before .before .before)
-
 returns : tie.Need-returns Inv-loop μ-loop
 returns c =
-    call-last _ _ (turn (calls (stops c)) .loop .inv .0) _ _ _ _ _ (moved (calls (stops c))) (room (calls (stops c)))
-    (stops c .take-answer .ensures)
+    call-last _ _ (turn (calls (stops c)) .loop .inv .0) _ _ _ (moved (calls (stops c))) (room (calls (stops c))) (stops c .bytes-of .ensures) _
+    (c .before .if1 .taken)
+    (c .met-end .ensures)
 
 loop-less : tie.Need-loop-less Inv-loop μ-loop
-loop-less c = turn-less _ (calls (goes c) .before .before .loop-test .taken)
+loop-less c = turn-less _ (calls (goes (feeds c)) .before .before .loop-test .taken)
 
 loop-again : tie.Need-loop-again Inv-loop μ-loop
 loop-again c = (
-  call-more _ _ (turn (calls (goes c)) .loop .inv .0) _ _ _ _ _ (moved (calls (goes c))) (room (calls (goes c)))
-      (goes c .take-answer .ensures)
-      (not-false _ (c .if1 .left))
-      (goes c .take-answer .kept .1 .1 .0)
-      (goes c .take-answer .kept .1 .1 .1),
-  room (calls (goes c)),
+  call-more _ _ (turn (calls (goes (feeds c))) .loop .inv .0) _ _ _ (moved (calls (goes (feeds c)))) (room (calls (goes (feeds c)))) (goes (feeds c) .bytes-of .ensures) _
+      (feeds c .before .before .before .before .before .before .before .before .before .before .before .before .before .before .if1 .left)
+      (feeds c .feed .ensures)
+      (feeds c .feed .kept .1 .0)
+      (feeds c .feed .kept .1 .1),
+  room (calls (goes (feeds c))),
 )
 
 pub read-all-spec : {M : Type 1} → statement M
 read-all-spec =
     tie.close
-    (tie.spec Inv-loop μ-loop (λ c κs. tt) loop-holds (λ c. c .loop-test .taken) (λ c. sym (c .before .before .loop .inv .1)) (λ c κs. tt) slice-aggregate-take-answer take-answer-requires
-    (λ c. stops c .take-answer .kept .1 .1 .0 ∙ turn (calls (stops c)) .loop .inv .0 .line)
-    (λ c. stops c .take-answer .kept .1 .1 .1 .0 ∙ turn (calls (stops c)) .loop .inv .0 .kept .registers)
-    (λ c. stops c .take-answer .kept .1 .1 .1 .1 .0 ∙ turn (calls (stops c)) .loop .inv .0 .kept .memory)
-    (λ c. stops c .take-answer .kept .1 .1 .1 .1 .1 .0 ∙ turn (calls (stops c)) .loop .inv .0 .kept .kernel)
-    (λ c. stops c .take-answer .kept .1 .1 .1 .1 .1 .1 .0 ∙ turn (calls (stops c)) .loop .inv .0 .kept .registerTaint)
-    (λ c. stops c .take-answer .kept .1 .1 .1 .1 .1 .1 .1 .0 ∙ turn (calls (stops c)) .loop .inv .0 .kept .surfaceTaint)
-    (λ c. stops c .take-answer .kept .1 .1 .1 .1 .1 .1 .1 .1 .0 ∙ turn (calls (stops c)) .loop .inv .0 .kept .memoryTaint)
-    (λ c. stops c .take-answer .kept .1 .1 .1 .1 .1 .1 .1 .1 .1 .0 ∙ turn (calls (stops c)) .loop .inv .0 .kept .types)
-    (λ c. stops c .take-answer .kept .1 .1 .1 .1 .1 .1 .1 .1 .1 .1 .0 ∙ turn (calls (stops c)) .loop .inv .0 .kept .starts)
-    (λ c. stops c .take-answer .kept .1 .1 .1 .1 .1 .1 .1 .1 .1 .1 .1 .0 ∙ turn (calls (stops c)) .loop .inv .0 .kept .counts)
-    (λ c. stops c .take-answer .kept .1 .1 .1 .1 .1 .1 .1 .1 .1 .1 .1 .1 .0 ∙ turn (calls (stops c)) .loop .inv .0 .kept .predicates)
-    (λ c. stops c .take-answer .kept .1 .1 .1 .1 .1 .1 .1 .1 .1 .1 .1 .1 .1 .0 ∙ turn (calls (stops c)) .loop .inv .0 .kept .surfaces)
-    (λ c. stops c .take-answer .kept .1 .1 .1 .1 .1 .1 .1 .1 .1 .1 .1 .1 .1 .1 .0 ∙ turn (calls (stops c)) .loop .inv .0 .kept .lengths)
-    returns loop-less loop-again
+    (tie.spec Inv-loop μ-loop (λ c κs. tt) loop-holds (λ c. c .loop-test .taken) (λ c. sym (c .before .before .loop .inv .1)) (λ c κs. tt)
+    (λ c. sym (room (c .before .before))) (λ c κs. moved (c .before .before)) (λ c κs. tt)
+    (λ c. turn (calls (stops c)) .loop .inv .0 .line)
+    (λ c. turn (calls (stops c)) .loop .inv .0 .kept .registers)
+    (λ c. turn (calls (stops c)) .loop .inv .0 .kept .memory)
+    (λ c. turn (calls (stops c)) .loop .inv .0 .kept .kernel)
+    (λ c. turn (calls (stops c)) .loop .inv .0 .kept .registerTaint)
+    (λ c. turn (calls (stops c)) .loop .inv .0 .kept .surfaceTaint)
+    (λ c. turn (calls (stops c)) .loop .inv .0 .kept .memoryTaint)
+    (λ c. turn (calls (stops c)) .loop .inv .0 .kept .types)
+    (λ c. turn (calls (stops c)) .loop .inv .0 .kept .starts)
+    (λ c. turn (calls (stops c)) .loop .inv .0 .kept .counts)
+    (λ c. turn (calls (stops c)) .loop .inv .0 .kept .predicates)
+    (λ c. turn (calls (stops c)) .loop .inv .0 .kept .surfaces)
+    (λ c. turn (calls (stops c)) .loop .inv .0 .kept .lengths)
+    returns (λ c κs. tt) loop-less loop-again
     (λ c. c .before .loop .inv .0 .line)
     (λ c. c .before .loop .inv .0 .kept .registers)
     (λ c. c .before .loop .inv .0 .kept .memory)
