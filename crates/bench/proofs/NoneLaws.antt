@@ -1,15 +1,15 @@
 -- The program puts out nothing only if the input was not read to its end.
-use mathlib.Core.Path.{_≡_, refl, ap}
-use mathlib.Core.Bool.{Bool, true, false, cond, _||_}
+use mathlib.Core.Path.{_≡_, refl}
+use mathlib.Core.Bool.{Bool, true, false, cond}
 use mathlib.Core.List.{List, [], _++_}
 use Prim.Native.Nat.{ℕ, _≤_, _<_}
 use native.Mathlib.Omega.{arith}
-use lib.Dec.{ltb, eqb}
+use lib.Dec.{ltb}
 use lib.ListN.{length, length-append}
 use Rattle.frames.specs.Reading.{Reading}
 use Rattle.frames.specs.Verdicts.{verdictOf}
 use Rattle.feeding.specs.Text.{textRead}
-use Rattle.output.specs.Output.{answerLine, bufferLines, outputBytes}
+use Rattle.output.specs.Output.{answerLine, outputBytes}
 use Rattle.output.proofs.LengthLaws.{length-answer}
 use Rattle.answering.specs.Bench.{outcomeOutput, goodOutput, caseOutput, unread, benchOutput}
 use Rattle.input.specs.Calls.{Call, textOf, endedBy}

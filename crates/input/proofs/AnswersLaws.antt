@@ -1,9 +1,9 @@
 -- What the signs of the number that a read answers say; y is the number as a test reads it back from its bits.
 use mathlib.Core.Path.{_≡_, refl, sym, ap, subst}
 use mathlib.Core.Bool.{Bool, true, false, true≢false}
-use Prim.Native.Nat.{ℕ, zero, suc, _≤_, _<_, _^_}
+use Prim.Native.Nat.{ℕ, zero, suc, _≤_}
 use native.Mathlib.Omega.{arith}
-use lib.Dec.{T, ltb}
+use lib.Dec.{T}
 use lib.IntN.{ℤ, pos, negsuc, natAbs}
 use lib.Signed.{ltZ, nonNeg, mag}
 use mir.Syntax.{w64}
@@ -13,12 +13,6 @@ use Rattle.libc.specs.Io.{Moved}
 use Rattle.input.specs.declared.Answer.{Answer}
 use Rattle.input.specs.declared.Answer.the-variants.{Bytes, End, Failed}
 use Rattle.input.specs.Answers.{answerOf, onAnswer}
-
-abbrev isBytes : Answer → Bool
-isBytes a = onAnswer a (λ n. true) false false
-
-abbrev isFailed : Answer → Bool
-isFailed a = onAnswer a (λ n. false) false true
 
 pub negative-failed : (y z : ℤ) → y ≡ z → ltZ y (pos 0) ≡ true → Failed ≡ answerOf z
 unfolding answerOf
@@ -36,6 +30,12 @@ unfolding answerOf
 zero-end (pos zero) z e f g = ap answerOf e
 zero-end (pos (suc n)) z e f g = absurd (omega (arith, ltb-false 0 (suc n) g))
 zero-end (negsuc n) z e f g = absurd (true≢false f)
+
+abbrev isBytes : Answer → Bool
+isBytes a = onAnswer a (λ n. true) false false
+
+abbrev isFailed : Answer → Bool
+isFailed a = onAnswer a (λ n. false) false true
 
 -- only 0 says that the input has ended
 pub end-zero : (z : ℤ) → answerOf z ≡ End → z ≡ pos 0
