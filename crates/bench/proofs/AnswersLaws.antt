@@ -1,28 +1,57 @@
 -- What was read, finished and answered.
 use mathlib.Core.Path.{_≡_, sym, ap, _∙_}
+use mathlib.Core.Bool.{Bool, true, false, cond, not}
 use mathlib.Core.List.{List, []}
-use Prim.Native.Nat.{ℕ, _≤_, _<_}
+use Prim.Native.Nat.{ℕ, _≤_}
 use native.Mathlib.Nat.{min-le-right}
 use native.Mathlib.Omega.{arith}
 use lib.ListN.{length, take, length-take}
+use borrow.Author.Tests.{not-true, not-false}
 use Rattle.io.specs.Counts.{Counts}
+use Rattle.frames.specs.Reading.{Reading}
 use Rattle.feeding.specs.Feeding.{Machine, fed, finished}
-use Rattle.output.specs.Page.{page, written}
+use Rattle.output.specs.Page.{Page, page, written}
 use Rattle.answering.specs.Bench.{caseOutput}
 use Rattle.answering.proofs.BenchLaws.{begun, text-output, answer-whole, answer-count}
-use Rattle.input.specs.Texts.{Reads}
-use Rattle.bench.specs.Program.{Answers}
+use Rattle.input.specs.Calls.{textOf, endedBy, Reads}
+use Rattle.bench.specs.Program.{endedOutput, programOutput, Answers}
 
-pub none-answered : (out : List ℕ) → Counts 0 out × Answers 0 out
-none-answered out = ((omega arith, omega arith), record { text = []; is = λ (h : 0 < 0). absurd (omega arith) })
+-- whether the input has ended, as the function asks it
+pub unended-written : (ended : Bool) (r : Reading) (out : List ℕ) → not ended ≡ true → page out 0 ≡ written (endedOutput ended r) (page out 0)
+unfolding endedOutput written
+unended-written ended r out h = rw (not-true ended h)
 
-pub input-answered : (line : List ℕ) (read done : Machine) (out after : List ℕ) (used : ℕ) → length line ≡ 16386 → length out ≡ 32813 →
-    Reads (begun line) read → done ≡ finished read → page after used ≡ written (caseOutput (done .reading)) (page out 0) → Counts used after × Answers used after
-input-answered line read done out after used l h r f e =
-    let k : 32813 ≤ length out = omega arith in
-    let w = answer-whole (done .reading) out after used k e in
-    let n : used ≡ length (take used after) = answer-count (done .reading) out after used k e ∙ ap (λ (x : List ℕ). length x) (sym w) in
-    let m : done ≡ finished (fed (r .text) (begun line)) = f ∙ ap finished (r .is) in (
+pub ended-written : (ended : Bool) (r : Reading) (out after : List ℕ) (used : ℕ) → not ended ≡ false →
+    page after used ≡ written (caseOutput r) (page out 0) → page after used ≡ written (endedOutput ended r) (page out 0)
+unfolding endedOutput
+ended-written ended r out after used h e = rw (not-false ended h) e
+
+-- a buffer of 32,813 bytes holds the whole output
+module _ (r : Reading) (out after : List ℕ) (used : ℕ) (k : 32813 ≤ length out) where
+  output-whole : (ended : Bool) → page after used ≡ written (endedOutput ended r) (page out 0) → take used after ≡ endedOutput ended r
+  unfolding endedOutput written
+  output-whole true e = answer-whole r out after used k e
+  output-whole false e = ap (λ (p : Page). take (p .used) (p .buffer)) e
+
+  output-count : (ended : Bool) → page after used ≡ written (endedOutput ended r) (page out 0) → used ≡ length (endedOutput ended r)
+  unfolding endedOutput written
+  output-count true e = answer-count r out after used k e
+  output-count false e = ap (λ (p : Page). p .used) e
+
+-- a case that was read from the start and finished has the output of the calls' text
+output-is : (line : List ℕ) (read done : Machine) (ended : Bool) (r : Reads (begun line) read ended) → length line ≡ 16386 → done ≡ finished read →
+    endedOutput ended (done .reading) ≡ programOutput (r .calls)
+unfolding endedOutput programOutput
+output-is line read done ended r l f =
+    let m : done ≡ finished (fed (textOf (r .calls)) (begun line)) = f ∙ ap finished (r .text) in
+    ap (λ (b : Bool). cond b (caseOutput (done .reading)) []) (r .end)
+    ∙ ap (λ (o : List ℕ). cond (endedBy (r .calls)) o []) (ap (λ (x : Machine). caseOutput (x .reading)) m ∙ text-output (textOf (r .calls)) line l)
+
+pub input-answered : (line : List ℕ) (read done : Machine) (ended : Bool) (out after : List ℕ) (used : ℕ) → length line ≡ 16386 → 32813 ≤ length out →
+    Reads (begun line) read ended → done ≡ finished read → page after used ≡ written (endedOutput ended (done .reading)) (page out 0) → Counts used after × Answers (take used after)
+input-answered line read done ended out after used l k r f e =
+    let w = output-whole (done .reading) out after used k ended e in
+    let n : used ≡ length (take used after) = output-count (done .reading) out after used k ended e ∙ ap (λ (x : List ℕ). length x) (sym w) in (
       (omega (arith, n, length-take used after, min-le-right used (length after)), n),
-      record { text = r .text; is = λ _. w ∙ (ap (λ (x : Machine). caseOutput (x .reading)) m ∙ text-output (r .text) line l) },
+      record { calls = r .calls; possible = r .possible; is = w ∙ output-is line read done ended r l f },
     )

@@ -1,11 +1,22 @@
--- What is known of the program. No contract can say which bytes a read gives, so each statement is of some text: what was read.
+-- What the program hands on to be written. No contract can say which bytes a read gives, so each statement is of some calls that read.
 use mathlib.Core.Path.{_≡_}
-use mathlib.Core.List.{List}
-use Prim.Native.Nat.{ℕ, _<_}
-use lib.ListN.{take}
-use Rattle.answering.specs.Bench.{benchOutput}
+use mathlib.Core.Bool.{Bool, cond}
+use mathlib.Core.List.{List, []}
+use Prim.Native.Nat.{ℕ}
+use Rattle.frames.specs.Reading.{Reading}
+use Rattle.answering.specs.Bench.{caseOutput, benchOutput}
+use Rattle.input.specs.Calls.{Call, Possible, textOf, endedBy}
 
--- what stands at the buffer's start, if anything was put there, is the bench's output for a text
-pub record Answers (used : ℕ) (buffer : List ℕ) : Type 0 where
-  pub text : List ℕ
-  pub is : 0 < used → take used buffer ≡ benchOutput text
+-- a case is answered only if its file was read to the input's end
+unfoldable pub endedOutput : Bool → Reading → List ℕ
+endedOutput ended r = cond ended (caseOutput r) []
+
+-- the bench's output for the text that the calls gave, if they met the input's end; otherwise, as after a read that failed, nothing
+unfoldable pub programOutput : List Call → List ℕ
+programOutput calls = cond (endedBy calls) (benchOutput (textOf calls)) []
+
+-- the bytes are what the program puts out after some calls
+pub record Answers (bytes : List ℕ) : Type 0 where
+  pub calls : List Call
+  pub possible : Possible calls
+  pub is : bytes ≡ programOutput calls

@@ -1,28 +1,56 @@
 // Standard input, read block by block and fed as a case file.
 use feeding::State;
-ghost use Rattle.io.specs.Counts.{Counts};
+ghost use mathlib.Core.Path.{_≡_};
+ghost use lib.ListN.{length};
+ghost use Rattle.libc.specs.Io.{Moved};
 ghost use Rattle.frames.specs.Reading.{contents, tables};
 ghost use Rattle.feeding.specs.Feeding.{machine, fresh};
-ghost use Rattle.input.specs.Texts.{Reads};
+ghost use Rattle.input.specs.Answers.{answerOf, metEnd};
+ghost use Rattle.input.specs.Calls.{call, bytesOf, Reads};
 
-// What one read gave: how many bytes, and whether it failed. A failed read is not the end of the input.
-struct Got {
-    count: usize,
-    failed: bool,
+// What a read answers: a number of bytes, the end of the input, or that it failed.
+enum Answer {
+    Bytes(usize),
+    End,
+    Failed,
 }
 
-fn read_block(block: &mut [u8; 65536]) -> Got
-    ensures { λ r. ⌜ Counts (r .count) (now (block .exit)) ⌝ }
+fn answer_of(got: isize) -> Answer
+    ensures { λ r. ⌜ r ≡ answerOf got ⌝ }
 {
-    let got = libc::read(0, block);
-    let count = io::count(got, block);
-    Got {
-        count,
-        failed: got < 0,
+    if got < 0 {
+        return Answer::Failed;
+    }
+    if 0 < got {
+        return Answer::Bytes(got as usize);
+    }
+    Answer::End
+}
+
+// Whether a read met the input's end: one that failed did not.
+fn met_end(got: isize) -> bool
+    ensures { λ r. ⌜ r ≡ metEnd got ⌝ }
+{
+    match answer_of(got) {
+        Answer::Bytes(_) => false,
+        Answer::End => true,
+        Answer::Failed => false,
     }
 }
 
-// Where reading ended, and whether that was the end of the input.
+// The bytes that it gave, of the block as it left it.
+fn bytes_of(got: isize, block: &[u8]) -> &[u8]
+    requires { ⌜ Moved (length (now block)) got ⌝ }
+    ensures { λ r. ⌜ now r ≡ bytesOf (call got (now (block .entry))) ⌝ }
+{
+    match answer_of(got) {
+        Answer::Bytes(count) => &block[..count],
+        Answer::End => &block[..0],
+        Answer::Failed => &block[..0],
+    }
+}
+
+// Where reading stopped, and whether that was the end of the input.
 pub struct Input {
     pub state: State,
     pub ended: bool,
@@ -44,22 +72,23 @@ pub fn read_all(
     surface_bytes: &mut [u8],
     surface_lengths: &mut [u16],
 ) -> Input
-    ensures { λ r. ⌜ Reads (machine (now (line .entry)) fresh (contents (now (registers .entry)) (now (memory .entry)) (now (kernel .entry)) (now («register_taint» .entry)) (now («surface_taint» .entry)) (now («memory_taint» .entry))) (tables (now (types .entry)) (now (starts .entry)) (now (counts .entry)) (now («predicate_values» .entry)) (now («surface_bytes» .entry)) (now («surface_lengths» .entry)))) (machine (now (line .exit)) (r .state) (contents (now (registers .exit)) (now (memory .exit)) (now (kernel .exit)) (now («register_taint» .exit)) (now («surface_taint» .exit)) (now («memory_taint» .exit))) (tables (now (types .exit)) (now (starts .exit)) (now (counts .exit)) (now («predicate_values» .exit)) (now («surface_bytes» .exit)) (now («surface_lengths» .exit)))) ⌝ }
+    ensures { λ r. ⌜ Reads (machine (now (line .entry)) fresh (contents (now (registers .entry)) (now (memory .entry)) (now (kernel .entry)) (now («register_taint» .entry)) (now («surface_taint» .entry)) (now («memory_taint» .entry))) (tables (now (types .entry)) (now (starts .entry)) (now (counts .entry)) (now («predicate_values» .entry)) (now («surface_bytes» .entry)) (now («surface_lengths» .entry)))) (machine (now (line .exit)) (r .state) (contents (now (registers .exit)) (now (memory .exit)) (now (kernel .exit)) (now («register_taint» .exit)) (now («surface_taint» .exit)) (now («memory_taint» .exit))) (tables (now (types .exit)) (now (starts .exit)) (now (counts .exit)) (now («predicate_values» .exit)) (now («surface_bytes» .exit)) (now («surface_lengths» .exit)))) (r .ended) ⌝ }
 {
     let mut block = [0u8; 65536];
     let mut state = feeding::start();
     let mut turns = u64::MAX;
     while 0 < turns {
         turns -= 1;
-        let got = read_block(&mut block);
-        if got.count == 0 {
+        let got = libc::read(0, &mut block);
+        let bytes = bytes_of(got, &block);
+        if bytes.len() == 0 {
             return Input {
                 state,
-                ended: !got.failed,
+                ended: met_end(got),
             };
         }
         let next = feeding::feed(
-            &block[..got.count],
+            bytes,
             line,
             registers,
             memory,

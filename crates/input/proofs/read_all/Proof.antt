@@ -1,74 +1,106 @@
--- `input::read_all` meets its contract. The invariant: the machine is the first one, fed what was read so far.
+-- `input::read_all` meets its contract. The invariant: the machine is the first one, fed what the calls so far gave.
+use mathlib.Core.Path.{_≡_, sym, _∙_}
+use Prim.Native.Nat.{ℕ}
+use lib.ListN.{length, length-replicate}
+use mir.Syntax.{w64}
+use mir.Val.{toZ, ofZ}
+use Rattle.libc.specs.Io.{Moved}
 use Rattle.frames.specs.Reading.{contents, tables}
 use Rattle.feeding.specs.Feeding.{machine, fresh}
-use Rattle.input.proofs.ReadsLaws.{SoFar, none-read, more-read, turn-less}
+use Rattle.input.proofs.ReadsLaws.{SoFar, none-read, call-more, call-last, none-left, moved-after, turn-less}
 use Rattle.input.proofs.read_all.Statement.{statement}
 use Rattle.input.proofs.read_all.Tie as tie
 
 abbrev Inv-loop : tie.InvT-loop
-Inv-loop line₀ registers₀ memory₀ kernel₀ registerTaint₀ surfaceTaint₀ memoryTaint₀ types₀ starts₀ counts₀ predicateValues₀ surfaceBytes₀ surfaceLengths₀ block₀ state₀ turns₀ line registers memory kernel registerTaint surfaceTaint memoryTaint types starts counts predicateValues surfaceBytes surfaceLengths block state turns =
+Inv-loop line₀ registers₀ memory₀ kernel₀ register-taint₀ surface-taint₀ memory-taint₀ types₀ starts₀ counts₀ predicate-values₀ surface-bytes₀ surface-lengths₀ block₀ state₀ turns₀ line registers memory kernel register-taint surface-taint memory-taint types starts counts predicate-values surface-bytes surface-lengths block state turns =
     SoFar
-    (machine line₀ fresh (contents registers₀ memory₀ kernel₀ registerTaint₀ surfaceTaint₀ memoryTaint₀) (tables types₀ starts₀ counts₀ predicateValues₀ surfaceBytes₀ surfaceLengths₀))
-    (machine line state (contents registers memory kernel registerTaint surfaceTaint memoryTaint) (tables types starts counts predicateValues surfaceBytes surfaceLengths))
+    (machine line₀ fresh (contents registers₀ memory₀ kernel₀ register-taint₀ surface-taint₀ memory-taint₀) (tables types₀ starts₀ counts₀ predicate-values₀ surface-bytes₀ surface-lengths₀))
+    (machine line state (contents registers memory kernel register-taint surface-taint memory-taint) (tables types starts counts predicate-values surface-bytes surface-lengths))
+    × (length block ≡ 65536)
 
 abbrev μ-loop : tie.MeasureT-loop
-μ-loop line₀ registers₀ memory₀ kernel₀ registerTaint₀ surfaceTaint₀ memoryTaint₀ types₀ starts₀ counts₀ predicateValues₀ surfaceBytes₀ surfaceLengths₀ block₀ state₀ turns₀ line registers memory kernel registerTaint surfaceTaint memoryTaint types starts counts predicateValues surfaceBytes surfaceLengths block state turns = turns
+μ-loop line₀ registers₀ memory₀ kernel₀ register-taint₀ surface-taint₀ memory-taint₀ types₀ starts₀ counts₀ predicate-values₀ surface-bytes₀ surface-lengths₀ block₀ state₀ turns₀ line registers memory kernel register-taint surface-taint memory-taint types starts counts predicate-values surface-bytes surface-lengths block state turns =
+    turns
 
--- the turn's start, from the return for want of bytes
-abbrev empty : tie.After-struct-known2 Inv-loop μ-loop → tie.In-loop Inv-loop μ-loop
-empty c = c .before .before .before .before .before
+-- where a call's bytes are known, from the return for want of bytes
+abbrev stops : tie.After-met-end Inv-loop μ-loop → tie.After-bytes-of Inv-loop μ-loop
+stops c = c .before .before
 
--- where the block is fed, from the turn's end
+-- where they are fed, from the turn's end
 abbrev feeds : tie.After-slice-known26 Inv-loop μ-loop → tie.After-feed Inv-loop μ-loop
 feeds c = c .before .before .before .before .before .before .before .before .before .before .before .before .before .before .before .before .before .before .before .before .before .before .before .before .before .before
 
--- the turn's start, from there
-abbrev turn : tie.After-feed Inv-loop μ-loop → tie.In-loop Inv-loop μ-loop
-turn c = c .before .before .before .before .before .before .before .before .before .before .before .before .before .before .before .before .before .before .before
+-- where they are known, from there
+abbrev goes : tie.After-feed Inv-loop μ-loop → tie.After-bytes-of Inv-loop μ-loop
+goes c = c .before .before .before .before .before .before .before .before .before .before .before .before .before .before .before
+
+-- the call
+abbrev calls : tie.After-bytes-of Inv-loop μ-loop → tie.After-read Inv-loop μ-loop
+calls c = c .before .before .before
+
+-- the turn's start
+abbrev turn : tie.After-read Inv-loop μ-loop → tie.At-loop Inv-loop μ-loop
+turn c = c .before .before .before
+
+-- what the call answered and its block's length, as they are handed on
+abbrev moved : (c : tie.After-read Inv-loop μ-loop) → Moved (length (c .read .last .1 .0)) (toZ w64 (ofZ w64 (c .read .result)))
+moved c = moved-after (c .read .result) _ _ (c .read .ok) (c .read .kept .1 .0) (c .read .ensures)
+
+abbrev room : (c : tie.After-read Inv-loop μ-loop) → length (c .read .last .1 .0) ≡ 65536
+room c = c .read .kept .1 .0 ∙ turn c .loop .inv .1
 
 loop-holds : tie.Need-loop-holds Inv-loop μ-loop
-loop-holds c = none-read _ _ _ _ (c .start .ensures)
+loop-holds c = (none-read _ _ _ _ (c .start .ensures), length-replicate {A = ℕ} 65536 0)
+
+returns : tie.Need-returns Inv-loop μ-loop
+returns c =
+    call-last _ _ (turn (calls (stops c)) .loop .inv .0) _ _ _ (moved (calls (stops c))) (room (calls (stops c))) (stops c .bytes-of .ensures) _
+    (c .before .if1 .taken)
+    (c .met-end .ensures)
 
 loop-less : tie.Need-loop-less Inv-loop μ-loop
-loop-less c = turn-less _ (turn (feeds c) .loop-test .taken)
+loop-less c = turn-less _ (calls (goes (feeds c)) .before .before .loop-test .taken)
 
 loop-again : tie.Need-loop-again Inv-loop μ-loop
-loop-again c =
-    more-read _ _ _ _ (turn (feeds c) .before .loop .inv)
-    (feeds c .feed .ensures)
-    (feeds c .feed .kept .1 .0)
-    (feeds c .feed .kept .1 .1)
+loop-again c = (
+  call-more _ _ (turn (calls (goes (feeds c))) .loop .inv .0) _ _ _ (moved (calls (goes (feeds c)))) (room (calls (goes (feeds c)))) (goes (feeds c) .bytes-of .ensures) _
+      (feeds c .before .before .before .before .before .before .before .before .before .before .before .before .before .before .if1 .left)
+      (feeds c .feed .ensures)
+      (feeds c .feed .kept .1 .0)
+      (feeds c .feed .kept .1 .1),
+  room (calls (goes (feeds c))),
+)
 
 pub read-all-spec : {M : Type 1} → statement M
 read-all-spec =
     tie.close
-    (tie.spec Inv-loop μ-loop (λ c κs. tt) loop-holds (λ c. c .loop-test .taken) (λ c κs. tt)
-    (λ c. empty c .before .loop .inv .line)
-    (λ c. empty c .before .loop .inv .kept .registers)
-    (λ c. empty c .before .loop .inv .kept .memory)
-    (λ c. empty c .before .loop .inv .kept .kernel)
-    (λ c. empty c .before .loop .inv .kept .registerTaint)
-    (λ c. empty c .before .loop .inv .kept .surfaceTaint)
-    (λ c. empty c .before .loop .inv .kept .memoryTaint)
-    (λ c. empty c .before .loop .inv .kept .types)
-    (λ c. empty c .before .loop .inv .kept .starts)
-    (λ c. empty c .before .loop .inv .kept .counts)
-    (λ c. empty c .before .loop .inv .kept .predicates)
-    (λ c. empty c .before .loop .inv .kept .surfaces)
-    (λ c. empty c .before .loop .inv .kept .lengths)
-    (λ c. empty c .before .loop .inv .reads)
-    (λ c. c .before .before .read-block .ensures .0) (λ c. c .before .before .before .read-block .ensures .1) (λ c κs. tt) loop-less loop-again
-    (λ c. c .before .loop .inv .line)
-    (λ c. c .before .loop .inv .kept .registers)
-    (λ c. c .before .loop .inv .kept .memory)
-    (λ c. c .before .loop .inv .kept .kernel)
-    (λ c. c .before .loop .inv .kept .registerTaint)
-    (λ c. c .before .loop .inv .kept .surfaceTaint)
-    (λ c. c .before .loop .inv .kept .memoryTaint)
-    (λ c. c .before .loop .inv .kept .types)
-    (λ c. c .before .loop .inv .kept .starts)
-    (λ c. c .before .loop .inv .kept .counts)
-    (λ c. c .before .loop .inv .kept .predicates)
-    (λ c. c .before .loop .inv .kept .surfaces)
-    (λ c. c .before .loop .inv .kept .lengths)
-    (λ c. c .before .loop .inv .reads))
+    (tie.spec Inv-loop μ-loop (λ c κs. tt) loop-holds (λ c. c .loop-test .taken) (λ c. sym (c .before .before .loop .inv .1)) (λ c κs. tt)
+    (λ c. sym (room (c .before .before))) (λ c κs. moved (c .before .before)) (λ c κs. tt)
+    (λ c. turn (calls (stops c)) .loop .inv .0 .line)
+    (λ c. turn (calls (stops c)) .loop .inv .0 .kept .registers)
+    (λ c. turn (calls (stops c)) .loop .inv .0 .kept .memory)
+    (λ c. turn (calls (stops c)) .loop .inv .0 .kept .kernel)
+    (λ c. turn (calls (stops c)) .loop .inv .0 .kept .registerTaint)
+    (λ c. turn (calls (stops c)) .loop .inv .0 .kept .surfaceTaint)
+    (λ c. turn (calls (stops c)) .loop .inv .0 .kept .memoryTaint)
+    (λ c. turn (calls (stops c)) .loop .inv .0 .kept .types)
+    (λ c. turn (calls (stops c)) .loop .inv .0 .kept .starts)
+    (λ c. turn (calls (stops c)) .loop .inv .0 .kept .counts)
+    (λ c. turn (calls (stops c)) .loop .inv .0 .kept .predicates)
+    (λ c. turn (calls (stops c)) .loop .inv .0 .kept .surfaces)
+    (λ c. turn (calls (stops c)) .loop .inv .0 .kept .lengths)
+    returns (λ c κs. tt) loop-less loop-again
+    (λ c. c .before .loop .inv .0 .line)
+    (λ c. c .before .loop .inv .0 .kept .registers)
+    (λ c. c .before .loop .inv .0 .kept .memory)
+    (λ c. c .before .loop .inv .0 .kept .kernel)
+    (λ c. c .before .loop .inv .0 .kept .registerTaint)
+    (λ c. c .before .loop .inv .0 .kept .surfaceTaint)
+    (λ c. c .before .loop .inv .0 .kept .memoryTaint)
+    (λ c. c .before .loop .inv .0 .kept .types)
+    (λ c. c .before .loop .inv .0 .kept .starts)
+    (λ c. c .before .loop .inv .0 .kept .counts)
+    (λ c. c .before .loop .inv .0 .kept .predicates)
+    (λ c. c .before .loop .inv .0 .kept .surfaces)
+    (λ c. c .before .loop .inv .0 .kept .lengths)
+    (λ c. none-left _ _ (c .before .loop .inv .0)))

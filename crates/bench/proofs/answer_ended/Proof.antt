@@ -1,0 +1,14 @@
+-- `bench::answer_ended` meets its contract.
+use borrow.Author.Needs.{needs}
+use Rattle.bench.proofs.AnswersLaws.{unended-written, ended-written}
+use Rattle.bench.proofs.answer_ended.Statement.{statement}
+use Rattle.bench.proofs.answer_ended.Tie as tie
+
+returns : tie.Need-returns
+returns c = unended-written _ _ _ (c .if1 .taken)
+
+returns-2 : tie.Need-returns-2
+returns-2 c = ended-written _ _ _ _ _ (c .before .before .before .before .if1 .left) (c .before .before .answer .ensures)
+
+pub answer-ended-spec : {M : Type 1} → statement M
+answer-ended-spec = tie.close (tie.spec returns (λ c κs. search needs) (λ c. search needs) returns-2)
