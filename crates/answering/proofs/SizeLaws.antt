@@ -1,16 +1,18 @@
--- How long the output is at most: buffers are written only where 13 does not refuse their lengths.
+-- How long the output is: at least its 40 line, and buffers are written only where 13 does not refuse their lengths.
 use mathlib.Core.Path.{_≡_, refl, ap}
 use mathlib.Core.Bool.{Bool, true, false, cond}
+use mathlib.Core.List.{List, _++_}
 use Prim.Native.Nat.{ℕ, _≤_}
 use native.Mathlib.Omega.{arith}
 use lib.Dec.{ltb}
-use lib.ListN.{length}
+use lib.ListN.{length, length-append}
 use Rattle.tables.specs.declared.Lengths.{Lengths}
 use Rattle.tables.specs.Tables.{tablesGood}
 use Rattle.tables.proofs.Laws.{limited}
 use Rattle.frames.specs.Reading.{Reading}
 use Rattle.frames.specs.Verdicts.{verdictOf}
-use Rattle.output.specs.Output.{answerLine, bufferLines}
+use Rattle.feeding.specs.Text.{textRead}
+use Rattle.output.specs.Output.{answerLine, bufferLines, outputBytes}
 use Rattle.output.proofs.LengthLaws.{length-answer, length-buffers, length-output, length-13}
 use Rattle.step.specs.State.{Setup, State, lengthsOf}
 use Rattle.run.specs.Run.{run}
@@ -18,7 +20,7 @@ use Rattle.run.proofs.Whole.{tables-refused}
 use Rattle.run.proofs.Kept.{run-lengths}
 use Rattle.answering.specs.Setting.{setupOf, stateOf}
 use Rattle.answering.specs.Outcome.{outcomeOutput}
-use Rattle.answering.specs.Bench.{goodOutput, caseOutput}
+use Rattle.answering.specs.Bench.{goodOutput, caseOutput, unread, benchOutput}
 
 -- a line of 17 characters, one of 19 and three of 3, and two for each of 4 times 4,096 bytes
 outcome-size : (base : ℕ) (x : Setup) (s : State) → length (outcomeOutput base (run x s)) ≤ 32813
@@ -58,3 +60,19 @@ case-size r = told (ltb 0 (verdictOf (r .case) .number))
     told : (q : Bool) → length (cond q (answerLine (verdictOf (r .case) .number) 0 (verdictOf (r .case) .position)) (goodOutput r)) ≤ 32813
     told true = omega (arith, length-answer (verdictOf (r .case) .number) 0 (verdictOf (r .case) .position))
     told false = outcome-size (r .case .base) (setupOf (r .case) (r .contents .kernel) (r .tables)) (stateOf (r .case) (r .contents) (r .tables .surfaces))
+
+answer-first : (number completed position : ℕ) (rest : List ℕ) → 17 ≤ length (answerLine number completed position ++ rest)
+answer-first number completed position rest =
+    omega (arith, length-append (answerLine number completed position) rest, length-answer number completed position)
+
+case-some : (r : Reading) → 17 ≤ length (caseOutput r)
+unfolding caseOutput goodOutput outcomeOutput outputBytes
+case-some r = told (ltb 0 (verdictOf (r .case) .number))
+  where
+    told : (q : Bool) → 17 ≤ length (cond q (answerLine (verdictOf (r .case) .number) 0 (verdictOf (r .case) .position)) (goodOutput r))
+    told true = omega (arith, length-answer (verdictOf (r .case) .number) 0 (verdictOf (r .case) .position))
+    told false = answer-first _ _ _ _
+
+pub bench-some : (input : List ℕ) → 17 ≤ length (benchOutput input)
+unfolding benchOutput
+bench-some input = case-some (textRead 16386 input unread)

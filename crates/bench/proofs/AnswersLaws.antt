@@ -13,6 +13,7 @@ use Rattle.feeding.specs.Feeding.{Machine, fed, finished}
 use Rattle.output.specs.Page.{Page, page, written}
 use Rattle.answering.specs.Bench.{caseOutput}
 use Rattle.answering.proofs.BenchLaws.{begun, text-output, answer-whole, answer-count}
+use Rattle.case_file.proofs.Whole.{case-file-output}
 use Rattle.input.specs.Calls.{textOf, endedBy, Reads}
 use Rattle.bench.specs.Program.{endedOutput, programOutput, Answers}
 
@@ -45,7 +46,7 @@ unfolding endedOutput programOutput
 output-is line read done ended r l f =
     let m : done ≡ finished (fed (textOf (r .calls)) (begun line)) = f ∙ ap finished (r .text) in
     ap (λ (b : Bool). cond b (caseOutput (done .reading)) []) (r .end)
-    ∙ ap (λ (o : List ℕ). cond (endedBy (r .calls)) o []) (ap (λ (x : Machine). caseOutput (x .reading)) m ∙ text-output (textOf (r .calls)) line l)
+    ∙ ap (λ (o : List ℕ). cond (endedBy (r .calls)) o []) (ap (λ (x : Machine). caseOutput (x .reading)) m ∙ text-output (textOf (r .calls)) line l ∙ case-file-output (textOf (r .calls)))
 
 pub input-answered : (line : List ℕ) (read done : Machine) (ended : Bool) (out after : List ℕ) (used : ℕ) → length line ≡ 16386 → 32813 ≤ length out →
     Reads (begun line) read ended → done ≡ finished read → page after used ≡ written (endedOutput ended (done .reading)) (page out 0) → Counts used after × Answers (take used after)

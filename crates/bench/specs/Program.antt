@@ -4,16 +4,17 @@ use mathlib.Core.Bool.{Bool, cond}
 use mathlib.Core.List.{List, []}
 use Prim.Native.Nat.{ℕ}
 use Rattle.frames.specs.Reading.{Reading}
-use Rattle.answering.specs.Bench.{caseOutput, benchOutput}
+use Rattle.answering.specs.Bench.{caseOutput}
+use Rattle.case_file.specs.Output.{caseFileOutput}
 use Rattle.input.specs.Calls.{Call, Possible, textOf, endedBy}
 
 -- a case is answered only if its file was read to the input's end
 unfoldable pub endedOutput : Bool → Reading → List ℕ
 endedOutput ended r = cond ended (caseOutput r) []
 
--- the bench's output for the text that the calls gave, if they met the input's end; otherwise, as after a read that failed, nothing
+-- the case file's output, that of the text that the calls gave, if they met the input's end; otherwise, as after a read that failed, nothing
 unfoldable pub programOutput : List Call → List ℕ
-programOutput calls = cond (endedBy calls) (benchOutput (textOf calls)) []
+programOutput calls = cond (endedBy calls) (caseFileOutput (textOf calls)) []
 
 -- the bytes are what the program puts out after some calls
 pub record Answers (bytes : List ℕ) : Type 0 where
