@@ -1,12 +1,14 @@
--- Encoding, then decoding: where the bytes of an instruction stand of which no field is refused, decoding accepts it.
-use mathlib.Core.Path.{_≡_, ap, _∙_}
+-- Encoding, then decoding: where the bytes of an instruction stand, decoding accepts it if no field is refused, else refuses it by the first that is.
+use mathlib.Core.Path.{_≡_}
+use mathlib.Core.Logic.{_≢_}
 use mathlib.Core.List.{List, _++_}
 use Prim.Native.Nat.{ℕ, _+_}
 use lib.ListN.{length, drop}
 use Rattle.reader.specs.Reading.{cursor}
 use Rattle.fields.specs.declared.ByteRule.the-variants as byte
 use Rattle.fields.specs.declared.WordRule.the-variants as word
-use Rattle.fields.proofs.Laws.{Stands, There, byte-field-next, word-field-next}
+use Rattle.fields.proofs.Told.{LayoutTold, good-told}
+use Rattle.fields.proofs.ReadBack.{Stands, There, there-good, there-refused, byte-field-next, word-field-next}
 use Rattle.field_groups.proofs.There.{control-next, operand-next, operand-last, access-next, message-next, scalar-and-raws-last}
 use Rattle.decoder.specs.declared.Instruction.{Instruction}
 use Rattle.decoder.specs.declared.Instruction.the-variants as instruction
@@ -14,7 +16,7 @@ use Rattle.decoder.specs.declared.Decoded.the-variants as decoded
 use Rattle.decoder.specs.Decoding.{shlAt, gatherAt, scatterAt, svmAt, rawSendAt, instructionAt}
 use Rattle.decoder.specs.Format.{shlFields, gatherFields, scatterFields, rawSendFields, instructionFields, instructionBytes, instructionRefusal}
 
-instruction-there : {s : List ℕ} {at : ℕ} {t : List ℕ} (i : Instruction) → Stands s at (instructionFields i) t → There (instructionAt s at) (λ c. decoded.Accepted i c) s at (instructionFields i) t
+instruction-there : {s : List ℕ} {at : ℕ} {t : List ℕ} (i : Instruction) → Stands s at (instructionFields i) t → There (instructionAt s at) decoded.Refused (λ c. decoded.Accepted i c) at (instructionFields i)
 unfolding instructionAt shlAt gatherAt svmAt scatterAt rawSendAt instructionFields shlFields gatherFields scatterFields rawSendFields
 instruction-there (instruction.Shl x) h =
     byte-field-next _ _ byte.Free 0x24 h (λ c₁ h₁.
@@ -43,6 +45,8 @@ instruction-there (instruction.RawSend x) h =
 
 pub encode-decode : (s : List ℕ) (at : ℕ) (i : Instruction) (t : List ℕ) → instructionRefusal i ≡ 0 → drop at s ≡ instructionBytes i ++ t → instructionAt s at ≡ decoded.Accepted i (cursor (at + length (instructionBytes i)))
 unfolding instructionBytes instructionRefusal
-encode-decode s at i t g e =
-    let a = instruction-there i (record { good = g; bytes = e }) in
-    a .is ∙ ap (λ (n : ℕ). decoded.Accepted i (cursor n)) (a .end)
+encode-decode s at i t g e = there-good (instruction-there i (record { told = good-told (instructionFields i) g; bytes = e })) g
+
+pub refuse-decode : (s : List ℕ) (at : ℕ) (i : Instruction) (t : List ℕ) → LayoutTold (instructionFields i) → instructionRefusal i ≢ 0 → drop at s ≡ instructionBytes i ++ t → instructionAt s at ≡ decoded.Refused (instructionRefusal i)
+unfolding instructionBytes instructionRefusal
+refuse-decode s at i t told b e = there-refused (instruction-there i (record { told = told; bytes = e })) b

@@ -8,7 +8,7 @@ use Rattle.fields.specs.declared.ByteRule.the-variants as byte
 use Rattle.fields.specs.declared.Field.{Field}
 use Rattle.fields.specs.declared.Field.the-variants.{Byte}
 use Rattle.fields.specs.Layout.{layoutRefusal}
-use Rattle.fields.proofs.Laws.{good-append}
+use Rattle.fields.proofs.FirstRefusal.{good-append}
 use Rattle.fields.proofs.ScatterExec.{EightOrSixteen, scatter-exec}
 use Rattle.field_groups.specs.Layout.{controlFields}
 use Rattle.field_groups.proofs.LayoutLaws.{control-fields}

@@ -27,7 +27,7 @@ module _ (i : Instruction) (d : Draft) (e : d ≡ withFields (instructionFields 
       let fits : length (instructionBytes i) ≤ 64 = omega (arith, instruction-at-most i) in
       rw (e, instruction-bytes i, instruction-refusal i) (drafted-holds (instructionFields i) (rw instruction-bytes at fits))
 
-  pub in-room : d .length ≤ length (d .bytes)
+  pub in-room : d .length < length (d .bytes)
   in-room = omega (arith, whole .count, whole .room, instruction-at-most i)
 
   module _ (l : List ℕ) where

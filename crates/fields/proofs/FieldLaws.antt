@@ -18,7 +18,8 @@ use Rattle.fields.specs.declared.Field.{Field}
 use Rattle.fields.specs.declared.Field.the-variants.{Byte, Word, Dword, Lacking}
 use Rattle.fields.specs.Rules.{judged, tagRefusal, byteRefusal, wordRefusal}
 use Rattle.fields.specs.Layout.{fieldBytes, fieldRefusal, layoutBytes, layoutRefusal}
-use Rattle.fields.proofs.Laws.{layout-append, good-append, lacking-zero}
+use Rattle.fields.proofs.FirstRefusal.{good-append, lacking-zero}
+use Rattle.fields.proofs.Laws.{layout-append}
 
 -- ---- one field
 

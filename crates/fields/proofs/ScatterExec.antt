@@ -12,7 +12,7 @@ use Rattle.fields.specs.declared.Field.{Field}
 use Rattle.fields.specs.declared.Field.the-variants.{Byte}
 use Rattle.fields.specs.Rules.{judged, scatterExecGood, byteRefusal}
 use Rattle.fields.specs.Layout.{fieldRefusal, layoutRefusal}
-use Rattle.fields.proofs.Laws.{good-append, good-one}
+use Rattle.fields.proofs.FirstRefusal.{good-append, good-one}
 
 -- "scatter 8 and 16 only": the codes of bits 0-2
 abbrev pub EightOrSixteen : ℕ → Type 0

@@ -6,7 +6,7 @@ use Rattle.encoder.proofs.encode.Statement.{statement}
 use Rattle.encoder.proofs.encode.Tie as tie
 
 copy-requires : tie.Need-copy-requires
-copy-requires c κs = (in-room _ _ (c .before .before .before .before .drafted .ensures), omega (arith, c .before .if2 .left))
+copy-requires c κs = (omega (arith, in-room _ _ (c .before .before .before .before .drafted .ensures)), omega (arith, c .before .if2 .left))
 
 returns : tie.Need-returns
 returns c = too-short _ _ (c .before .before .before .drafted .ensures) _ (c .before .if1 .taken) (omega (arith, c .if2 .taken))
