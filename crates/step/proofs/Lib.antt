@@ -2,7 +2,6 @@ pub mod StepOf
 pub mod Unwritten
 pub mod AcceptedLaws
 pub mod FitsLaws
-pub mod GuardLaws
 pub mod PerformLaws
 pub mod StepLaws
 pub mod Forward

@@ -1,5 +1,4 @@
 pub mod State
 pub mod Step
 pub mod Fits
-pub mod Guarded
 pub mod Performed
