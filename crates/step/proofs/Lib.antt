@@ -6,6 +6,7 @@ pub mod PerformLaws
 pub mod StepLaws
 pub mod Forward
 pub mod Kept
+pub mod FirstFailing
 pub mod Results
 pub mod SameStep
 pub mod Untainted
