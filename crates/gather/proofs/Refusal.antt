@@ -14,3 +14,7 @@ gather-writes p lanes b f = done-writes _ refl
 pub gather-spares-memory : (p : Plan) (lanes : List ℕ) (b f : Buffer) → gatherEffect p lanes b f .memory ≡ []
 unfolding gatherEffect
 gather-spares-memory p lanes b f = refl
+
+pub gather-number : (p : Plan) (lanes : List ℕ) (b f : Buffer) → gatherEffect p lanes b f .number ≡ 0
+unfolding gatherEffect
+gather-number p lanes b f = refl

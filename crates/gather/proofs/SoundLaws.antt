@@ -1,19 +1,23 @@
 -- What `check` promises of a gather's plan is what the guard asks.
-use Prim.Native.Nat.{ℕ, _≤_}
+use Prim.Native.Nat.{_≤_}
 use mathlib.Core.Path.{_≡_}
 use mathlib.Core.Bool.{true}
 use native.Mathlib.Omega.{arith}
 use Rattle.channels.specs.Exec.{execSize}
+use Rattle.field_groups.specs.declared.Control.{Control}
+use Rattle.operands.specs.declared.TypeRule.the-variants as rule
 use Rattle.plan.specs.declared.Plan.{Plan}
-use Rattle.plan.proofs.PlanLaws.{GatherSound}
+use Rattle.plan.specs.declared.Operation.the-variants as operation
+use Rattle.plan.proofs.InstructionLaws.{Keeps}
 use Rattle.staging.proofs.FitLaws.{elements-fit}
 use Rattle.gather.specs.Guarded.{gatherFits}
 
-pub sound-fits : (registers surfaces : ℕ) (p : Plan) → execSize (p .control .exec) ≤ 32 → GatherSound registers surfaces p → gatherFits p ≡ true
+pub sound-fits : (p : Plan) (c : Control) → Keeps operation.Gather c rule.Offset rule.Dword p → gatherFits p ≡ true
 unfolding gatherFits
-sound-fits registers surfaces p few s =
+sound-fits p c k =
     let lanes = execSize (p .control .exec) in
+    let few : lanes ≤ 32 = rw (k .control) (k .lanes) in
     rw (
-      elements-fit 4 (p .left) lanes few (omega (arith, s .left .size)) (omega arith),
-      elements-fit 4 (p .right) lanes few (omega (arith, s .right .size)) (omega arith),
+      elements-fit 4 (p .left) lanes few (omega (arith, k .left)) (omega arith),
+      elements-fit 4 (p .right) lanes few (omega (arith, k .right)) (omega arith),
     )

@@ -1,4 +1,5 @@
 pub mod Bounds
 pub mod AllowedLaws
+pub mod SizeLaws
 pub mod LocatedLaws
 pub mod Worked

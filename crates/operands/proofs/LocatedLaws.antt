@@ -1,10 +1,10 @@
 -- What is known of an accepted operand: its elements lie in the register file, a raw operand's one after the other, a destination's apart.
 use mathlib.Core.Path.{_≡_, refl, _∙_}
-use mathlib.Core.Bool.{true, false, not, true≢false}
-use Prim.Native.Nat.{ℕ, _+_, _*_, _%_, _^_, _≤_, _<_}
+use mathlib.Core.Bool.{false, not, true≢false}
+use Prim.Native.Nat.{ℕ, _+_, _*_, _%_, _≤_, _<_}
 use native.Mathlib.Omega.{arith}
-use native.Mathlib.Nat.{mul-le-mul-right, mod-lt, one-le-pow}
-use lib.Dec.{ltb, leb, eqb, lit<}
+use native.Mathlib.Nat.{mul-le-mul-right}
+use lib.Dec.{ltb, leb, eqb}
 use lib.ListN.{length, getD}
 use borrow.Author.Tests.{ltb-true, leb-true, not-false}
 use Rattle.types.specs.Types.{sizeOf}
@@ -30,20 +30,23 @@ use Rattle.operands.specs.declared.Elements.{Elements}
 use Rattle.operands.specs.declared.Located.{Located}
 use Rattle.operands.specs.Allowed.{typeAllowed}
 use Rattle.operands.specs.Variables.{Variables, inTable, variableAt}
-use Rattle.operands.specs.Elements.{registerElements, lowBytes, immediateElement, refusal}
+use Rattle.operands.specs.Elements.{registerElements, immediateElement, refusal}
 use Rattle.operands.specs.Operands.{generalOf, generalAt, immediateOf, immediateAt, vectorAt, rawGood, rawOf, rawAt}
 use Rattle.operands.proofs.AllowedLaws.{RuleSize, rule-size}
+use Rattle.operands.proofs.SizeLaws.{vector-sized, raw-sized}
 
 -- every variable of the table lies in a register file of this length, as good tables say
 abbrev pub AllPlaced : ℕ → Variables → Type 0
 AllPlaced registers t =
     (k : ℕ) → k < length (t .types) → Placed registers (getD (t .types) k 0) (getD (t .starts) k 0) (getD (t .counts) k 0)
 
--- the elements of so many lanes
+-- the elements of so many lanes lie in the register file
+abbrev pub Inside : ℕ → ℕ → Elements → Type 0
+Inside registers lanes e = e .immediate ≡ false → (k : ℕ) → k < lanes → getD (e .at) k 0 + e .size ≤ registers
+
 pub record Accepted (registers lanes : ℕ) (r : TypeRule) (e : Elements) : Type 0 where
   pub size : RuleSize r (e .size)
-  pub value : e .value < 256 ^ e .size
-  pub inside : e .immediate ≡ false → (k : ℕ) → k < lanes → getD (e .at) k 0 + e .size ≤ registers
+  pub inside : Inside registers lanes e
 
 -- elements one after the other, of which the first is followed by so many bytes
 pub record Consecutive (registers bytes : ℕ) (e : Elements) : Type 0 where
@@ -56,9 +59,6 @@ pub record Apart (e : Elements) : Type 0 where
   pub in-registers : e .immediate ≡ false
   pub each : (j k : ℕ) → j < k → k < 32 → getD (e .at) j 0 + e .size ≤ getD (e .at) k 0
 
-some-power : (size : ℕ) → 0 < 256 ^ size
-some-power size = one-le-pow size 256 (lit< tt)
-
 -- an element inside its variable lies in the file
 element-inside : (registers code start count element : ℕ) → Placed registers code start count → element < count → start + element * sizeOf code + sizeOf code ≤ registers
 element-inside registers code start count element p h =
@@ -66,55 +66,47 @@ element-inside registers code start count element p h =
     omega (arith, p .inside, mul-le-mul-right (sizeOf code) m)
 
 module _ (registers : ℕ) where
-  register-accepted : (lanes : ℕ) (r : TypeRule) (code : ℕ) (byte : ℕ → ℕ) → lanes ≤ 32 → typeAllowed r code ≡ true
-      → ((k : ℕ) → k < lanes → byte k + sizeOf code ≤ registers) → Accepted registers lanes r (registerElements code byte .elements)
+  register-inside : (lanes code : ℕ) (byte : ℕ → ℕ) → lanes ≤ 32 → ((k : ℕ) → k < lanes → byte k + sizeOf code ≤ registers)
+      → Inside registers lanes (registerElements code byte .elements)
   unfolding registerElements
-  register-accepted lanes r code byte few allowed h =
-      record {
-        size = rule-size code r allowed;
-        value = some-power (sizeOf code);
-        inside = λ _ k l. rw (position-of byte k (omega arith)) (h k l);
-      }
+  register-inside lanes code byte few h = λ _ k l. rw (position-of byte k (omega arith)) (h k l)
 
   -- a refusal has another number than 0
-  abbrev Fine : ℕ → TypeRule → Located → Type 0
-  Fine lanes r l = l .number ≡ 0 → Accepted registers lanes r (l .elements)
+  abbrev Fine : ℕ → Located → Type 0
+  Fine lanes l = l .number ≡ 0 → Inside registers lanes (l .elements)
 
   general-fine : (o : Role) (r : TypeRule) (lanes : ℕ) (g : General) (v : Variable) → lanes ≤ 32 → Placed registers (v .code) (v .start) (v .count)
-      → Fine lanes r (generalOf o r lanes g v)
+      → Fine lanes (generalOf o r lanes g v)
   unfolding generalOf refusal
   general-fine o r lanes g v few p =
       let f = elementOf o g (sizeOf (v .code)) in
-      cond-either (Fine lanes r) (not (typeAllowed r (v .code))) (λ _ z. absurd (omega (arith, z)))
-      (λ a. cond-either (Fine lanes r) (not (regionGood o (g .region) lanes)) (λ _ z. absurd (omega (arith, z)))
-      (λ _. cond-either (Fine lanes r) (not (elementsGood v f lanes)) (λ _ z. absurd (omega (arith, z)))
-      (λ e _. register-accepted lanes r (v .code) (elementByte (v .start) (sizeOf (v .code)) f) few (not-false _ a)
+      cond-either (Fine lanes) (not (typeAllowed r (v .code))) (λ _ z. absurd (omega (arith, z)))
+      (λ _. cond-either (Fine lanes) (not (regionGood o (g .region) lanes)) (λ _ z. absurd (omega (arith, z)))
+      (λ _. cond-either (Fine lanes) (not (elementsGood v f lanes)) (λ _ z. absurd (omega (arith, z)))
+      (λ e _. register-inside lanes (v .code) (elementByte (v .start) (sizeOf (v .code)) f) few
       (λ k l. rw (byte-of (v .start) (sizeOf (v .code)) f k) (element-inside registers (v .code) (v .start) (v .count) (f k) p (elements-inside v f lanes (not-false _ e) k l))))))
 
-  immediate-fine : (lanes : ℕ) (r : TypeRule) (i : Immediate) → Fine lanes r (immediateOf r i)
-  unfolding immediateOf immediateElement refusal lowBytes
+  -- an immediate has no place in the registers
+  immediate-fine : (lanes : ℕ) (r : TypeRule) (i : Immediate) → Fine lanes (immediateOf r i)
+  unfolding immediateOf immediateElement refusal
   immediate-fine lanes r i =
-      cond-either (Fine lanes r) (not (typeAllowed r (i .code))) (λ _ z. absurd (omega (arith, z)))
-      (λ a _. record {
-        size = rule-size (i .code) r (not-false _ a);
-        value = mod-lt _ (some-power (sizeOf (i .code)));
-        inside = λ e. absurd (true≢false e);
-      })
+      cond-either (Fine lanes) (not (typeAllowed r (i .code))) (λ _ z. absurd (omega (arith, z)))
+      (λ _ _ e. absurd (true≢false e))
 
-  immediate-in-fine : (o : Role) (lanes : ℕ) (r : TypeRule) (i : Immediate) → Fine lanes r (immediateAt o r i)
+  immediate-in-fine : (o : Role) (lanes : ℕ) (r : TypeRule) (i : Immediate) → Fine lanes (immediateAt o r i)
   unfolding immediateAt refusal
   immediate-in-fine role.Source lanes r i = immediate-fine lanes r i
   immediate-in-fine role.Scalar lanes r i = immediate-fine lanes r i
   immediate-in-fine role.Destination lanes r i = λ z. absurd (omega (arith, z))
 
   raw-fine : (r : TypeRule) (lanes bytes offset : ℕ) (v : Variable) → lanes ≤ 32 → ((size : ℕ) → RuleSize r size → lanes * size ≤ bytes)
-      → Placed registers (v .code) (v .start) (v .count) → Fine lanes r (rawOf r bytes offset v)
+      → Placed registers (v .code) (v .start) (v .count) → Fine lanes (rawOf r bytes offset v)
   unfolding rawOf refusal rawGood
   raw-fine r lanes bytes offset v few room p =
       let size = sizeOf (v .code) in
-      cond-either (Fine lanes r) (not (typeAllowed r (v .code))) (λ _ z. absurd (omega (arith, z)))
-      (λ a. cond-either (Fine lanes r) (not (rawGood v offset bytes)) (λ _ z. absurd (omega (arith, z)))
-      (λ e _. register-accepted lanes r (v .code) (elementByte (v .start + offset) size (λ k. k)) few (not-false _ a)
+      cond-either (Fine lanes) (not (typeAllowed r (v .code))) (λ _ z. absurd (omega (arith, z)))
+      (λ a. cond-either (Fine lanes) (not (rawGood v offset bytes)) (λ _ z. absurd (omega (arith, z)))
+      (λ e _. register-inside lanes (v .code) (elementByte (v .start + offset) size (λ k. k)) few
       (λ k l.
       let m : k + 1 ≤ lanes = omega arith in
       omega (
@@ -142,19 +134,27 @@ module _ (registers : ℕ) where
       }))
 
   module _ (t : Variables) (all : AllPlaced registers t) where
-    pub vector-accepted : (o : Role) (r : TypeRule) (exec : ℕ) (x : Operand) → execSize exec ≤ 32 → Fine (execSize exec) r (vectorAt t o r exec x)
+    vector-fine : (o : Role) (r : TypeRule) (exec : ℕ) (x : Operand) → execSize exec ≤ 32 → Fine (execSize exec) (vectorAt t o r exec x)
     unfolding vectorAt generalAt inTable variableAt refusal
-    vector-accepted o r exec (operand.General g) few =
-        cond-either (Fine (execSize exec) r) (not (ltb (g .index) (length (t .types)))) (λ _ z. absurd (omega (arith, z)))
+    vector-fine o r exec (operand.General g) few =
+        cond-either (Fine (execSize exec)) (not (ltb (g .index) (length (t .types)))) (λ _ z. absurd (omega (arith, z)))
         (λ e. general-fine o r (execSize exec) g (variableAt t (g .index)) few (all (g .index) (ltb-true _ _ (not-false _ e))))
-    vector-accepted o r exec (operand.Immediate i) few = immediate-in-fine o (execSize exec) r i
+    vector-fine o r exec (operand.Immediate i) few = immediate-in-fine o (execSize exec) r i
+
+    pub vector-accepted : (o : Role) (r : TypeRule) (exec : ℕ) (x : Operand) → execSize exec ≤ 32 → vectorAt t o r exec x .number ≡ 0
+        → Accepted registers (execSize exec) r (vectorAt t o r exec x .elements)
+    vector-accepted o r exec x few z = record { size = vector-sized r t o exec x z; inside = vector-fine o r exec x few z }
+
+    raw-in-fine : (r : TypeRule) (lanes bytes : ℕ) (x : Raw) → lanes ≤ 32 → ((size : ℕ) → RuleSize r size → lanes * size ≤ bytes)
+        → Fine lanes (rawAt t r bytes x)
+    unfolding rawAt inTable variableAt refusal
+    raw-in-fine r lanes bytes x few room =
+        cond-either (Fine lanes) (not (ltb (x .index) (length (t .types)))) (λ _ z. absurd (omega (arith, z)))
+        (λ e. raw-fine r lanes bytes (x .offset) (variableAt t (x .index)) few room (all (x .index) (ltb-true _ _ (not-false _ e))))
 
     pub raw-accepted : (r : TypeRule) (lanes bytes : ℕ) (x : Raw) → lanes ≤ 32 → ((size : ℕ) → RuleSize r size → lanes * size ≤ bytes)
-        → Fine lanes r (rawAt t r bytes x)
-    unfolding rawAt inTable variableAt refusal
-    raw-accepted r lanes bytes x few room =
-        cond-either (Fine lanes r) (not (ltb (x .index) (length (t .types)))) (λ _ z. absurd (omega (arith, z)))
-        (λ e. raw-fine r lanes bytes (x .offset) (variableAt t (x .index)) few room (all (x .index) (ltb-true _ _ (not-false _ e))))
+        → rawAt t r bytes x .number ≡ 0 → Accepted registers lanes r (rawAt t r bytes x .elements)
+    raw-accepted r lanes bytes x few room z = record { size = raw-sized r t bytes x z; inside = raw-in-fine r lanes bytes x few room z }
 
     pub raw-whole : (r : TypeRule) (bytes : ℕ) (x : Raw) → rawAt t r bytes x .number ≡ 0 → Consecutive registers bytes (rawAt t r bytes x .elements)
     unfolding rawAt inTable variableAt refusal

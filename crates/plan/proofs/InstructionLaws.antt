@@ -1,10 +1,13 @@
--- An accepted plan is its instruction's: it has that operation, and that exec byte and pred word.
+-- An accepted plan is its instruction's, whatever the tables hold: it has that operation, exec byte and pred word, at most 32 lanes, and elements
+-- of sizes that its operation takes.
 use mathlib.Core.Path.{_≡_, refl}
-use Prim.Native.Nat.{ℕ}
+use Prim.Native.Nat.{ℕ, _≤_}
 use mathlib.Core.Bool.{not}
 use native.Mathlib.Omega.{arith}
 use lib.Dec.{ltb}
 use lib.ListN.{length}
+use Rattle.types.specs.Types.{UD, UQ}
+use Rattle.channels.specs.Exec.{execSize}
 use Rattle.tables.specs.Tables.{Tables}
 use Rattle.field_groups.specs.declared.Control.{Control}
 use Rattle.decoder.specs.declared.Shl.{Shl}
@@ -13,59 +16,100 @@ use Rattle.decoder.specs.declared.Scatter.{Scatter}
 use Rattle.decoder.specs.declared.RawSend.{RawSend}
 use Rattle.decoder.specs.declared.Instruction.{Instruction}
 use Rattle.decoder.specs.declared.Instruction.the-variants as instruction
-use Rattle.operands.specs.Variables.{Variables}
+use Rattle.regions.specs.declared.Role.the-variants as role
 use Rattle.regions.proofs.ReachLaws.{cond-either}
+use Rattle.operands.specs.declared.TypeRule.{TypeRule}
+use Rattle.operands.specs.declared.TypeRule.the-variants as rule
+use Rattle.operands.specs.Variables.{Variables}
+use Rattle.operands.proofs.AllowedLaws.{RuleSize}
+use Rattle.operands.proofs.SizeLaws.{vector-sized, raw-sized}
 use Rattle.plan.specs.declared.Operation.{Operation}
 use Rattle.plan.specs.declared.Operation.the-variants as operation
 use Rattle.plan.specs.declared.Part.{Part}
 use Rattle.plan.specs.declared.Plan.{Plan}
+use Rattle.plan.specs.Control.{controlOf, controlRefusal}
+use Rattle.plan.specs.Needed.{elementsNeeded, scatterNeeded}
 use Rattle.plan.specs.Plans.{tested, shlPlan, gatherPlan, scatterPlan}
-use Rattle.plan.specs.Checked.{checkedShl, checkedGather, surfacePart, checkedSurface, checkedScatter, checkedSend, checkedOperands, checked}
-use Rattle.plan.proofs.TestLaws.{refusal-number, accepted-then}
+use Rattle.plan.specs.Checked.{shlDst, shlSrc0, shlSrc1, checkedShl, gatherOffset, gatherElementOffset, gatherDst, checkedGather, surfacePart, checkedSurface, scatterAddress, scatterElementOffset, scatterSrc, checkedScatter, checkedSend, checkedOperands, checked}
+use Rattle.plan.proofs.TestLaws.{refusal-number, accepted-then, lanes-fit}
 
-pub record Keeps (o : Operation) (c : Control) (p : Plan) : Type 0 where
+-- an operation, its control, and the types of its two sources and of its payload
+pub record Keeps (o : Operation) (c : Control) (sources payloads : TypeRule) (p : Plan) : Type 0 where
   pub operation : p .operation ≡ o
   pub control : p .control ≡ c
+  pub lanes : execSize (c .exec) ≤ 32
+  pub left : RuleSize sources (p .left .size)
+  pub right : RuleSize sources (p .right .size)
+  pub payload : RuleSize payloads (p .payload .size)
 
 -- no RAW_SEND is accepted
 abbrev pub KeepsFor : Instruction → Plan → Type 0
-KeepsFor (instruction.Shl i) = Keeps operation.Shl (i .control)
-KeepsFor (instruction.Gather i) = Keeps operation.Gather (i .control)
-KeepsFor (instruction.Scatter i) = Keeps operation.Scatter (i .control)
+KeepsFor (instruction.Shl i) = Keeps operation.Shl (i .control) rule.Shift rule.Shift
+KeepsFor (instruction.Gather i) = Keeps operation.Gather (i .control) rule.Offset rule.Dword
+KeepsFor (instruction.Scatter i) = Keeps operation.Scatter (i .control) rule.Address rule.Dword
 KeepsFor (instruction.RawSend i) = λ _. ⊥
 
 -- past the tests of three operands
-past-three : (P : Plan → Type 0) (a b c : ℕ) (next : Plan) → (next .number ≡ 0 → P next) → tested a (tested b (tested c next)) .number ≡ 0 → P (tested a (tested b (tested c next)))
-past-three P a b c next h = accepted-then P a _ (λ _. accepted-then P b _ (λ _. accepted-then P c next (λ _. h)))
+past-three : (P : Plan → Type 0) (a b c : ℕ) (next : Plan) → (a ≡ 0 → b ≡ 0 → c ≡ 0 → next .number ≡ 0 → P next) → tested a (tested b (tested c next)) .number ≡ 0 → P (tested a (tested b (tested c next)))
+past-three P a b c next h = accepted-then P a _ (λ x. accepted-then P b _ (λ y. accepted-then P c next (h x y)))
 
 module _ (t : Variables) (bits : ℕ) where
-  shl-keeps : (i : Shl) → checkedShl t bits i .number ≡ 0 → KeepsFor (instruction.Shl i) (checkedShl t bits i)
-  unfolding checkedShl shlPlan
-  shl-keeps i = past-three (KeepsFor (instruction.Shl i)) _ _ _ _ (λ _. record { operation = refl; control = refl })
+  shl-keeps : (i : Shl) → execSize (i .control .exec) ≤ 32 → checkedShl t bits i .number ≡ 0 → KeepsFor (instruction.Shl i) (checkedShl t bits i)
+  unfolding checkedShl shlDst shlSrc0 shlSrc1 shlPlan
+  shl-keeps i few =
+      past-three (KeepsFor (instruction.Shl i)) (shlDst t i .number) (shlSrc0 t i .number) (shlSrc1 t i .number) _ (λ dst src0 src1 _.
+      record {
+        operation = refl;
+        control = refl;
+        lanes = few;
+        left = vector-sized rule.Shift t role.Source (i .control .exec) (i .source) src0;
+        right = vector-sized rule.Shift t role.Source (i .control .exec) (i .count) src1;
+        payload = vector-sized rule.Shift t role.Destination (i .control .exec) (i .destination) dst;
+      })
 
-  gather-keeps : (part : Part) (i : Gather) → checkedGather t bits part i .number ≡ 0 → KeepsFor (instruction.Gather i) (checkedGather t bits part i)
-  unfolding checkedGather gatherPlan
-  gather-keeps part i = past-three (KeepsFor (instruction.Gather i)) _ _ _ _ (λ _. record { operation = refl; control = refl })
+  gather-keeps : (part : Part) (i : Gather) → execSize (i .control .exec) ≤ 32 → checkedGather t bits part i .number ≡ 0 → KeepsFor (instruction.Gather i) (checkedGather t bits part i)
+  unfolding checkedGather gatherOffset gatherElementOffset gatherDst gatherPlan
+  gather-keeps part i few =
+      past-three (KeepsFor (instruction.Gather i)) (gatherOffset t i .number) (gatherElementOffset t i .number) (gatherDst t i .number) _ (λ offset element dst _.
+      record {
+        operation = refl;
+        control = refl;
+        lanes = few;
+        left = vector-sized rule.Offset t role.Scalar (i .control .exec) (i .offset) offset;
+        right = raw-sized rule.Offset t (elementsNeeded (i .control .exec) UD) (i .«element_offset») element;
+        payload = raw-sized rule.Dword t (elementsNeeded (i .control .exec) UD) (i .destination) dst;
+      })
 
-  scatter-keeps : (i : Scatter) → checkedScatter t bits i .number ≡ 0 → KeepsFor (instruction.Scatter i) (checkedScatter t bits i)
-  unfolding checkedScatter scatterPlan
-  scatter-keeps i = past-three (KeepsFor (instruction.Scatter i)) _ _ _ _ (λ _. record { operation = refl; control = refl })
+  scatter-keeps : (i : Scatter) → execSize (i .control .exec) ≤ 32 → checkedScatter t bits i .number ≡ 0 → KeepsFor (instruction.Scatter i) (checkedScatter t bits i)
+  unfolding checkedScatter scatterAddress scatterElementOffset scatterSrc scatterPlan
+  scatter-keeps i few =
+      past-three (KeepsFor (instruction.Scatter i)) (scatterAddress t i .number) (scatterElementOffset t i .number) (scatterSrc t i .number) _ (λ address element src _.
+      record {
+        operation = refl;
+        control = refl;
+        lanes = few;
+        left = vector-sized rule.Address t role.Scalar (i .control .exec) (i .address) address;
+        right = raw-sized rule.Address t (elementsNeeded (i .control .exec) UQ) (i .«element_offset») element;
+        payload = raw-sized rule.Dword t (scatterNeeded (i .control .exec) (i .channels)) (i .source) src;
+      })
 
   send-keeps : (i : RawSend) → checkedSend t i .number ≡ 0 → KeepsFor (instruction.RawSend i) (checkedSend t i)
   unfolding checkedSend
-  send-keeps i = past-three (KeepsFor (instruction.RawSend i)) _ _ _ _ (λ z. absurd (omega (arith, refusal-number 9, z)))
+  send-keeps i = past-three (KeepsFor (instruction.RawSend i)) _ _ _ _ (λ _ _ _ z. absurd (omega (arith, refusal-number 9, z)))
 
 module _ (t : Tables) where
-  operands-keep : (bits : ℕ) (i : Instruction) → checkedOperands t bits i .number ≡ 0 → KeepsFor i (checkedOperands t bits i)
-  unfolding checkedOperands checkedSurface
-  operands-keep bits (instruction.Shl i) = shl-keeps _ bits i
-  operands-keep bits (instruction.Gather i) =
+  operands-keep : (bits : ℕ) (i : Instruction) → execSize (controlOf i .exec) ≤ 32 → checkedOperands t bits i .number ≡ 0 → KeepsFor i (checkedOperands t bits i)
+  unfolding checkedOperands checkedSurface controlOf
+  operands-keep bits (instruction.Shl i) few = shl-keeps _ bits i few
+  operands-keep bits (instruction.Gather i) few =
       cond-either (λ (p : Plan). p .number ≡ 0 → KeepsFor (instruction.Gather i) p) (not (ltb (i .access .surface) (length (t .surfaces))))
       (λ _ z. absurd (omega (arith, refusal-number 5, z)))
-      (λ _. gather-keeps _ bits (surfacePart (t .surfaces) (i .access .surface)) i)
-  operands-keep bits (instruction.Scatter i) = scatter-keeps _ bits i
-  operands-keep bits (instruction.RawSend i) = send-keeps _ bits i
+      (λ _. gather-keeps _ bits (surfacePart (t .surfaces) (i .access .surface)) i few)
+  operands-keep bits (instruction.Scatter i) few = scatter-keeps _ bits i few
+  operands-keep bits (instruction.RawSend i) few = send-keeps _ bits i
 
   pub plan-keeps : (i : Instruction) → checked t i .number ≡ 0 → KeepsFor i (checked t i)
   unfolding checked
-  plan-keeps i = accepted-then (KeepsFor i) _ _ (λ _. operands-keep _ i)
+  plan-keeps i =
+      accepted-then (KeepsFor i) (controlRefusal (t .predicates) (controlOf i)) _
+      (λ e. operands-keep _ i (omega (arith, lanes-fit (t .predicates) (controlOf i) e)))

@@ -5,6 +5,7 @@ use mathlib.Core.List.{List}
 use Prim.Native.Nat.{ℕ, zero, suc, _≤_}
 use native.Mathlib.Omega.{arith}
 use lib.ListN.{length, take, replicate, length-replicate}
+use lib.Seq.{length-take-le}
 use lib.Dec.{ltb}
 use borrow.Author.Tests.{ltb-false, le-ltb}
 use Rattle.tables.specs.declared.Lengths.{Lengths}
@@ -21,8 +22,9 @@ zeros zero m h = refl
 zeros (suc n) zero h = absurd (omega arith)
 zeros (suc n) (suc m) h = rw (zeros n m (omega arith))
 
-pub zeros-length : (n m : ℕ) → n ≤ m → n ≡ length (take {A = ℕ} n (replicate m 0))
-zeros-length n m h = sym (ap length (zeros n m h) ∙ length-replicate {A = ℕ} n 0)
+-- whatever the elements are
+pub length-taken : (a n m : ℕ) → n ≤ m → n ≡ length (take n (replicate m a))
+length-taken a n m h = sym (length-take-le n (replicate m a) (rw (length-replicate m a) h))
 
 -- what the test leaves
 pub record Short (registers surfaces memory : ℕ) : Type 0 where

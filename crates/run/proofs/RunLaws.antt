@@ -7,13 +7,12 @@ use native.Mathlib.Numerals.{add-one}
 use lib.ListN.{length}
 use borrow.Author.Tests.{lt-ltb, le-ltb}
 use Rattle.little_endian.specs.LittleEndian.{Bytes}
-use Rattle.tables.specs.declared.Lengths.{Lengths}
 use Rattle.tables.specs.Tables.{tablesGood}
 use Rattle.step.specs.declared.Progress.{Progress}
 use Rattle.step.specs.State.{Setup, State, lengthsOf}
 use Rattle.step.specs.Step.{stepAt}
 use Rattle.step.specs.Performed.{advanced, stepAdvanced}
-use Rattle.step.proofs.GuardLaws.{Advances, step-advances}
+use Rattle.step.proofs.StepLaws.{Advances, step-advances}
 use Rattle.step.proofs.Forward.{Forward, step-forward}
 use Rattle.step.proofs.Kept.{after-lengths, refused-step-keeps}
 use Rattle.run.specs.Run.{stopped, runFrom, run}
@@ -23,7 +22,6 @@ use Rattle.run.proofs.Kept.{refused-stops}
 -- after so many instructions the rest of the run, from here and this state, comes to what the whole run comes to
 pub record Reached (x : Setup) (start : State) (completed at : ℕ) (s : State) : Type 0 where
   pub bytes : Bytes (x .kernel)
-  pub good : tablesGood (lengthsOf x start) (x .tables) ≡ true
   pub fuel : ℕ
   pub enough : length (x .kernel) ≤ fuel + at
   pub inside : at ≤ length (x .kernel)
@@ -36,7 +34,6 @@ module _ (x : Setup) (start : State) where
   begins bytes good =
       record {
         bytes = bytes;
-        good = good;
         fuel = length (x .kernel);
         enough = omega arith;
         inside = omega arith;
@@ -56,7 +53,7 @@ module _ (x : Setup) (start : State) where
 
     module _ (before : at < length (x .kernel)) (p : Progress) (u : State) (told : advanced p u ≡ stepAdvanced x at s) where
       advances : Advances x at s p u
-      advances = step-advances x at s (r .bytes) (ap (λ (l : Lengths). tablesGood l (x .tables)) (r .lengths) ∙ r .good) p u told
+      advances = step-advances x at s p u told
 
       -- a refusal ends the run, with the state as it was
       pub stops : 0 < p .number → stopped (p .number) completed at u ≡ run x start
@@ -92,7 +89,6 @@ module _ (x : Setup) (start : State) where
             gone (suc fuel) enough same =
                 record {
                   bytes = r .bytes;
-                  good = r .good;
                   fuel = fuel;
                   enough = omega (arith, onward .0, enough);
                   inside = onward .1;

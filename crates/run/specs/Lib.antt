@@ -1,3 +1,4 @@
 pub mod Run
 pub mod PlainRun
 pub mod Ran
+pub mod WholeRun

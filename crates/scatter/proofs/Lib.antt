@@ -15,3 +15,4 @@ pub mod Plain
 pub mod DataLaws
 pub mod SoundLaws
 pub mod PairResults
+pub mod FirstTest

@@ -14,3 +14,7 @@ shl-writes p lanes b = done-writes _ refl
 pub shl-spares-memory : (p : Plan) (lanes : List ℕ) (b : Buffer) → shlEffect p lanes b .memory ≡ []
 unfolding shlEffect
 shl-spares-memory p lanes b = refl
+
+pub shl-number : (p : Plan) (lanes : List ℕ) (b : Buffer) → shlEffect p lanes b .number ≡ 0
+unfolding shlEffect
+shl-number p lanes b = refl

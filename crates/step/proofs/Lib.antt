@@ -2,11 +2,11 @@ pub mod StepOf
 pub mod Unwritten
 pub mod AcceptedLaws
 pub mod FitsLaws
-pub mod GuardLaws
 pub mod PerformLaws
 pub mod StepLaws
 pub mod Forward
 pub mod Kept
+pub mod FirstFailing
 pub mod Results
 pub mod SameStep
 pub mod Untainted

@@ -1,5 +1,4 @@
--- What one accepted instruction leaves, where tables and lengths are good: every enabled lane, or pair of channel and lane, has the defined
--- result, and no other byte changes, of registers, surfaces or memory.
+-- What one completed instruction leaves, where tables and lengths are good: the defined results, and nothing else changed.
 use Prim.Native.Nat.{ℕ, _≤_}
 use mathlib.Core.Path.{_≡_, refl, sym, ap, subst, _∙_}
 use mathlib.Core.Bool.{Bool, true, false}
@@ -7,6 +6,7 @@ use native.Mathlib.Omega.{arith}
 use lib.Dec.{eqb}
 use lib.ListN.{length}
 use borrow.Author.Tests.{eqb-true, eqb-false}
+use Rattle.little_endian.specs.LittleEndian.{Bytes}
 use Rattle.reader.specs.declared.Cursor.{Cursor}
 use Rattle.cells.specs.Effect.{Effect}
 use Rattle.channels.specs.Exec.{execSize}
@@ -14,6 +14,7 @@ use Rattle.decoder.specs.declared.Decoded.{Decoded}
 use Rattle.decoder.specs.declared.Decoded.the-variants as decoded
 use Rattle.decoder.specs.declared.Instruction.{Instruction}
 use Rattle.decoder.specs.Decoding.{instructionAt}
+use Rattle.decoder.proofs.DecodeEncode.{refusal-not-zero}
 use Rattle.tables.specs.Tables.{tablesGood}
 use Rattle.tables.proofs.Laws.{limited}
 use Rattle.plan.specs.declared.Plan.{Plan}
@@ -28,27 +29,20 @@ use Rattle.gather.proofs.Refusal.{gather-spares-memory}
 use Rattle.scatter.proofs.PairResults as scatter
 use Rattle.scatter.proofs.Refusal.{scatter-spares-registers}
 use Rattle.step.specs.State.{Setup, constantsOf, State, lengthsOf}
-use Rattle.step.specs.Step.{acted, planEffect, stepAt, after}
+use Rattle.step.specs.Step.{acted, planEffect, Stepped, stepAt, after}
+use Rattle.step.specs.Leaves.{ResultsFor, Leaves}
+use Rattle.step.specs.Completes.{Completes}
 use Rattle.step.proofs.StepOf.{stepOf}
 use Rattle.step.proofs.Unwritten.{unwritten}
+use Rattle.step.proofs.Kept.{after-lengths}
+use Rattle.step.proofs.FirstFailing.{step-number}
 use Rattle.step.proofs.AcceptedLaws.{plan-refuses, plan-passes}
 
--- no RAW_SEND is accepted
-abbrev pub ResultsFor : Operation → Setup → Plan → State → State → Type 0
-ResultsFor operation.Shl x p s u = shl.LanesHold (x .mask) p (s .registers) (u .registers) × (u .memory ≡ s .memory)
-ResultsFor operation.Gather x p s u = gather.LanesHold (x .mask) p (s .surfaces) (s .registers) (u .registers) × (u .memory ≡ s .memory)
-ResultsFor operation.Scatter x p s u =
-    scatter.PairsHold (record { base = x .base; length = length (s .memory .bytes) }) (x .mask) p (s .registers) (s .memory) (u .memory) × (u .registers ≡ s .registers)
-ResultsFor operation.Send x p s u = ⊥
-
-pub record Leaves (x : Setup) (p : Plan) (s u : State) : Type 0 where
-  pub results : ResultsFor (p .operation) x p s u
-  pub surfaces : u .surfaces ≡ s .surfaces
-
-step-is : (x : Setup) (s : State) (at : ℕ) (i : Instruction) (c : Cursor) → instructionAt (x .kernel) at ≡ decoded.Accepted i c → stepAt x at s .effect ≡ planEffect (constantsOf x) (checked (x .tables) i) s
+-- the step at an instruction
+step-is : (x : Setup) (s : State) (at : ℕ) (i : Instruction) (c : Cursor) → instructionAt (x .kernel) at ≡ decoded.Accepted i c
+    → stepAt x at s ≡ record { next = c .at; effect = planEffect (constantsOf x) (checked (x .tables) i) s }
 unfolding stepAt
-step-is x s at i c is =
-    ap (λ (d : Decoded). stepOf x (λ (p : Plan). planEffect (constantsOf x) p s) at d .effect) is
+step-is x s at i c is = ap (stepOf x (λ (p : Plan). planEffect (constantsOf x) p s) at) is
 
 module _ (x : Setup) (s : State) (good : tablesGood (lengthsOf x s) (x .tables) ≡ true) where
   acted-results : (o : Operation) (p : Plan) → execSize (p .control .exec) ≤ 32 → SoundFor o (length (s .registers .bytes)) (length (s .surfaces .bytes)) p
@@ -83,15 +77,34 @@ module _ (x : Setup) (s : State) (good : tablesGood (lengthsOf x s) (x .tables) 
         results = subst (λ (e : Effect). ResultsFor (p .operation) x p s (after e s)) (sym is)
             (acted-results (p .operation) p (omega (arith, sound .lanes)) (sound .operands) (sym (ap (λ (e : Effect). e .number) is) ∙ done));
         surfaces = refl;
+        lengths = after-lengths x (planEffect (constantsOf x) p s) s;
       }
 
   -- the instruction at a position, decoded and not refused
-  pub step-leaves : (at : ℕ) (i : Instruction) (c : Cursor) → instructionAt (x .kernel) at ≡ decoded.Accepted i c → stepAt x at s .effect .number ≡ 0
+  step-leaves : (at : ℕ) (i : Instruction) (c : Cursor) → instructionAt (x .kernel) at ≡ decoded.Accepted i c → stepAt x at s .effect .number ≡ 0
       → Leaves x (checked (x .tables) i) s (after (stepAt x at s .effect) s)
   step-leaves at i c is done =
       let p = checked (x .tables) i in
-      let effect : stepAt x at s .effect ≡ planEffect (constantsOf x) p s = step-is x s at i c is in
+      let effect : stepAt x at s .effect ≡ planEffect (constantsOf x) p s = ap (λ (t : Stepped). t .effect) (step-is x s at i c is) in
       let done′ : planEffect (constantsOf x) p s .number ≡ 0 = sym (ap (λ (e : Effect). e .number) effect) ∙ done in
       let zero : p .number ≡ 0 = accepted p done′ in
       subst (λ (e : Effect). Leaves x p s (after e s)) (sym effect)
       (plan-leaves p (plan-sound (lengthsOf x s) (x .tables) good i zero) zero done′)
+
+  -- a step that is not refused
+  pub step-completes : Bytes (x .kernel) → (at : ℕ) → stepAt x at s .effect .number ≡ 0 → Completes x at s (stepAt x at s .next) (after (stepAt x at s .effect) s)
+  unfolding stepAt
+  step-completes b at done = told (instructionAt (x .kernel) at) refl
+    where
+      told : (d : Decoded) → instructionAt (x .kernel) at ≡ d → Completes x at s (stepAt x at s .next) (after (stepAt x at s .effect) s)
+      told (decoded.Refused n) e =
+          absurd (refusal-not-zero (x .kernel) at n b e (sym (ap (λ (d : Decoded). stepOf x (λ (p : Plan). planEffect (constantsOf x) p s) at d .effect .number) e) ∙ done))
+      told (decoded.Accepted i c) e =
+          record {
+            instruction = i;
+            cursor = c;
+            decodes = e;
+            passes = sym (step-number x s at) ∙ done;
+            leaves = step-leaves at i c e done;
+            ends-at = ap (λ (t : Stepped). t .next) (step-is x s at i c e);
+          }

@@ -1,4 +1,4 @@
--- What one step leaves: the number, the next position and the state of the step behind the guards.
+-- What one step leaves: the number, the next position and the state of the definition's step.
 use mathlib.Core.Path.{_≡_, refl, sym, ap, _∙_}
 use mathlib.Core.List.{[]}
 use Prim.Native.Nat.{ℕ}
@@ -10,9 +10,9 @@ use Rattle.decoder.specs.declared.Instruction.{Instruction}
 use Rattle.decoder.specs.Decoding.{instructionAt}
 use Rattle.plan.specs.declared.Plan.{Plan}
 use Rattle.plan.specs.Checked.{checked}
+use Rattle.step.specs.declared.Progress.{Progress}
 use Rattle.step.specs.State.{Setup, constantsOf, State}
-use Rattle.step.specs.Step.{Stepped, after}
-use Rattle.step.specs.Guarded.{guardedEffect, guardedStep}
+use Rattle.step.specs.Step.{planEffect, Stepped, stepAt, after}
 use Rattle.step.specs.Performed.{Performed, performed, planPerformed, Advanced, advanced, stepAdvanced}
 use Rattle.step.proofs.StepOf.{stepOf}
 use Rattle.step.proofs.Unwritten.{unwritten}
@@ -23,9 +23,9 @@ module _ (x : Setup) (at : ℕ) (s : State) where
   made t = record { number = t .effect .number; next = t .next; state = after (t .effect) s }
 
   stepped : (d : Decoded) → instructionAt (x .kernel) at ≡ d
-      → stepOf x (λ (p : Plan). guardedEffect (constantsOf x) p s) at d ≡ guardedStep x at s
-  unfolding guardedStep
-  stepped d e = ap (stepOf x (λ (p : Plan). guardedEffect (constantsOf x) p s) at) (sym e)
+      → stepOf x (λ (p : Plan). planEffect (constantsOf x) p s) at d ≡ stepAt x at s
+  unfolding stepAt
+  stepped d e = ap (stepOf x (λ (p : Plan). planEffect (constantsOf x) p s) at) (sym e)
 
   unchanged : (n : ℕ) → after (refused n) s ≡ s
   unchanged n = λ i. record { registers = unwritten [] (s .registers) refl i; surfaces = s .surfaces; memory = unwritten [] (s .memory) refl i }
@@ -36,7 +36,7 @@ module _ (x : Setup) (at : ℕ) (s : State) where
     unfolding stepAdvanced planPerformed
     accepted-advances i c p n u is plan done =
         ap (λ (q : Performed). advanced (record { number = q .number; next = c .at }) (q .state)) done
-        ∙ (ap (λ (p : Plan). made (record { next = c .at; effect = guardedEffect (constantsOf x) p s })) plan
+        ∙ (ap (λ (p : Plan). made (record { next = c .at; effect = planEffect (constantsOf x) p s })) plan
         ∙ ap made (stepped (decoded.Accepted i c) (sym told ∙ is)))
 
     pub refusal-advances : (n : ℕ) → d ≡ decoded.Refused n → advanced (record { number = n; next = at }) s ≡ stepAdvanced x at s
@@ -44,3 +44,18 @@ module _ (x : Setup) (at : ℕ) (s : State) where
     refusal-advances n is =
         ap (λ (u : State). advanced (record { number = n; next = at }) u) (sym (unchanged n))
         ∙ ap made (stepped (decoded.Refused n) (sym told ∙ is))
+
+-- the same, part by part
+pub record Advances (x : Setup) (at : ℕ) (s : State) (p : Progress) (u : State) : Type 0 where
+  pub number : p .number ≡ stepAt x at s .effect .number
+  pub next : p .next ≡ stepAt x at s .next
+  pub state : u ≡ after (stepAt x at s .effect) s
+
+pub step-advances : (x : Setup) (at : ℕ) (s : State) (p : Progress) (u : State) → advanced p u ≡ stepAdvanced x at s → Advances x at s p u
+unfolding stepAdvanced
+step-advances x at s p u told =
+    record {
+      number = ap (λ (a : Advanced). a .number) told;
+      next = ap (λ (a : Advanced). a .next) told;
+      state = ap (λ (a : Advanced). a .state) told;
+    }

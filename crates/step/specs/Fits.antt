@@ -1,4 +1,5 @@
--- A plan that the executors' guards let pass. Every plan of a decoded and checked instruction is one (`proofs/FitsLaws.antt`).
+-- A plan that the executors' guards let pass. Every plan of a decoded and checked instruction is one, whatever the tables hold
+-- (`proofs/FitsLaws.antt`).
 use mathlib.Core.Path.{_≡_}
 use mathlib.Core.Bool.{Bool, true}
 use Rattle.plan.specs.declared.Plan.{Plan}

@@ -1,5 +1,7 @@
 pub mod State
 pub mod Step
 pub mod Fits
-pub mod Guarded
 pub mod Performed
+pub mod Leaves
+pub mod FirstFailing
+pub mod Completes

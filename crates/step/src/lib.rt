@@ -5,6 +5,7 @@ use plan::Plan;
 ghost use mathlib.Core.Path.{_≡_};
 ghost use Rattle.tables.specs.Tables.{tables};
 ghost use Rattle.step.specs.State.{setup, state};
+ghost use Rattle.step.specs.Fits.{Fits};
 ghost use Rattle.step.specs.Performed.{performed, planPerformed, advanced, stepAdvanced};
 
 // What stays the same in a run beside the borrowed slices: the memory window's base, and the execution mask (EM).
@@ -19,7 +20,8 @@ pub struct Progress {
     pub next: usize,
 }
 
-// Does what a plan says: its refusal's number with nothing written, or the instruction's own number.
+// Does what a plan says: its refusal's number with nothing written, or the instruction's own number. The executors ask again what every plan
+// of a decoded and checked instruction has; no such plan is refused there.
 fn perform(
     plan: Plan,
     constants: Constants,
@@ -30,6 +32,7 @@ fn perform(
     memory: &mut [u8],
     memory_taint: &mut [u8],
 ) -> u8
+    requires { ⌜ Fits plan ⌝ }
     ensures { λ r. ⌜ performed r (state (now (registers .exit)) (now («register_taint» .exit)) (now (surfaces .entry)) (now («surface_taint» .entry)) (now (memory .exit)) (now («memory_taint» .exit))) ≡ planPerformed constants plan (state (now (registers .entry)) (now («register_taint» .entry)) (now (surfaces .entry)) (now («surface_taint» .entry)) (now (memory .entry)) (now («memory_taint» .entry))) ⌝ }
 {
     if 0 < plan.number {

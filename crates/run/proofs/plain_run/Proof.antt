@@ -1,7 +1,7 @@
 -- `run::plain_run` meets its contract: it is the run over zeros.
 use mathlib.Core.Path.{sym, _∙_}
 use borrow.Author.Needs.{needs}
-use Rattle.run.proofs.PlainRunLaws.{zeros, zeros-length, short-told, too-long-answers, zeros-answer}
+use Rattle.run.proofs.PlainRunLaws.{zeros, length-taken, short-told, too-long-answers, zeros-answer}
 use Rattle.run.proofs.plain_run.Statement.{statement}
 use Rattle.run.proofs.plain_run.Tie as tie
 
@@ -12,19 +12,19 @@ array-share-prefix-surface-taint : tie.Need-array-share-prefix-surface-taint
 array-share-prefix-surface-taint c = short-told _ _ _ (sym (c .before .too-long .ensures) ∙ c .if1 .left) .surfaces-short
 
 slice-aggregate-run : tie.Need-slice-aggregate-run
-slice-aggregate-run c = zeros-length _ 8192 (short-told _ _ _ (sym (c .before .before .too-long .ensures) ∙ c .before .if1 .left) .surfaces-short)
+slice-aggregate-run c = length-taken _ _ 8192 (short-told _ _ _ (sym (c .before .before .too-long .ensures) ∙ c .before .if1 .left) .surfaces-short)
 
 array-borrow-prefix-register-taint : tie.Need-array-borrow-prefix-register-taint
 array-borrow-prefix-register-taint c = short-told _ _ _ (sym (c .before .before .before .too-long .ensures) ∙ c .before .before .if1 .left) .registers-short
 
 slice-aggregate-run-2 : tie.Need-slice-aggregate-run-2
-slice-aggregate-run-2 c = zeros-length _ 4096 (short-told _ _ _ (sym (c .before .before .before .before .too-long .ensures) ∙ c .before .before .before .if1 .left) .registers-short)
+slice-aggregate-run-2 c = length-taken _ _ 4096 (short-told _ _ _ (sym (c .before .before .before .before .too-long .ensures) ∙ c .before .before .before .if1 .left) .registers-short)
 
 array-borrow-prefix-memory-taint : tie.Need-array-borrow-prefix-memory-taint
 array-borrow-prefix-memory-taint c = short-told _ _ _ (sym (c .before .before .before .before .before .too-long .ensures) ∙ c .before .before .before .before .if1 .left) .memory-short
 
 slice-aggregate-run-3 : tie.Need-slice-aggregate-run-3
-slice-aggregate-run-3 c = zeros-length _ 4096 (short-told _ _ _ (sym (c .before .before .before .before .before .before .too-long .ensures) ∙ c .before .before .before .before .before .if1 .left) .memory-short)
+slice-aggregate-run-3 c = length-taken _ _ 4096 (short-told _ _ _ (sym (c .before .before .before .before .before .before .too-long .ensures) ∙ c .before .before .before .before .before .if1 .left) .memory-short)
 
 returns-2 : tie.Need-returns-2
 returns-2 c =

@@ -4,6 +4,10 @@ use Rattle.step.proofs.perform.Statement.{statement}
 use Rattle.step.proofs.perform.Tie as tie
 use Rattle.step.proofs.PerformLaws.{refusal-performs, shl-performs, gather-performs, scatter-performs, send-performs}
 
+-- the function's start, from where the plan is known to be accepted
+abbrev start : tie.Else1 → tie.Start
+start c = c .before .before .before .before .before .before .before .before
+
 returns : tie.Need-returns
 returns c = refusal-performs _ _ _ (c .if1 .taken)
 
@@ -11,22 +15,22 @@ returns-2 : tie.Need-returns-2
 returns-2 c =
     let a = c .before .before .before .before in
     let m = a .before .before .before in
-    shl-performs _ _ _ (m .before .before .if1 .left) _ _ (m .enum-told .given .1) (a .shl .ensures)
+    shl-performs _ _ _ (start (m .before .before) .pre) (m .before .before .if1 .left) _ _ (m .enum-told .given .1) (a .shl .ensures)
 
 returns-3 : tie.Need-returns-3
 returns-3 c =
     let a = c .before .before .before .before in
     let m = a .before .before .before in
-    gather-performs _ _ _ (m .before .before .if1 .left) _ _ (m .enum-told2 .given .1) (a .gather .ensures)
+    gather-performs _ _ _ (start (m .before .before) .pre) (m .before .before .if1 .left) _ _ (m .enum-told2 .given .1) (a .gather .ensures)
 
 returns-4 : tie.Need-returns-4
 returns-4 c =
     let a = c .before .before .before .before in
     let m = a .before .before .before .before .before in
-    scatter-performs _ _ _ (m .before .before .if1 .left) _ _ (m .enum-told3 .given .1) (a .scatter .ensures)
+    scatter-performs _ _ _ (start (m .before .before) .pre) (m .before .before .if1 .left) _ _ (m .enum-told3 .given .1) (a .scatter .ensures)
 
 returns-5 : tie.Need-returns-5
-returns-5 c = send-performs _ _ _ (c .before .before .if1 .left) (c .enum-told4 .given .1)
+returns-5 c = send-performs _ _ _ (start (c .before .before) .pre) (c .before .before .if1 .left) (c .enum-told4 .given .1)
 
 pub perform-spec : {M : Type 1} → statement M
 perform-spec =
