@@ -1,4 +1,4 @@
 pub mod Bounds
 pub mod AllowedLaws
 pub mod LocatedLaws
-pub mod Worked
+pub mod Edges
