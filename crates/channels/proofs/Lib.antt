@@ -2,4 +2,4 @@ pub mod BitLaws
 pub mod BelowLaws
 pub mod ExecLaws
 pub mod LaneLaws
-pub mod Worked
+pub mod Edges

@@ -4,4 +4,4 @@ pub mod KeptLaws
 pub mod FeedingLaws
 pub mod RowLaws
 pub mod TextLaws
-pub mod Worked
+pub mod Edges

@@ -1,6 +1,6 @@
 -- Laws of the writes of a dword: the turns of a loop over its bytes.
 use Prim.Native.Nat.{ℕ, suc, _+_, _-_, _≤_, _<_}
-use mathlib.Core.Path.{_≡_}
+use mathlib.Core.Path.{_≡_, ap, ap₂, _∙_}
 use mathlib.Core.Bool.{Bool, _&&_, _||_}
 use mathlib.Core.List.{[], _∷_}
 use native.Mathlib.Numerals.{add-one}
@@ -23,4 +23,5 @@ module _ (surfaces : Buffer) (p : Plan) (doubtful : Bool) (address at : ℕ) whe
   -- what the calls answered of byte j is what is written
   pub dword-byte : (j value : ℕ) (tainted : Bool) (b b′ : Buffer) → value ≡ gatheredByte (surfaces .bytes) p address j → tainted ≡ (doubtful || (isRead p address j && isTainted (getD (surfaces .taint) (p .start + address + j) 0))) → b′ ≡ written (record { at = at + j; value = value; mark = markOf tainted }) b → b′ ≡ written (record { at = at + j; value = gatheredByte (surfaces .bytes) p address j; mark = gatheredMark (surfaces .taint) p doubtful address j }) b
   unfolding gatheredMark
-  dword-byte j value tainted b b′ v t made = rw (← v, ← t) made
+  dword-byte j value tainted b b′ v t made =
+      made ∙ ap₂ (λ (x y : ℕ). written (record { at = at + j; value = x; mark = y }) b) v (ap markOf t)

@@ -2,4 +2,4 @@ pub mod Bounds
 pub mod AllowedLaws
 pub mod SizeLaws
 pub mod LocatedLaws
-pub mod Worked
+pub mod Edges

@@ -3,4 +3,4 @@ pub mod NumberLaws
 pub mod LineLaws
 pub mod WholeLaws
 pub mod LengthLaws
-pub mod Worked
+pub mod Edges

@@ -1,6 +1,6 @@
 pub mod TestLaws
 pub mod ScatterLaws
 pub mod PlanLaws
-pub mod Worked
+pub mod Edges
 pub mod ChannelLaws
 pub mod InstructionLaws

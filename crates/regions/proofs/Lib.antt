@@ -3,4 +3,4 @@ pub mod ReachLaws
 pub mod RegionLaws
 pub mod GridLaws
 pub mod PositionLaws
-pub mod Worked
+pub mod Edges

@@ -3,4 +3,3 @@ pub mod SpanLaws
 pub mod ExactLaws
 pub mod ResidueLaws
 pub mod ShiftLaws
-pub mod Worked

@@ -4,4 +4,4 @@ pub mod Limits
 pub mod Placement
 pub mod SurfacePlaces
 pub mod Laws
-pub mod Worked
+pub mod Edges

@@ -64,7 +64,7 @@ surfaces bytes table = tablesGood (lengths 0 0 bytes 0 0) (tables [] [] [] [] ta
 listed : (code size : ℕ) → sizeOf code ≡ suc size → isListed code ≡ true
 listed code size e = size-listed code (omega arith)
 
-lengths-worked : (buffers 0 0 0 0 ≡ true)
+lengths-at-edges : (buffers 0 0 0 0 ≡ true)
     × (buffers 0 4096 0 0 ≡ true)
     × (buffers 0 4128 0 0 ≡ false)
     × (buffers 0 48 0 0 ≡ false)
@@ -79,9 +79,9 @@ lengths-worked : (buffers 0 0 0 0 ≡ true)
     × (tainted 32 11 8 ≡ false)
     × (tainted 32 10 0 ≡ false)
 unfolding empty lengths buffers tainted registersGood addressesGood taintGood lengthsGood every variablesGood surfaceLength surfaceStart surfaceGoodAt surfacesGood tablesGood
-lengths-worked = (refl, refl, refl, refl, refl, refl, refl, refl, refl, refl, refl, refl, refl, refl)
+lengths-at-edges = (refl, refl, refl, refl, refl, refl, refl, refl, refl, refl, refl, refl, refl, refl)
 
-variables-worked : (variable UD 32 8 ≡ true)
+variables-at-edges : (variable UD 32 8 ≡ true)
     × (variable UD 16 8 ≡ false)
     × (variable UD 32 9 ≡ false)
     × (variable UD 64 1 ≡ false)
@@ -96,7 +96,7 @@ variables-worked : (variable UD 32 8 ≡ true)
     × (variable F 0 1 ≡ true)
     × (variable 6 0 1 ≡ false)
 unfolding lengths variable registersGood addressesGood taintGood lengthsGood every lineGood variableGood variableGoodAt variablesGood surfaceStart surfacesGood tablesGood
-variables-worked =
+variables-at-edges =
     simp (
       listed UD 3 (sizes .ud),
       listed UB 0 (sizes .ub),
@@ -112,7 +112,7 @@ variables-worked =
     )
     (refl, refl, refl, refl, refl, refl, refl, refl, refl, refl, refl, refl, refl, refl)
 
-tables-worked : (variables 256 256 256 ≡ true)
+tables-at-edges : (variables 256 256 256 ≡ true)
     × (variables 257 257 257 ≡ false)
     × (variables 2 1 2 ≡ false)
     × (variables 2 2 3 ≡ false)
@@ -126,5 +126,5 @@ tables-worked : (variables 256 256 256 ≡ true)
     × (surfaces 8 (replicate 8 1) ≡ true)
     × (surfaces 9 (replicate 9 1) ≡ false)
 unfolding lengths variables predicates surfaces registersGood addressesGood taintGood lengthsGood every lineGood variableGood variableGoodAt variablesGood surfaceLength surfaceStart surfaceGoodAt surfacesGood tablesGood
-tables-worked =
+tables-at-edges =
     simp (listed UB 0 (sizes .ub), sizes .ub) (refl, refl, refl, refl, refl, refl, refl, refl, refl, refl, refl, refl, refl)

@@ -8,7 +8,7 @@ use Rattle.types.proofs.Sizes.{sizes}
 use Rattle.field_groups.specs.declared.General.{General}
 use Rattle.regions.specs.declared.Role.{Role}
 use Rattle.regions.specs.declared.Variable.{Variable}
-use Rattle.regions.proofs.Worked.{regionNumber, words, Edges, regions-worked}
+use Rattle.regions.proofs.Edges.{regionNumber, words, Edges, regions-at-edges}
 use Rattle.operands.specs.declared.TypeRule.{TypeRule}
 use Rattle.operands.specs.declared.TypeRule.the-variants as rule
 use Rattle.operands.specs.declared.Located.{Located}
@@ -30,10 +30,10 @@ unfolding typeAllowed shiftType
 words-allowed = refl
 
 -- UW elements as SHL's operands
-general-worked : Edges (λ o lanes g count. generalOf o rule.Shift lanes g (words count) .number)
-general-worked =
+general-at-edges : Edges (λ o lanes g count. generalOf o rule.Shift lanes g (words count) .number)
+general-at-edges =
     subst Edges (fun-ext (λ o. fun-ext (λ lanes. fun-ext (λ g. fun-ext (λ count. sym (general-number o rule.Shift lanes g (words count) words-allowed))))))
-    regions-worked
+    regions-at-edges
 
 raw-number : (r : TypeRule) (bytes offset : ℕ) (v : Variable) (size : ℕ) → sizeOf (v .code) ≡ size
     → rawOf r bytes offset v .number
@@ -46,7 +46,7 @@ rawNumber : TypeRule → ℕ → ℕ → ℕ → ℕ
 rawNumber r code bytes offset = rawOf r bytes offset (record { code = code; start = 0; count = 8 }) .number
 
 -- "its offset is a multiple of the element size"; "for none, the offset may be the variable's end"
-raw-worked : (rawNumber rule.Offset UD 32 0 ≡ 0)
+raw-at-edges : (rawNumber rule.Offset UD 32 0 ≡ 0)
     × (rawNumber rule.Offset UD 32 4 ≡ 7)
     × (rawNumber rule.Offset UD 4 2 ≡ 7)
     × (rawNumber rule.Offset UD 0 32 ≡ 0)
@@ -54,7 +54,7 @@ raw-worked : (rawNumber rule.Offset UD 32 0 ≡ 0)
     × (rawNumber rule.Dword F 32 0 ≡ 0)
     × (rawNumber rule.Offset F 33 1 ≡ 4)
 unfolding rawNumber dwordType typeAllowed
-raw-worked =
+raw-at-edges =
     let row : (r : TypeRule) (bytes offset : ℕ) (code : ℕ) → sizeOf code ≡ 4 → _ = λ r bytes offset code e. raw-number r bytes offset (record { code = code; start = 0; count = 8 }) 4 e in (
       row rule.Offset 32 0 UD (sizes .ud),
       row rule.Offset 32 4 UD (sizes .ud),

@@ -1,7 +1,7 @@
--- Document 01's lines on regions, and the edges of their tests, computed.
+-- The edges of a region's tests, computed.
 use mathlib.Core.Path.{_≡_, refl}
 use mathlib.Core.Bool.{cond, not, _&&_, _||_}
-use Prim.Native.Nat.{ℕ, _+_, _*_, _-_}
+use Prim.Native.Nat.{ℕ, _+_, _*_}
 use lib.Dec.{ltb, eqb}
 use Rattle.types.specs.Types.{UW, sizeOf}
 use Rattle.types.proofs.Sizes.{sizes}
@@ -11,7 +11,6 @@ use Rattle.regions.specs.declared.Role.the-variants as role
 use Rattle.regions.specs.declared.Variable.{Variable}
 use Rattle.regions.specs.Regions.{verticalCode, widthCode, horizontalCode, strideOf, between, sourceRegionGood, scalarRegionGood, destinationRegionGood, regionGood, firstElement, sourceElement, elementOf}
 use Rattle.regions.specs.Reach.{smaller, larger, lowest, highest, twoRegisters, reachGood, elementsGood}
-use Rattle.regions.specs.Positions.{elementByte}
 use Rattle.regions.proofs.ReachLaws.{inside-highest}
 
 -- 6, 7 or 0, by the tests of a region
@@ -26,13 +25,10 @@ region vertical width horizontal = record { index = 0; row = 0; column = 0; regi
 abbrev pub words : ℕ → Variable
 words count = record { code = UW; start = 0; count = count }
 
--- "UW <16;8,2>, size 16, start 0: last byte 61, good. <32;8,2>: last byte 93, three registers, 7."
+-- the number for a role, its lanes, a region and so many UW; <16;8,2> with 16 lanes ends in element 30
 abbrev pub Edges : (Role → ℕ → General → ℕ → ℕ) → Type 0
 Edges number =
     (number role.Source 16 (region 6 5 3) 31 ≡ 0)
-    × (elementByte 0 2 (elementOf role.Source (region 6 5 3) 2) 15 + 2 - 1 ≡ 61)
-    × (number role.Source 16 (region 7 5 3) 64 ≡ 7)
-    × (elementByte 0 2 (elementOf role.Source (region 7 5 3) 2) 15 + 2 - 1 ≡ 93)
     × (number role.Source 16 (region 6 5 3) 30 ≡ 7)
     × (number role.Source 4 (region 6 5 3) 64 ≡ 6)
     × (number role.Source 32 (region 6 7 3) 128 ≡ 6)
@@ -57,13 +53,10 @@ number-is : (o : Role) (lanes : ℕ) (g : General) (count : ℕ) → regionNumbe
 unfolding computed elementsGood
 number-is o lanes g count = rw (sizes .uw, ← inside-highest (elementOf o g 2) count lanes)
 
-pub regions-worked : Edges (λ o lanes g count. regionNumber o lanes g (words count))
-unfolding computed verticalCode widthCode horizontalCode strideOf between sourceRegionGood scalarRegionGood destinationRegionGood regionGood firstElement sourceElement elementOf smaller larger lowest highest twoRegisters reachGood elementByte
-regions-worked = (
+pub regions-at-edges : Edges (λ o lanes g count. regionNumber o lanes g (words count))
+unfolding computed verticalCode widthCode horizontalCode strideOf between sourceRegionGood scalarRegionGood destinationRegionGood regionGood firstElement sourceElement elementOf smaller larger lowest highest twoRegisters reachGood
+regions-at-edges = (
   number-is role.Source 16 (region 6 5 3) 31,
-  refl,
-  number-is role.Source 16 (region 7 5 3) 64,
-  refl,
   number-is role.Source 16 (region 6 5 3) 30,
   number-is role.Source 4 (region 6 5 3) 64,
   number-is role.Source 32 (region 6 7 3) 128,
