@@ -7,7 +7,8 @@ use lib.ListN.{length, drop}
 use Rattle.reader.specs.Reading.{cursor}
 use Rattle.fields.specs.declared.ByteRule.the-variants as byte
 use Rattle.fields.specs.declared.WordRule.the-variants as word
-use Rattle.fields.proofs.Told.{LayoutTold, good-told}
+use Rattle.fields.specs.Told.{LayoutTold}
+use Rattle.fields.proofs.Told.{good-told}
 use Rattle.fields.proofs.ReadBack.{Stands, There, there-good, there-refused, byte-field-next, word-field-next}
 use Rattle.field_groups.proofs.There.{control-next, operand-next, operand-last, access-next, message-next, scalar-and-raws-last}
 use Rattle.decoder.specs.declared.Instruction.{Instruction}

@@ -9,7 +9,8 @@ use native.Mathlib.Omega.{arith}
 use lib.ListN.{length, drop}
 use lib.Dec.{ltb, eqb}
 use borrow.Author.Tests.{eqb-false}
-use Rattle.fields.proofs.Told.{LayoutTold, LackingFirst, lacking-three}
+use Rattle.fields.specs.Told.{LayoutTold, LackingFirst}
+use Rattle.fields.proofs.Told.{lacking-three}
 use Rattle.decoder.specs.declared.Instruction.{Instruction}
 use Rattle.decoder.specs.declared.Decoded.the-variants as decoded
 use Rattle.decoder.specs.Decoding.{instructionAt}

@@ -10,12 +10,8 @@ use borrow.Author.Tests.{eqb-true, eq-eqb, ne-eqb}
 use Rattle.fields.specs.declared.Field.{Field}
 use Rattle.fields.specs.declared.Field.the-variants.{Lacking}
 use Rattle.fields.specs.Rules.{judged}
+use Rattle.fields.specs.Told.{AllGood}
 use Rattle.fields.specs.Layout.{fieldRefusal, layoutRefusal}
-
--- none of these is refused
-abbrev pub AllGood : List Field → Type 0
-AllGood [] = Unit
-AllGood (f ∷ fs) = (fieldRefusal f ≡ 0) × AllGood fs
 
 pub none-refused : (fs : List Field) → AllGood fs → layoutRefusal fs ≡ 0
 unfolding layoutRefusal

@@ -24,7 +24,8 @@ use Rattle.fields.specs.Reading.{byteFieldAt, wordFieldAt, dwordFieldAt,
 use Rattle.fields.specs.Layout.{fieldBytes, fieldRefusal, layoutBytes, layoutRefusal}
 use Rattle.fields.proofs.FirstRefusal.{refusal-append, one-refusal}
 use Rattle.fields.proofs.Laws.{layout-append, one-bytes}
-use Rattle.fields.proofs.Told.{LayoutTold, told-append}
+use Rattle.fields.specs.Told.{LayoutTold}
+use Rattle.fields.proofs.Told.{told-append}
 
 -- ---- the answer
 

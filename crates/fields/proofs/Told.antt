@@ -1,4 +1,4 @@
--- Fields that their bytes tell: none up to the first that is refused is a high word, other than 0, that its type lacks.
+-- Fields are told by their bytes, or the first that is refused is a high word that its type lacks.
 use mathlib.Core.Path.{_≡_, refl, ap, _∙_}
 use mathlib.Core.Logic.{_≢_, _⊎_, inl, inr, ⊎-elim}
 use mathlib.Core.List.{List, [], _∷_, _++_}
@@ -11,17 +11,8 @@ use Rattle.fields.specs.declared.Field.{Field}
 use Rattle.fields.specs.declared.Field.the-variants.{Byte, Word, Dword, Lacking}
 use Rattle.fields.specs.Rules.{judged}
 use Rattle.fields.specs.Layout.{fieldRefusal, layoutRefusal}
-use Rattle.fields.proofs.FirstRefusal.{AllGood, first-refused, one-refusal, good-append, good-one, lacking-zero}
-
-abbrev pub FieldTold : Field → Type 0
-FieldTold (Byte rule v) = Unit
-FieldTold (Word rule v) = Unit
-FieldTold (Dword v) = Unit
-FieldTold (Lacking v) = v ≡ 0
-
-abbrev pub LayoutTold : List Field → Type 0
-LayoutTold [] = Unit
-LayoutTold (f ∷ fs) = FieldTold f × (fieldRefusal f ≡ 0 → LayoutTold fs)
+use Rattle.fields.specs.Told.{FieldTold, LayoutTold, LackingFirst}
+use Rattle.fields.proofs.FirstRefusal.{first-refused, one-refusal, good-append, good-one, lacking-zero}
 
 pub told-append : (fs gs : List Field) → LayoutTold (fs ++ gs) → LayoutTold fs × (layoutRefusal fs ≡ 0 → LayoutTold gs)
 told-append [] gs h = (tt, λ g. h)
@@ -41,15 +32,6 @@ good-told [] g = tt
 good-told (f ∷ fs) g =
     let goods = good-append (f ∷ []) fs g in
     (field-told f (good-one f (goods .0)), λ e. good-told fs (goods .1))
-
--- the first field that is refused is a high word that its type lacks
-pub record LackingFirst (fs : List Field) : Type 0 where
-  pub before : List Field
-  pub high : ℕ
-  pub behind : List Field
-  pub split : fs ≡ before ++ (Lacking high ∷ behind)
-  pub good : AllGood before
-  pub some : high ≢ 0
 
 -- "a non-zero high word that the type lacks is 3"
 pub lacking-three : (fs : List Field) → LackingFirst fs → layoutRefusal fs ≡ 3

@@ -1,3 +1,4 @@
 pub mod Rules
 pub mod Reading
 pub mod Layout
+pub mod Told
