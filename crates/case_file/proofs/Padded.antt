@@ -18,7 +18,7 @@ pub padded-none : (z : List ℕ) → padded z [] ≡ z
 unfolding padded
 padded-none z = refl
 
-pub length-padded : (z l : List ℕ) → length l ≤ length z → length (padded z l) ≡ length z
+length-padded : (z l : List ℕ) → length l ≤ length z → length (padded z l) ≡ length z
 unfolding padded
 length-padded z l h = omega (arith, length-append l (drop (length l) z), length-drop (length l) z)
 

@@ -6,35 +6,19 @@ use mathlib.Core.Bool.{Bool}
 use mathlib.Core.List.{List, _∷_}
 use native.Mathlib.Omega.{arith}
 use lib.ListN.{length}
+use Rattle.gather.specs.Results.{LanesHold, laneAddress, laneByte, laneDoubtful, laneMark}
 use Rattle.cells.specs.Buffer.{Buffer}
 use Rattle.cells.specs.Writes.{Write, writtenAll}
-use Rattle.cells.proofs.StayLaws.{Kept, Outside}
-use Rattle.cells.proofs.RowLaws.{Holds, row, row-none, row-next}
+use Rattle.cells.specs.Results.{Kept, Outside, Holds}
+use Rattle.cells.proofs.RowLaws.{row, row-none, row-next}
 use Rattle.channels.specs.Exec.{execSize}
 use Rattle.plan.specs.declared.Plan.{Plan}
 use Rattle.plan.proofs.PlanLaws.{GatherSound}
 use Rattle.staging.specs.Lanes.{lanesOn}
 use Rattle.staging.specs.Sources.{elementValue, eitherTainted}
-use Rattle.staging.proofs.ResultLaws.{Enabled, destination, Destinations, others-kept, lanes-hold}
+use Rattle.staging.specs.Results.{Enabled, destination}
+use Rattle.staging.proofs.ResultLaws.{Destinations, others-kept, lanes-hold}
 use Rattle.gather.specs.Gather.{gatherAddress, gatheredByte, gatheredMark, gatherWrites, gatherLane, gatherEffect}
-
--- a lane's address, and whether it is doubtful
-abbrev pub laneAddress : Plan → Buffer → ℕ → ℕ
-laneAddress p registers lane = gatherAddress (elementValue (registers .bytes) (p .left) lane) (elementValue (registers .bytes) (p .right) lane)
-
-abbrev pub laneDoubtful : Plan → Buffer → ℕ → Bool
-laneDoubtful p registers lane = eitherTainted (registers .taint) (p .left) (p .right) lane
-
--- byte j of a lane's dword afterwards
-abbrev pub laneByte : Plan → Buffer → Buffer → ℕ → ℕ → ℕ
-laneByte p registers surfaces lane j = gatheredByte (surfaces .bytes) p (laneAddress p registers lane) j
-
-abbrev pub laneMark : Plan → Buffer → Buffer → ℕ → ℕ → ℕ
-laneMark p registers surfaces lane j = gatheredMark (surfaces .taint) p (laneDoubtful p registers lane) (laneAddress p registers lane) j
-
-pub record LanesHold (mask : ℕ) (p : Plan) (surfaces before after : Buffer) : Type 0 where
-  pub enabled : (lane : ℕ) → Enabled mask p lane → (j : ℕ) → j < 4 → Holds after (destination p lane + j) (laneByte p before surfaces lane j) (laneMark p before surfaces lane j)
-  pub others : (j : ℕ) → ((lane : ℕ) → Enabled mask p lane → Outside (destination p lane) 4 j) → Kept before after j
 
 dword-row : (surfaces : Buffer) (p : Plan) (doubt : Bool) (address at n j : ℕ) → gatherWrites surfaces p doubt address at j n ≡ row (gatheredByte (surfaces .bytes) p address) (gatheredMark (surfaces .taint) p doubt address) at j n
 unfolding gatherWrites

@@ -1,3 +1,4 @@
 pub mod Gather
 pub mod Guarded
 pub mod FromRoom
+pub mod Results

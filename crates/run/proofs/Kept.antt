@@ -8,7 +8,8 @@ use borrow.Author.Tests.{lt-ltb}
 use Rattle.little_endian.specs.LittleEndian.{Bytes}
 use Rattle.cells.specs.Writes.{writtenAll}
 use Rattle.cells.proofs.WriteLaws.{written-append}
-use Rattle.cells.proofs.StayLaws.{writesAt, Kept, stays}
+use Rattle.cells.specs.Results.{Kept}
+use Rattle.cells.proofs.StayLaws.{writesAt, stays}
 use Rattle.cells.proofs.EffectLaws.{nothing-written}
 use Rattle.tables.specs.Tables.{tablesGood}
 use Rattle.step.specs.State.{Setup, State, lengthsOf}

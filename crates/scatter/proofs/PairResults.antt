@@ -9,13 +9,15 @@ use native.Mathlib.Omega.{arith}
 use lib.Dec.{leb}
 use lib.ListN.{length, getD}
 use borrow.Author.Tests.{leb-true, not-false}
+use Rattle.scatter.specs.Results.{EnabledPair, Later, PairsHold, place}
 use Rattle.cells.specs.Buffer.{Buffer, isTainted, markOf}
 use Rattle.cells.specs.Writes.{Write, writtenAll}
 use Rattle.cells.specs.Over.{among, each, some}
 use Rattle.cells.specs.Effect.{Effect}
 use Rattle.cells.proofs.WriteLaws.{bytes-kept, taint-kept}
-use Rattle.cells.proofs.StayLaws.{Kept, Outside, writesAt, stays}
-use Rattle.cells.proofs.RowLaws.{Room, Holds, kept-holds}
+use Rattle.cells.specs.Results.{Kept, Outside, Holds}
+use Rattle.cells.proofs.StayLaws.{writesAt, stays}
+use Rattle.cells.proofs.RowLaws.{Room, kept-holds}
 use Rattle.cells.proofs.CopyLaws.{copy-writes-outside, copy-holds}
 use Rattle.cells.proofs.LaneStayLaws.{lanes-outside, lane-stays}
 use Rattle.cells.proofs.SearchLaws.{some-none}
@@ -28,29 +30,8 @@ use Rattle.plan.specs.declared.Plan.{Plan}
 use Rattle.staging.specs.Lanes.{lanesOn}
 use Rattle.staging.specs.Sources.{eitherTainted}
 use Rattle.staging.proofs.LanesOnLaws.{lanes-on-are}
-use Rattle.staging.proofs.ResultLaws.{Enabled}
+use Rattle.staging.specs.Results.{Enabled}
 use Rattle.scatter.specs.Scatter.{Window, channelsOn, target, sourceByte, misaligned, outside, scatterPair, scatterEffect}
-
--- a channel and a lane, both enabled
-pub record EnabledPair (mask : ℕ) (p : Plan) (c lane : ℕ) : Type 0 where
-  pub channel : c < 4
-  pub channel-on : bit (p .channels) c ≡ true
-  pub lane-on : Enabled mask p lane
-
--- "c outer, i inner"
-abbrev pub Later : ℕ → ℕ → ℕ → ℕ → Type 0
-Later c lane d other = (c < d) ⊎ ((c ≡ d) × (lane < other))
-
--- the memory byte at which a pair's data begin
-abbrev pub place : Window → Plan → Buffer → ℕ → ℕ → ℕ
-place w p registers c lane = target (registers .bytes) p c lane - w .base
-
-pub record PairsHold (w : Window) (mask : ℕ) (p : Plan) (registers before after : Buffer) : Type 0 where
-  -- "the later write stays", and "scattered bytes carry their marks"
-  pub enabled : (c lane k : ℕ) → EnabledPair mask p c lane → k < 4
-      → ((d other : ℕ) → EnabledPair mask p d other → Later c lane d other → Outside (place w p registers d other) 4 (place w p registers c lane + k))
-      → Holds after (place w p registers c lane + k) (getD (registers .bytes) (sourceByte p c lane + k) 0) (markOf (isTainted (getD (registers .taint) (sourceByte p c lane + k) 0)))
-  pub others : (j : ℕ) → ((c lane : ℕ) → EnabledPair mask p c lane → Outside (place w p registers c lane) 4 j) → Kept before after j
 
 both-true : (a b : Bool) → (a && b) ≡ true → (a ≡ true) × (b ≡ true)
 both-true true b e = (refl, e)

@@ -14,7 +14,8 @@ use Rattle.cells.specs.Writes.{writtenAll, copyWrites}
 use Rattle.cells.specs.Over.{each, some}
 use Rattle.cells.specs.Effect.{unless}
 use Rattle.cells.proofs.WriteLaws.{bytes-kept, taint-kept}
-use Rattle.cells.proofs.StayLaws.{Kept, stays}
+use Rattle.cells.specs.Results.{Kept}
+use Rattle.cells.proofs.StayLaws.{stays}
 use Rattle.cells.proofs.RowLaws.{Room}
 use Rattle.cells.proofs.CopyLaws.{Copied, copy-writes-outside, copied}
 use Rattle.cells.proofs.SearchLaws.{some-alike}

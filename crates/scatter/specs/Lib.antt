@@ -2,3 +2,4 @@ pub mod Scatter
 pub mod Guarded
 pub mod Rules
 pub mod FromRoom
+pub mod Results

@@ -6,13 +6,14 @@ use mathlib.Core.List.{List}
 use native.Mathlib.Nat.{mod-eq-of-lt}
 use native.Mathlib.Omega.{arith}
 use lib.ListN.{length}
+use Rattle.shl.specs.Results.{LaneHolds, LanesHold}
 use Rattle.cells.specs.Buffer.{Buffer}
 use Rattle.cells.specs.Element.{element}
 use Rattle.cells.specs.Writes.{writtenAll}
 use Rattle.cells.specs.Over.{each}
 use Rattle.cells.proofs.NumberLaws.{element-is}
-use Rattle.cells.proofs.StayLaws.{Kept, Outside}
-use Rattle.cells.proofs.RowLaws.{Holds, row, number-row}
+use Rattle.cells.specs.Results.{Kept, Outside, Holds}
+use Rattle.cells.proofs.RowLaws.{row, number-row}
 use Rattle.cells.proofs.NumberWriteLaws.{number-held}
 use Rattle.channels.specs.Exec.{execSize}
 use Rattle.shift.proofs.SpanLaws.{span-bytes}
@@ -20,17 +21,9 @@ use Rattle.shift.proofs.ShiftLaws.{shifted-small}
 use Rattle.plan.specs.declared.Plan.{Plan}
 use Rattle.plan.proofs.PlanLaws.{ShlSound}
 use Rattle.staging.specs.Lanes.{lanesOn}
-use Rattle.staging.proofs.ResultLaws.{Enabled, destination, Destinations, others-kept, lanes-hold}
+use Rattle.staging.specs.Results.{Enabled, destination}
+use Rattle.staging.proofs.ResultLaws.{Destinations, others-kept, lanes-hold}
 use Rattle.shl.specs.Shl.{shlValue, shlMark, shlLane, shlEffect}
-
--- a lane's element afterwards: its value, and its bytes one by one, the lowest first, all under one mark
-pub record LaneHolds (p : Plan) (before after : Buffer) (lane : ℕ) : Type 0 where
-  pub value : element (p .payload .size) (after .bytes) (destination p lane) ≡ shlValue (before .bytes) p lane
-  pub each-byte : (k : ℕ) → k < p .payload .size → Holds after (destination p lane + k) (shlValue (before .bytes) p lane / 256 ^ k % 256) (shlMark (before .taint) p lane)
-
-pub record LanesHold (mask : ℕ) (p : Plan) (before after : Buffer) : Type 0 where
-  pub enabled : (lane : ℕ) → Enabled mask p lane → LaneHolds p before after lane
-  pub others : (j : ℕ) → ((lane : ℕ) → Enabled mask p lane → Outside (destination p lane) (p .payload .size) j) → Kept before after j
 
 value-small : (bytes : List ℕ) (p : Plan) (lane : ℕ) → shlValue bytes p lane < 256 ^ p .payload .size
 unfolding shlValue

@@ -1,3 +1,4 @@
 pub mod Shl
 pub mod FromRoom
 pub mod Guarded
+pub mod Results

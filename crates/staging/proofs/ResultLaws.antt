@@ -7,12 +7,14 @@ use mathlib.Core.Bool.{Bool, true, false}
 use mathlib.Core.List.{List}
 use native.Mathlib.Omega.{arith}
 use lib.ListN.{getD}
+use Rattle.staging.specs.Results.{Enabled, destination}
 use Rattle.cells.specs.Buffer.{Buffer}
 use Rattle.cells.specs.Writes.{Write, writtenAll}
 use Rattle.cells.specs.Over.{among, each}
 use Rattle.cells.proofs.WriteLaws.{bytes-kept, taint-kept}
-use Rattle.cells.proofs.StayLaws.{Kept, Outside, writesAt, stays}
-use Rattle.cells.proofs.RowLaws.{Room, Holds, row, row-outside, row-holds, kept-holds}
+use Rattle.cells.specs.Results.{Kept, Outside, Holds}
+use Rattle.cells.proofs.StayLaws.{writesAt, stays}
+use Rattle.cells.proofs.RowLaws.{Room, row, row-outside, row-holds, kept-holds}
 use Rattle.cells.proofs.LaneStayLaws.{lanes-outside, lane-stays}
 use Rattle.channels.specs.Exec.{execSize}
 use Rattle.channels.specs.Lanes.{laneOn}
@@ -20,13 +22,6 @@ use Rattle.channels.proofs.LaneLaws.{on-below-size}
 use Rattle.plan.specs.declared.Plan.{Plan}
 use Rattle.staging.specs.Lanes.{lanesOn}
 use Rattle.staging.proofs.LanesOnLaws.{lanes-on-are}
-
-abbrev pub Enabled : ℕ → Plan → ℕ → Type 0
-Enabled mask p lane = laneOn (p .control .exec) (p .control .pred) mask (p .bits) lane ≡ true
-
--- the register byte at which a lane's destination begins
-abbrev pub destination : Plan → ℕ → ℕ
-destination p lane = getD (p .payload .at) lane 0
 
 -- all lanes' destinations, of so many bytes, lie in the registers, and apart
 pub record Destinations (p : Plan) (size : ℕ) (b : Buffer) : Type 0 where

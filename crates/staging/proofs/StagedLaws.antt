@@ -16,7 +16,8 @@ use Rattle.cells.proofs.TaintLaws.{tainted-local}
 use Rattle.cells.proofs.RowLaws.{Room}
 use Rattle.cells.proofs.CopyLaws.{copy-writes-outside, copied-number, copied-taint}
 use Rattle.cells.proofs.NumberWriteLaws.{number-writes-outside, written-number, written-untainted}
-use Rattle.cells.proofs.StayLaws.{Kept, Outside, writesAt, stays}
+use Rattle.cells.specs.Results.{Kept, Outside}
+use Rattle.cells.proofs.StayLaws.{writesAt, stays}
 use Rattle.cells.proofs.LaneStayLaws.{lanes-outside, lane-stays}
 use Rattle.operands.specs.declared.Elements.{Elements}
 use Rattle.staging.specs.Sources.{elementValue, elementTainted}

@@ -5,9 +5,9 @@ use lib.ListN.{length}
 use Rattle.plan.specs.declared.Plan.{Plan}
 use Rattle.plan.specs.declared.Operation.{Operation}
 use Rattle.plan.specs.declared.Operation.the-variants as operation
-use Rattle.shl.proofs.LaneResults as shl
-use Rattle.gather.proofs.LaneResults as gather
-use Rattle.scatter.proofs.PairResults as scatter
+use Rattle.shl.specs.Results as shl
+use Rattle.gather.specs.Results as gather
+use Rattle.scatter.specs.Results as scatter
 use Rattle.step.specs.State.{Setup, State, lengthsOf}
 
 -- no RAW_SEND is completed

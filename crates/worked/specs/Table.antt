@@ -23,7 +23,7 @@ table =
     -- "Exec 0x23: size 8, offset 8."
     ∷ (is (execSize 0x23) 8)
     ∷ (is (execOffset 0x23) 8)
-    -- as a run: EM bits 8 to 15 are those of the eight lanes. SHL of 1 by 1 to UB elements, here and in the next four runs
+    -- as a run: EM bits 8 to 15 are those of the eight lanes. SHL of 1 by 1 to UB elements, here and in the next five runs
     ∷ (runs (overRegisters (hex 23 0x2423000000000000000002050401000000050401000000) (tables (4 ∷ []) (0 ∷ []) (32 ∷ []) [] []) (zeros 32) 0xffff5aff)
     (completes 23 (hex 32 0x0002000202000200000000000000000000000000000000000000000000000000)))
     -- "0x15: 8 (4+32)."

@@ -1,1 +1,1 @@
-// Document 01's starred lines, computed: one table, one statement, and no code.
+// Document 01's starred lines, as one table with one statement, and its whole case, computed; no code.

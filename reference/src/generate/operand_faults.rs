@@ -325,7 +325,7 @@ fn outside(
             .map(|part| Touch::Slot(at(*part)))
             .collect::<Vec<_>>()
     };
-    // Row 128 starts at byte 4,096 of its variable, and no variable is that long.
+    // Row 128 starts at byte 4,096 of its variable, and no variable is longer.
     for (what, least) in [("row 255", 255), ("row over 127", 128)] {
         faults.run(
             &format!("{name} {what}"),
