@@ -10,7 +10,7 @@ use Rattle.channels.specs.Bits.{bit}
 use Rattle.channels.specs.Exec.{execSize, execOffset, execOf}
 use Rattle.channels.specs.Predicate.{hasPredicate, predicateCombine, predicateInverse, ANY, ALL}
 use Rattle.channels.specs.Lanes.{anyBit, allBits, combined, inverted, predicateAgrees, maskAllows, laneOn}
-use Rattle.channels.specs.Prepared.{combinedPredicate, predicateOf, lanesOf, agreesAt, isOn}
+use Rattle.channels.specs.mirror.Prepared.{combinedPredicate, predicateOf, lanesOf, agreesAt, isOn}
 use lib.Dec.{ltb, eqb}
 
 first : (a b : Bool) → (a && b) ≡ true → a ≡ true

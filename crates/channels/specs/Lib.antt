@@ -3,4 +3,4 @@ pub mod Below
 pub mod Exec
 pub mod Predicate
 pub mod Lanes
-pub mod Prepared
+pub mod mirror

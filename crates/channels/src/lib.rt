@@ -7,7 +7,7 @@ ghost use Rattle.channels.specs.Below.{someBelow};
 ghost use Rattle.channels.specs.Exec.{execOf};
 ghost use Rattle.channels.specs.Predicate.{hasPredicate, predicateId, predicateCombine, predicateInverse};
 ghost use Rattle.channels.specs.Lanes.{inverted};
-ghost use Rattle.channels.specs.Prepared.{combinedPredicate, predicateOf, lanesOf, agreesAt, isOn};
+ghost use Rattle.channels.specs.mirror.Prepared.{combinedPredicate, predicateOf, lanesOf, agreesAt, isOn};
 
 const ANY: u8 = 1;
 

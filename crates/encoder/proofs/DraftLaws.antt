@@ -13,7 +13,7 @@ use Rattle.fields.specs.declared.Field.{Field}
 use Rattle.fields.specs.Layout.{fieldBytes, fieldRefusal, layoutBytes, layoutRefusal}
 use Rattle.fields.proofs.FieldLaws.{layout-nil, layout-cons, refusal-cons}
 use Rattle.encoder.specs.declared.Draft.{Draft}
-use Rattle.encoder.specs.Draft.{emptyDraft, withByte, withBytes, withRefusal, withField, withFields}
+use Rattle.encoder.specs.mirror.Draft.{emptyDraft, withByte, withBytes, withRefusal, withField, withFields}
 
 pub with-bytes-append : (vs ws : List ℕ) (d : Draft) → withBytes (vs ++ ws) d ≡ withBytes ws (withBytes vs d)
 unfolding withBytes

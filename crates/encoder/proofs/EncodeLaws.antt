@@ -13,7 +13,7 @@ use Rattle.decoder.proofs.FormatLaws.{instruction-bytes, instruction-refusal, i
 use Rattle.encoder.specs.declared.Draft.{Draft}
 use Rattle.encoder.specs.declared.Encoded.{Encoded}
 use Rattle.encoder.specs.declared.Encoded.the-variants as encoded
-use Rattle.encoder.specs.Draft.{emptyDraft, withFields}
+use Rattle.encoder.specs.mirror.Draft.{emptyDraft, withFields}
 use Rattle.encoder.specs.Encoding.{encodedIn, encodedInto}
 use Rattle.encoder.proofs.DraftLaws.{Holds, drafted-holds}
 

@@ -22,7 +22,7 @@ ghost use Rattle.little_endian.specs.LittleEndian.{bytesOf};
 ghost use Rattle.field_groups.specs.declared.Operand.the-variants as operand;
 ghost use Rattle.field_groups.specs.Layout.{controlFields, highField, operandFields, rawFields, accessFields, messageFields};
 ghost use Rattle.decoder.specs.Format.{shlFields, gatherFields, scatterFields, rawSendFields, instructionFields};
-ghost use Rattle.encoder.specs.Draft.{emptyDraft, withByte, withBytes, withRefusal, withField, withFields};
+ghost use Rattle.encoder.specs.mirror.Draft.{emptyDraft, withByte, withBytes, withRefusal, withField, withFields};
 ghost use Rattle.encoder.specs.Encoding.{encodedIn, encodedInto, numberOf};
 
 // How many bytes were written, or the number of the refusal.
@@ -54,7 +54,7 @@ struct Draft {
 fn high_field(code: u8, high: u32) -> Field
     ensures { λ r. ⌜ r ≡ highField code high ⌝ }
 {
-    if types::has_high_word(code) {
+    if element_types::has_high_word(code) {
         Field::Dword(high)
     } else {
         Field::Lacking(high)

@@ -7,7 +7,7 @@ use Prim.Native.Nat.{ℕ}
 use native.Mathlib.Omega.{arith}
 use lib.Dec.{eqb}
 use borrow.Author.Tests.{eqb-true}
-use Rattle.types.specs.Types.{hasHighWord}
+use Rattle.element_types.specs.Types.{hasHighWord}
 use Rattle.little_endian.specs.LittleEndian.{Bytes}
 use Rattle.reader.specs.declared.Cursor.{Cursor}
 use Rattle.reader.proofs.Laws.{cond-then}

@@ -3,7 +3,7 @@ use mathlib.Core.Path.{refl}
 use mathlib.Core.List.{List, [], _∷_, _++_}
 use mathlib.Core.Bool.{Bool, true, false, cond}
 use Prim.Native.Nat.{ℕ}
-use Rattle.types.specs.Types.{hasHighWord}
+use Rattle.element_types.specs.Types.{hasHighWord}
 use Rattle.reader.specs.declared.Cursor.{Cursor}
 use Rattle.fields.specs.declared.ByteRule.{ByteRule}
 use Rattle.fields.specs.declared.ByteRule.the-variants as byte

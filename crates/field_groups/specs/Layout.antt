@@ -2,7 +2,7 @@
 use Prim.Native.Nat.{ℕ}
 use mathlib.Core.List.{List, [], _∷_}
 use mathlib.Core.Bool.{cond}
-use Rattle.types.specs.Types.{hasHighWord}
+use Rattle.element_types.specs.Types.{hasHighWord}
 use Rattle.fields.specs.declared.ByteRule.{ByteRule}
 use Rattle.fields.specs.declared.ByteRule.the-variants as byte
 use Rattle.fields.specs.declared.WordRule.the-variants as word

@@ -4,7 +4,7 @@ use Prim.Native.Nat.{ℕ}
 use mathlib.Core.List.{List}
 use mathlib.Core.Bool.{Bool, cond}
 use lib.Dec.{eqb}
-use Rattle.types.specs.Types.{hasHighWord}
+use Rattle.element_types.specs.Types.{hasHighWord}
 use Rattle.reader.specs.declared.Cursor.{Cursor}
 use Rattle.fields.specs.declared.ByteRule.{ByteRule}
 use Rattle.fields.specs.declared.ByteRule.the-variants as byte

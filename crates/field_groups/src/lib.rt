@@ -6,7 +6,7 @@ use fields::WordField;
 use fields::WordRule;
 use reader::Cursor;
 ghost use mathlib.Core.Path.{_≡_};
-ghost use Rattle.types.specs.Types.{hasHighWord};
+ghost use Rattle.element_types.specs.Types.{hasHighWord};
 ghost use Rattle.field_groups.specs.Reading.{controlAt, generalAt, highAt, immediateAt, operandAt, rawAt, scalarAndRawsAt, accessAt, messageAt};
 
 // What stands in front of every instruction: Exec_size and Pred.
@@ -132,7 +132,7 @@ fn general_field(kernel: &[u8], cursor: Cursor) -> OperandField
 fn high_field(kernel: &[u8], cursor: Cursor, code: u8, low: u32) -> OperandField
     ensures { λ r. ⌜ r ≡ highAt (hasHighWord code) code low (now (kernel .entry)) cursor ⌝ }
 {
-    if types::has_high_word(code) {
+    if element_types::has_high_word(code) {
         match fields::dword_field(kernel, cursor) {
             DwordField::Got(high, next) => OperandField::Got(
                 Operand::Immediate(Immediate { code, low, high }),

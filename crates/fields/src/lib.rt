@@ -142,7 +142,7 @@ pub fn byte_refusal(rule: ByteRule, v: u8) -> u8
         ByteRule::NumDst => judge(v <= 16, 3),
         ByteRule::DestinationTag => tag_refusal(destination_tag_good(v), v),
         ByteRule::SourceTag => tag_refusal(source_tag_good(v), v),
-        ByteRule::ImmediateType => judge(types::is_listed(v), 3),
+        ByteRule::ImmediateType => judge(element_types::is_listed(v), 3),
     }
 }
 

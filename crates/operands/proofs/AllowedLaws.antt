@@ -5,8 +5,8 @@ use Prim.Native.Nat.{ℕ, suc, _≤_, _<_}
 use native.Mathlib.Omega.{arith}
 use lib.Dec.{eqb}
 use borrow.Author.Tests.{eqb-true, not-false}
-use Rattle.types.specs.Types.{UD, D, UW, W, UB, B, F, UQ, sizeOf}
-use Rattle.types.proofs.Sizes.{sizes, size-small, listed-size}
+use Rattle.element_types.specs.Types.{UD, D, UW, W, UB, B, F, UQ, sizeOf}
+use Rattle.element_types.proofs.Sizes.{sizes, size-small, listed-size}
 use Rattle.operands.specs.declared.TypeRule.{TypeRule}
 use Rattle.operands.specs.declared.TypeRule.the-variants as rule
 use Rattle.operands.specs.Allowed.{shiftType, dwordType, typeAllowed}

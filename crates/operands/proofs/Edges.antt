@@ -3,8 +3,8 @@ use mathlib.Core.Path.{_≡_, refl, sym, subst, fun-ext}
 use mathlib.Core.Bool.{Bool, true, false, cond, not, _&&_}
 use Prim.Native.Nat.{ℕ, _+_, _*_, _%_}
 use lib.Dec.{leb, eqb}
-use Rattle.types.specs.Types.{UD, UW, F, sizeOf}
-use Rattle.types.proofs.Sizes.{sizes}
+use Rattle.element_types.specs.Types.{UD, UW, F, sizeOf}
+use Rattle.element_types.proofs.Sizes.{sizes}
 use Rattle.field_groups.specs.declared.General.{General}
 use Rattle.regions.specs.declared.Role.{Role}
 use Rattle.regions.specs.declared.Variable.{Variable}

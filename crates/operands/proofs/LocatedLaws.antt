@@ -7,7 +7,7 @@ use native.Mathlib.Nat.{mul-le-mul-right}
 use lib.Dec.{ltb, leb, eqb}
 use lib.ListN.{length, getD}
 use borrow.Author.Tests.{ltb-true, leb-true, not-false}
-use Rattle.types.specs.Types.{sizeOf}
+use Rattle.element_types.specs.Types.{sizeOf}
 use Rattle.tables.proofs.All.{right}
 use Rattle.tables.proofs.Placement.{Placed}
 use Rattle.channels.specs.Exec.{execSize}

@@ -4,7 +4,7 @@ use mathlib.Core.Bool.{Bool, cond, not}
 use Prim.Native.Nat.{ℕ, _<_}
 use native.Mathlib.Omega.{arith}
 use borrow.Author.Tests.{not-false}
-use Rattle.types.specs.Types.{sizeOf}
+use Rattle.element_types.specs.Types.{sizeOf}
 use Rattle.channels.specs.Exec.{execSize}
 use Rattle.field_groups.specs.declared.General.{General}
 use Rattle.field_groups.specs.declared.Immediate.{Immediate}

@@ -3,7 +3,7 @@
 use Prim.Native.Nat.{ℕ}
 use mathlib.Core.Bool.{Bool, _||_}
 use lib.Dec.{eqb}
-use Rattle.types.specs.Types.{UD, D, UW, W, UB, B, F, UQ, isListed}
+use Rattle.element_types.specs.Types.{UD, D, UW, W, UB, B, F, UQ, isListed}
 use Rattle.operands.specs.declared.TypeRule.{TypeRule}
 use Rattle.operands.specs.declared.TypeRule.the-variants as rule
 

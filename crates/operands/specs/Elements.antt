@@ -2,7 +2,7 @@
 use Prim.Native.Nat.{ℕ, _%_, _^_}
 use mathlib.Core.Bool.{true, false}
 use lib.ListN.{replicate}
-use Rattle.types.specs.Types.{sizeOf, isSigned}
+use Rattle.element_types.specs.Types.{sizeOf, isSigned}
 use Rattle.regions.specs.Positions.{lanePositions}
 use Rattle.operands.specs.declared.Located.{Located}
 

@@ -8,7 +8,7 @@ use regions::Variable;
 ghost use mathlib.Core.Path.{_≡_};
 ghost use Prim.Native.Nat.{_<_};
 ghost use lib.ListN.{getD};
-ghost use Rattle.types.specs.Types.{sizeOf};
+ghost use Rattle.element_types.specs.Types.{sizeOf};
 ghost use Rattle.operands.specs.Allowed.{shiftType, dwordType, typeAllowed};
 ghost use Rattle.operands.specs.Variables.{variables, variableAt};
 ghost use Rattle.operands.specs.Elements.{lowBytes, refusal};
@@ -41,18 +41,18 @@ pub struct Located {
 fn shift_type(code: u8) -> bool
     ensures { λ r. ⌜ r ≡ shiftType code ⌝ }
 {
-    (code == types::UD)
-        | (code == types::D)
-        | (code == types::UW)
-        | (code == types::W)
-        | (code == types::UB)
-        | (code == types::B)
+    (code == element_types::UD)
+        | (code == element_types::D)
+        | (code == element_types::UW)
+        | (code == element_types::W)
+        | (code == element_types::UB)
+        | (code == element_types::B)
 }
 
 fn dword_type(code: u8) -> bool
     ensures { λ r. ⌜ r ≡ dwordType code ⌝ }
 {
-    (code == types::UD) | (code == types::D) | (code == types::F)
+    (code == element_types::UD) | (code == element_types::D) | (code == element_types::F)
 }
 
 fn type_allowed(rule: TypeRule, code: u8) -> bool
@@ -60,10 +60,10 @@ fn type_allowed(rule: TypeRule, code: u8) -> bool
 {
     match rule {
         TypeRule::Shift => shift_type(code),
-        TypeRule::Offset => code == types::UD,
+        TypeRule::Offset => code == element_types::UD,
         TypeRule::Dword => dword_type(code),
-        TypeRule::Address => code == types::UQ,
-        TypeRule::Any => types::is_listed(code),
+        TypeRule::Address => code == element_types::UQ,
+        TypeRule::Any => element_types::is_listed(code),
     }
 }
 
@@ -130,8 +130,8 @@ fn locate_general(
         return refused(7);
     }
     let elements = Elements {
-        size: types::size_of(code),
-        signed: types::is_signed(code),
+        size: element_types::size_of(code),
+        signed: element_types::is_signed(code),
         immediate: false,
         value: 0,
         at: regions::element_positions(role, general, variable),
@@ -160,10 +160,10 @@ fn locate_immediate(rule: TypeRule, immediate: Immediate) -> Located
     if !type_allowed(rule, code) {
         return refused(4);
     }
-    let size = types::size_of(code);
+    let size = element_types::size_of(code);
     let elements = Elements {
         size,
-        signed: types::is_signed(code),
+        signed: element_types::is_signed(code),
         immediate: true,
         value: low_bytes(
             (immediate.low as u64) + 4294967296 * (immediate.high as u64),
@@ -240,13 +240,13 @@ fn raw_of(rule: TypeRule, bytes: u32, offset: u16, variable: Variable) -> Locate
     if !type_allowed(rule, code) {
         return refused(4);
     }
-    let size = types::size_of(code);
+    let size = element_types::size_of(code);
     if !raw_good(variable, size, offset, bytes) {
         return refused(7);
     }
     let elements = Elements {
         size,
-        signed: types::is_signed(code),
+        signed: element_types::is_signed(code),
         immediate: false,
         value: 0,
         at: regions::raw_positions(variable, offset),

@@ -6,7 +6,7 @@ use mathlib.Core.Bool.{not}
 use native.Mathlib.Omega.{arith}
 use lib.Dec.{ltb}
 use lib.ListN.{length}
-use Rattle.types.specs.Types.{UD, UQ}
+use Rattle.element_types.specs.Types.{UD, UQ}
 use Rattle.channels.specs.Exec.{execSize}
 use Rattle.tables.specs.Tables.{Tables}
 use Rattle.field_groups.specs.declared.Control.{Control}

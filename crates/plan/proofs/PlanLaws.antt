@@ -7,8 +7,8 @@ use native.Mathlib.Omega.{arith}
 use lib.Dec.{ltb}
 use lib.ListN.{length}
 use borrow.Author.Tests.{ltb-true, not-false}
-use Rattle.types.specs.Types.{UD, UQ}
-use Rattle.types.proofs.Sizes.{sizes}
+use Rattle.element_types.specs.Types.{UD, UQ}
+use Rattle.element_types.proofs.Sizes.{sizes}
 use Rattle.tables.specs.declared.Lengths.{Lengths}
 use Rattle.tables.specs.Tables.{Tables, tablesGood}
 use Rattle.tables.proofs.Laws.{placed, surface-inside}

@@ -6,7 +6,7 @@ use native.Mathlib.Numerals.{add-one}
 use native.Mathlib.Nat.{not-suc-le-zero, mul-le-mul-right}
 use lib.Dec.{ltb}
 use borrow.Author.Count.{below-more}
-use Rattle.types.proofs.Sizes.{sizes}
+use Rattle.element_types.proofs.Sizes.{sizes}
 use Rattle.channels.specs.Exec.{execSize}
 use Rattle.regions.proofs.Bounds.{times}
 use Rattle.regions.proofs.ReachLaws.{cond-either}

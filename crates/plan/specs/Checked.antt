@@ -6,7 +6,7 @@ use mathlib.Core.Bool.{cond, not}
 use mathlib.Core.List.{List}
 use lib.Dec.{ltb}
 use lib.ListN.{length}
-use Rattle.types.specs.Types.{UD, UQ}
+use Rattle.element_types.specs.Types.{UD, UQ}
 use Rattle.tables.specs.Tables.{Tables}
 use Rattle.tables.specs.Surfaces.{surfaceLength, surfaceStart}
 use Rattle.decoder.specs.declared.Shl.{Shl}

@@ -2,7 +2,7 @@
 use Prim.Native.Nat.{ℕ, zero, suc, _+_, _*_, _-_, _/_, _%_, _^_}
 use mathlib.Core.Bool.{cond}
 use lib.Dec.{ltb, eqb}
-use Rattle.types.specs.Types.{UD, sizeOf}
+use Rattle.element_types.specs.Types.{UD, sizeOf}
 use Rattle.tables.specs.Lengths.{registerSize}
 use Rattle.channels.specs.Exec.{execSize}
 

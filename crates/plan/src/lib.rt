@@ -118,7 +118,7 @@ fn predicate_bits(predicates: &[u32], pred: u16) -> u32
 fn elements_needed(exec: u8, code: u8) -> u32
     ensures { λ r. ⌜ r ≡ elementsNeeded exec code ⌝ }
 {
-    (channels::split(exec).size as u32) * (types::size_of(code) as u32)
+    (channels::split(exec).size as u32) * (element_types::size_of(code) as u32)
 }
 
 fn enabled_channels(channels: u8) -> u8
@@ -139,7 +139,7 @@ fn scatter_needed(exec: u8, channels: u8) -> u32
     ensures { λ r. ⌜ r ≡ scatterNeeded exec channels ⌝ }
 {
     let size = channels::split(exec).size as u32;
-    let dword = types::size_of(types::UD) as u32;
+    let dword = element_types::size_of(element_types::UD) as u32;
     let enabled = enabled_channels(channels) as u32;
     let stride = channel_stride(exec) as u32;
     if 0 < enabled {
@@ -304,7 +304,7 @@ fn check_gather(
     let control = instruction.control;
     let exec = control.exec;
     let address = instruction.offset;
-    let needed = elements_needed(exec, types::UD);
+    let needed = elements_needed(exec, element_types::UD);
     let offset = operands::locate_vector(
         types,
         starts,
@@ -389,7 +389,7 @@ fn check_scatter(
     if 0 < address.number {
         return refused(address.number);
     }
-    let offsets = elements_needed(exec, types::UQ);
+    let offsets = elements_needed(exec, element_types::UQ);
     let element = operands::locate_raw(
         types,
         starts,

@@ -3,7 +3,7 @@ use Prim.Native.Nat.{ℕ, _*_, _/_, _%_, _≤_}
 use native.Mathlib.Omega.{arith}
 use native.Mathlib.Nat.{mul-le-mul, div-le-self, mod-le, le-trans}
 use Rattle.regions.specs.declared.Grid.{Grid}
-use Rattle.regions.specs.Grid.{gridElement}
+use Rattle.regions.specs.mirror.Grid.{gridElement}
 
 pub times : (a b m n : ℕ) → a ≤ m → b ≤ n → a * b ≤ m * n
 times a b m n h k = mul-le-mul h k

@@ -3,8 +3,8 @@ use mathlib.Core.Path.{_≡_}
 use mathlib.Core.Bool.{cond, not, _&&_, _||_}
 use Prim.Native.Nat.{ℕ, _+_, _*_}
 use lib.Dec.{ltb, eqb}
-use Rattle.types.specs.Types.{UW, sizeOf}
-use Rattle.types.proofs.Sizes.{sizes}
+use Rattle.element_types.specs.Types.{UW, sizeOf}
+use Rattle.element_types.proofs.Sizes.{sizes}
 use Rattle.field_groups.specs.declared.General.{General}
 use Rattle.regions.specs.declared.Role.{Role}
 use Rattle.regions.specs.declared.Role.the-variants as role

@@ -10,7 +10,7 @@ use Rattle.regions.specs.declared.Role.{Role}
 use Rattle.regions.specs.declared.Role.the-variants as role
 use Rattle.regions.specs.declared.Grid.{Grid}
 use Rattle.regions.specs.Regions.{strideOf, sourceElement, elementOf}
-use Rattle.regions.specs.Grid.{gridElement, gridOf}
+use Rattle.regions.specs.mirror.Grid.{gridElement, gridOf}
 use Rattle.regions.proofs.ReachLaws.{cond-either}
 
 none : (n : ℕ) → 2 ≤ n → n ≤ 6 → (n ≡ 2 → ⊥) → (n ≡ 3 → ⊥) → (n ≡ 4 → ⊥) → (n ≡ 5 → ⊥) → (n ≡ 6 → ⊥) → ⊥

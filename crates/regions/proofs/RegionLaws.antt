@@ -6,8 +6,8 @@ use native.Mathlib.Omega.{arith}
 use native.Mathlib.Nat.{mul-le-mul-right, mul-add-div-right, mul-add-mod-self-right, div-eq-of-lt, mod-eq-of-lt}
 use lib.Dec.{leb}
 use borrow.Author.Tests.{leb-true}
-use Rattle.types.specs.Types.{sizeOf, isListed}
-use Rattle.types.proofs.Sizes.{register-whole}
+use Rattle.element_types.specs.Types.{sizeOf, isListed}
+use Rattle.element_types.proofs.Sizes.{register-whole}
 use Rattle.tables.specs.Lengths.{registerSize}
 use Rattle.tables.proofs.All.{left, right, all3, all4}
 use Rattle.field_groups.specs.declared.General.{General}

@@ -1,4 +1,4 @@
 pub mod Regions
 pub mod Reach
-pub mod Grid
+pub mod mirror
 pub mod Positions

@@ -3,7 +3,7 @@
 use Prim.Native.Nat.{ℕ, zero, suc, _+_, _*_, _-_, _/_}
 use mathlib.Core.Bool.{Bool, cond, _&&_}
 use lib.Dec.{ltb, leb}
-use Rattle.types.specs.Types.{sizeOf}
+use Rattle.element_types.specs.Types.{sizeOf}
 use Rattle.tables.specs.Lengths.{registerSize}
 use Rattle.tables.specs.Every.{every}
 use Rattle.regions.specs.declared.Variable.{Variable}

@@ -2,10 +2,10 @@
 use field_groups::General;
 ghost use mathlib.Core.Path.{_≡_};
 ghost use Prim.Native.Nat.{_+_, _-_, _/_, _%_, _<_};
-ghost use Rattle.types.specs.Types.{sizeOf};
+ghost use Rattle.element_types.specs.Types.{sizeOf};
 ghost use Rattle.regions.specs.Regions.{strideOf, sourceRegionGood, destinationRegionGood, regionGood, firstElement, elementOf};
 ghost use Rattle.regions.specs.Reach.{smaller, larger, lowest, highest, twoRegisters, elementsGood};
-ghost use Rattle.regions.specs.Grid.{gridElement, gridOf};
+ghost use Rattle.regions.specs.mirror.Grid.{gridElement, gridOf};
 ghost use Rattle.regions.specs.Positions.{lanePositions, elementByte};
 
 // <0;1,0>
@@ -195,7 +195,7 @@ fn two_registers(first: u64, end: u64) -> bool
 pub fn elements_good(role: Role, general: General, variable: Variable, lanes: u8) -> bool
     ensures { λ r. ⌜ r ≡ elementsGood variable (elementOf role general (sizeOf (variable .code))) lanes ⌝ }
 {
-    let size = types::size_of(variable.code);
+    let size = element_types::size_of(variable.code);
     let grid = grid_of(role, general, size);
     let reach = reach_of(grid, lanes);
     let start = variable.start as u64;
@@ -224,7 +224,7 @@ fn lane_positions(base: u32, grid: Grid, size: u8) -> [u32; 32]
 pub fn element_positions(role: Role, general: General, variable: Variable) -> [u32; 32]
     ensures { λ r. ⌜ r ≡ lanePositions (elementByte (variable .start) (sizeOf (variable .code)) (elementOf role general (sizeOf (variable .code)))) ⌝ }
 {
-    let size = types::size_of(variable.code);
+    let size = element_types::size_of(variable.code);
     let grid = grid_of(role, general, size);
     lane_positions(variable.start as u32, grid, size)
 }
@@ -233,7 +233,7 @@ pub fn element_positions(role: Role, general: General, variable: Variable) -> [u
 pub fn raw_positions(variable: Variable, offset: u16) -> [u32; 32]
     ensures { λ r. ⌜ r ≡ lanePositions (elementByte (variable .start + offset) (sizeOf (variable .code)) (λ k. k)) ⌝ }
 {
-    let size = types::size_of(variable.code);
+    let size = element_types::size_of(variable.code);
     let consecutive = Grid {
         first: 0,
         vertical: 1,

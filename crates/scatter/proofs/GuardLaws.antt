@@ -10,7 +10,7 @@ use Rattle.cells.specs.Effect.{refused}
 use Rattle.cells.proofs.EffectLaws.{unless-refused, unless-passed}
 use Rattle.channels.specs.Exec.{execSize}
 use Rattle.channels.specs.Lanes.{laneOn}
-use Rattle.channels.specs.Prepared.{lanesOf, isOn}
+use Rattle.channels.specs.mirror.Prepared.{lanesOf, isOn}
 use Rattle.channels.specs.declared.Lanes.{Lanes}
 use Rattle.channels.proofs.LaneLaws.{lane-told}
 use Rattle.plan.specs.declared.Plan.{Plan}

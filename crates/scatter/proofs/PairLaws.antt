@@ -7,7 +7,7 @@ use Rattle.cells.specs.Over.{amongFrom, among, some}
 use Rattle.cells.proofs.SearchLaws.{some-begun}
 use Rattle.channels.specs.Bits.{bit}
 use Rattle.channels.specs.Exec.{execSize}
-use Rattle.channels.specs.Prepared.{isOn}
+use Rattle.channels.specs.mirror.Prepared.{isOn}
 use Rattle.channels.specs.declared.Lanes.{Lanes}
 use Rattle.plan.specs.declared.Plan.{Plan}
 use Rattle.scatter.specs.declared.Rule.{Rule}

@@ -22,7 +22,7 @@ use Rattle.cells.proofs.SearchLaws.{some-alike}
 use Rattle.cells.proofs.LaneLaws.{lanes-alike}
 use Rattle.channels.specs.Bits.{bit}
 use Rattle.channels.specs.Exec.{execSize}
-use Rattle.channels.specs.Prepared.{isOn}
+use Rattle.channels.specs.mirror.Prepared.{isOn}
 use Rattle.channels.specs.declared.Lanes.{Lanes}
 use Rattle.plan.specs.declared.Plan.{Plan}
 use Rattle.plan.specs.Needed.{enabledBelow, channelStride}

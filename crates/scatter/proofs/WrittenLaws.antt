@@ -10,7 +10,7 @@ use Rattle.cells.proofs.LaneLaws.{lanes-begun}
 use Rattle.cells.proofs.EffectLaws.{nothing-written}
 use Rattle.channels.specs.Bits.{bit}
 use Rattle.channels.specs.Exec.{execSize}
-use Rattle.channels.specs.Prepared.{isOn}
+use Rattle.channels.specs.mirror.Prepared.{isOn}
 use Rattle.channels.specs.declared.Lanes.{Lanes}
 use Rattle.plan.specs.declared.Plan.{Plan}
 use Rattle.scatter.specs.Scatter.{channelsOn}

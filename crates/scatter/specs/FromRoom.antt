@@ -10,7 +10,7 @@ use Rattle.cells.specs.Writes.{Write, writtenAll, copyWrites}
 use Rattle.cells.specs.Over.{among, each, some}
 use Rattle.cells.specs.Effect.{Effect, unless}
 use Rattle.channels.specs.Exec.{execSize}
-use Rattle.channels.specs.Prepared.{isOn}
+use Rattle.channels.specs.mirror.Prepared.{isOn}
 use Rattle.channels.specs.declared.Lanes.{Lanes}
 use Rattle.plan.specs.declared.Plan.{Plan}
 use Rattle.plan.specs.Needed.{enabledBelow, channelStride}

@@ -12,7 +12,7 @@ ghost use Rattle.cells.specs.Buffer.{buffer};
 ghost use Rattle.cells.specs.Writes.{writtenAll};
 ghost use Rattle.cells.specs.Over.{each, some};
 ghost use Rattle.channels.specs.Bits.{bit};
-ghost use Rattle.channels.specs.Prepared.{isOn};
+ghost use Rattle.channels.specs.mirror.Prepared.{isOn};
 ghost use Rattle.plan.specs.Needed.{enabledBelow};
 ghost use Rattle.scatter.specs.Scatter.{channelsOn, outside};
 ghost use Rattle.scatter.specs.Guarded.{scatterFits, scatterGuarded};

@@ -8,7 +8,7 @@ use lib.Dec.{leb}
 use lib.IntN.{ℤ, pos, _*ℤ_}
 use borrow.Author.Tests.{le-leb, leb-true}
 use Rattle.shift.specs.Exact.{span, lowest, exactly, modulo, shifted}
-use Rattle.shift.specs.Total.{totalShift}
+use Rattle.shift.specs.mirror.Total.{totalShift}
 use Rattle.shift.proofs.SpanLaws.{power-some, span-some, span-small, span-whole, span-twice}
 use Rattle.shift.proofs.ExactLaws.{lowest-small, difference}
 use Rattle.shift.proofs.RemainderLaws.{modulo-small}

@@ -1,2 +1,2 @@
 pub mod Exact
-pub mod Total
+pub mod mirror

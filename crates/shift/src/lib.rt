@@ -2,7 +2,7 @@
 ghost use mathlib.Core.Path.{_≡_};
 ghost use Prim.Native.Nat.{_≤_, _^_};
 ghost use Rattle.shift.specs.Exact.{span, exactly, modulo, shifted};
-ghost use Rattle.shift.specs.Total.{totalShift};
+ghost use Rattle.shift.specs.mirror.Total.{totalShift};
 
 // How many numbers there are of so many bytes.
 fn span_of(size: u8) -> u64

@@ -6,7 +6,7 @@ use lib.ListN.{getD}
 use Rattle.cells.specs.Buffer.{Buffer, markOf, anyTainted}
 use Rattle.cells.specs.Element.{element}
 use Rattle.cells.specs.Writes.{Write, numberWrites}
-use Rattle.shift.specs.Total.{totalShift}
+use Rattle.shift.specs.mirror.Total.{totalShift}
 use Rattle.plan.specs.declared.Plan.{Plan}
 
 unfoldable pub roomValue : List ℕ → Plan → ℕ → ℕ

@@ -5,8 +5,8 @@ use mathlib.Core.List.{List, [], _∷_}
 use Prim.Native.Nat.{ℕ, suc, _-_, _^_}
 use native.Mathlib.Omega.{arith}
 use lib.ListN.{replicate}
-use Rattle.types.specs.Types.{UD, UW, UB, F, UQ, sizeOf, isListed}
-use Rattle.types.proofs.Sizes.{sizes, size-listed, unlisted}
+use Rattle.element_types.specs.Types.{UD, UW, UB, F, UQ, sizeOf, isListed}
+use Rattle.element_types.proofs.Sizes.{sizes, size-listed, unlisted}
 use Rattle.tables.specs.declared.Lengths.{Lengths}
 use Rattle.tables.specs.Lengths.{registersGood, addressesGood, taintGood, lengthsGood}
 use Rattle.tables.specs.Every.{every}

@@ -6,8 +6,8 @@ use Prim.Native.Nat.{ℕ, _+_, _*_, _-_, _/_, _%_, _≤_, _<_}
 use lib.Dec.{leb, eqb}
 use lib.ListN.{length, getD}
 use borrow.Author.Tests.{leb-true, eqb-true, le-leb, lt-leb}
-use Rattle.types.specs.Types.{sizeOf, isListed}
-use Rattle.types.proofs.Sizes.{listed-size}
+use Rattle.element_types.specs.Types.{sizeOf, isListed}
+use Rattle.element_types.proofs.Sizes.{listed-size}
 use Rattle.tables.specs.Lengths.{registerSize}
 use Rattle.tables.specs.Every.{every}
 use Rattle.tables.specs.Variables.{lineGood, variableGood, variableGoodAt, variablesGood}

@@ -4,7 +4,7 @@ use mathlib.Core.Bool.{Bool, cond, _&&_}
 use mathlib.Core.List.{List}
 use lib.Dec.{leb, eqb}
 use lib.ListN.{length, getD}
-use Rattle.types.specs.Types.{sizeOf, isListed}
+use Rattle.element_types.specs.Types.{sizeOf, isListed}
 use Rattle.tables.specs.Lengths.{registerSize}
 use Rattle.tables.specs.Every.{every}
 

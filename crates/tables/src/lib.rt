@@ -90,14 +90,14 @@ fn line_good(start: usize, bytes: usize) -> bool
 fn variable_good(registers: usize, code: u8, start: u16, count: u16) -> bool
     ensures { λ r. ⌜ r ≡ variableGood registers code start count ⌝ }
 {
-    if !types::is_listed(code) {
+    if !element_types::is_listed(code) {
         return false;
     }
     if count < 1 {
         return false;
     }
     let first = start as usize;
-    let size = types::size_of(code) as usize;
+    let size = element_types::size_of(code) as usize;
     let bytes = count as usize * size;
     if registers < first + bytes {
         return false;

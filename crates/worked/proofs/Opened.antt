@@ -5,7 +5,7 @@ use Rattle.fields.specs.Reading.{byteFieldAt, wordFieldAt, dwordFieldAt}
 use Rattle.fields.specs.Rules.{judged, execGood, scatterExecGood, predicateGood, channelsGood, sourceCountGood, destinationTagGood, sourceTagGood, tagRefusal, byteRefusal, wordRefusal}
 use Rattle.field_groups.specs.Reading.{controlAt, highAt, operandAt, scalarAndRawsAt, accessAt, messageAt}
 use Rattle.decoder.specs.Decoding.{shlAt, gatherAt, scatterAt, svmAt, rawSendAt, instructionAt}
-use Rattle.types.specs.Types.{sizeOf, isListed, isSigned, hasHighWord}
+use Rattle.element_types.specs.Types.{sizeOf, isListed, isSigned, hasHighWord}
 use Rattle.channels.specs.Below.{someBelow, everyBelow}
 use Rattle.channels.specs.Bits.{bit, bitField}
 use Rattle.channels.specs.Exec.{execSize, maskControl, maskNumber, execOffset, noMask}

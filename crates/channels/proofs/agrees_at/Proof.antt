@@ -1,6 +1,6 @@
 -- `channels::agrees_at` meets its contract: at each return, what the calls and tests on the way say picks the case of `Prepared`.
 use borrow.Author.Needs.{needs}
-use Rattle.channels.specs.Prepared.{agreesAt}
+use Rattle.channels.specs.mirror.Prepared.{agreesAt}
 use Rattle.channels.proofs.agrees_at.Statement.{statement}
 use Rattle.channels.proofs.agrees_at.Tie as tie
 

@@ -1,7 +1,7 @@
 -- `channels::combine` meets its contract: at each return the tests on the way pick the case of `Prepared`; some bit 1 is any, no bit 0 is all.
 use borrow.Author.Needs.{needs}
 use borrow.Author.Tests.{eq-eqb, ne-eqb}
-use Rattle.channels.specs.Prepared.{combinedPredicate}
+use Rattle.channels.specs.mirror.Prepared.{combinedPredicate}
 use Rattle.channels.proofs.BelowLaws.{some-true, none-false}
 use Rattle.channels.proofs.combine.Statement.{statement}
 use Rattle.channels.proofs.combine.Tie as tie

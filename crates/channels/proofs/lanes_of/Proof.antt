@@ -1,6 +1,6 @@
 -- `channels::lanes_of` meets its contract: at each return, what the calls and tests on the way say picks the case of `Prepared`.
 use borrow.Author.Needs.{needs}
-use Rattle.channels.specs.Prepared.{lanesOf}
+use Rattle.channels.specs.mirror.Prepared.{lanesOf}
 use Rattle.channels.proofs.lanes_of.Statement.{statement}
 use Rattle.channels.proofs.lanes_of.Tie as tie
 

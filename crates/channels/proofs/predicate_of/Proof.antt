@@ -1,6 +1,6 @@
 -- `channels::predicate_of` meets its contract: at each return, what the calls and tests on the way say picks the case of `Prepared`.
 use borrow.Author.Needs.{needs}
-use Rattle.channels.specs.Prepared.{predicateOf}
+use Rattle.channels.specs.mirror.Prepared.{predicateOf}
 use Rattle.channels.proofs.predicate_of.Statement.{statement}
 use Rattle.channels.proofs.predicate_of.Tie as tie
 

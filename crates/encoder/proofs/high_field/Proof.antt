@@ -1,7 +1,7 @@
 -- `encoder::high_field` meets its contract: each branch is a case of `highField`.
 use Rattle.field_groups.proofs.LayoutLaws.{high-field}
 use borrow.Author.Needs.{needs}
-use Rattle.encoder.specs.Draft.{}
+use Rattle.encoder.specs.mirror.Draft.{}
 use Rattle.encoder.proofs.high_field.Statement.{statement}
 use Rattle.encoder.proofs.high_field.Tie as tie
 

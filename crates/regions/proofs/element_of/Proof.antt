@@ -2,7 +2,7 @@
 use Prim.Native.Nat.{_*_, _≤_}
 use native.Mathlib.Omega.{arith}
 use borrow.Author.Needs.{needs}
-use Rattle.regions.specs.Grid.{gridElement}
+use Rattle.regions.specs.mirror.Grid.{gridElement}
 use Rattle.regions.proofs.Bounds.{times}
 use Rattle.regions.proofs.element_of.Statement.{statement}
 use Rattle.regions.proofs.element_of.Tie as tie

@@ -5,7 +5,7 @@ use Prim.Native.Nat.{ℕ, _+_, _*_, _-_, _≤_}
 use native.Mathlib.Omega.{arith}
 use lib.Dec.{ltb, eqb}
 use borrow.Author.Needs.{needs}
-use Rattle.types.specs.Types.{sizeOf}
+use Rattle.element_types.specs.Types.{sizeOf}
 use Rattle.regions.specs.declared.Variable.{Variable}
 use Rattle.regions.specs.declared.Reach.{Reach}
 use Rattle.regions.specs.Reach.{lowest, highest, twoRegisters, reachGood, elementsGood}

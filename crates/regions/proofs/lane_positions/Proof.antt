@@ -6,7 +6,7 @@ use native.Mathlib.Nat.{le-antisymm}
 use borrow.Author.Needs.{needs}
 use lib.ListN.{replicate}
 use Rattle.regions.specs.Positions.{filled, elementByte, lanePositions}
-use Rattle.regions.specs.Grid.{gridElement}
+use Rattle.regions.specs.mirror.Grid.{gridElement}
 use Rattle.regions.proofs.Bounds.{times, element-small}
 use Rattle.regions.proofs.PositionLaws.{filled-next}
 use Rattle.regions.proofs.lane_positions.Statement.{statement}

@@ -6,7 +6,7 @@ use native.Mathlib.Nat.{le-antisymm}
 use borrow.Author.Needs.{needs}
 use Rattle.regions.specs.declared.Reach.{Reach}
 use Rattle.regions.specs.Reach.{lowest, highest}
-use Rattle.regions.specs.Grid.{gridElement}
+use Rattle.regions.specs.mirror.Grid.{gridElement}
 use Rattle.regions.proofs.ReachLaws.{lowest-next, highest-next}
 use Rattle.regions.proofs.reach_of.Statement.{statement}
 use Rattle.regions.proofs.reach_of.Tie as tie

@@ -10,7 +10,7 @@ use native.Mathlib.Omega.{arith}
 use Rattle.cells.specs.Over.{amongFrom, some}
 use Rattle.cells.proofs.SearchLaws.{some-turn, some-turn-off, some-turn-miss, some-hit, some-over}
 use Rattle.channels.specs.Bits.{bit}
-use Rattle.channels.specs.Prepared.{isOn}
+use Rattle.channels.specs.mirror.Prepared.{isOn}
 use Rattle.channels.specs.declared.Exec.{Exec}
 use Rattle.scatter.specs.Rules.{breaks}
 use Rattle.scatter.specs.FromRoom.{roomTarget, rowBreaks, someBreaks}

@@ -8,7 +8,7 @@ use mathlib.Core.Bool.{_||_}
 use native.Mathlib.Omega.{arith}
 use Rattle.cells.specs.Over.{amongFrom, some}
 use Rattle.cells.proofs.SearchLaws.{some-more, some-all}
-use Rattle.channels.specs.Prepared.{isOn}
+use Rattle.channels.specs.mirror.Prepared.{isOn}
 use Rattle.channels.specs.declared.Exec.{Exec}
 use Rattle.scatter.specs.FromRoom.{roomTainted, preparedOn}
 use Rattle.scatter.proofs.PairLaws.{lanes-search}

@@ -10,7 +10,7 @@ use Rattle.cells.specs.Buffer.{buffer}
 use Rattle.cells.specs.Writes.{writtenAll}
 use Rattle.cells.specs.Over.{amongFrom, each}
 use Rattle.cells.proofs.LaneLaws.{lanes-turn, lanes-over}
-use Rattle.channels.specs.Prepared.{isOn}
+use Rattle.channels.specs.mirror.Prepared.{isOn}
 use Rattle.channels.specs.declared.Exec.{Exec}
 use Rattle.scatter.specs.FromRoom.{roomPair, rowWrites}
 use Rattle.scatter.proofs.WrittenLaws.{row-written}

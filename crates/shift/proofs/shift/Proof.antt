@@ -1,5 +1,5 @@
 -- `shift::shift` meets its contract: at most four bytes are shifted, of more the answer is 0.
-use Rattle.shift.specs.Total.{totalShift}
+use Rattle.shift.specs.mirror.Total.{totalShift}
 use Rattle.shift.proofs.ShiftLaws.{small-told}
 use Rattle.shift.proofs.shift.Statement.{statement}
 use Rattle.shift.proofs.shift.Tie as tie

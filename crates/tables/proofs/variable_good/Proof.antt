@@ -6,8 +6,8 @@ use native.Mathlib.Omega.{arith}
 use native.Mathlib.Nat.{mul-le-mul}
 use borrow.Author.Needs.{needs}
 use borrow.Author.Tests.{le-leb, lt-leb, eq-eqb, ne-eqb, not-true, not-false}
-use Rattle.types.specs.Types.{sizeOf, isListed}
-use Rattle.types.proofs.Sizes.{listed-size}
+use Rattle.element_types.specs.Types.{sizeOf, isListed}
+use Rattle.element_types.proofs.Sizes.{listed-size}
 use Rattle.tables.specs.Variables.{variableGood}
 use Rattle.tables.proofs.variable_good.Statement.{statement}
 use Rattle.tables.proofs.variable_good.Tie as tie

@@ -1,7 +1,7 @@
 -- `channels::Lanes.on` meets its contract: at each return, what the calls and tests on the way say picks the case of `Prepared`.
 use borrow.Author.Needs.{needs}
 use borrow.Author.Tests.{lt-ltb, le-ltb}
-use Rattle.channels.specs.Prepared.{isOn}
+use Rattle.channels.specs.mirror.Prepared.{isOn}
 use Rattle.channels.proofs.Lanes.on.Statement.{statement}
 use Rattle.channels.proofs.Lanes.on.Tie as tie
 

@@ -1,6 +1,6 @@
 -- `encoder::Draft::empty` meets its contract: it is `emptyDraft` as it stands.
 use mathlib.Core.Path.{refl}
-use Rattle.encoder.specs.Draft.{emptyDraft}
+use Rattle.encoder.specs.mirror.Draft.{emptyDraft}
 use Rattle.encoder.proofs.Draft.empty.Statement.{statement}
 use Rattle.encoder.proofs.Draft.empty.Tie as tie
 

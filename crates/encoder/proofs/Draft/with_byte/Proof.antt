@@ -1,7 +1,7 @@
 -- `encoder::Draft::with_byte` meets its contract: the test of room picks the case of `withByte`.
 use borrow.Author.Needs.{needs}
 use borrow.Author.Tests.{lt-ltb, le-ltb}
-use Rattle.encoder.specs.Draft.{withByte}
+use Rattle.encoder.specs.mirror.Draft.{withByte}
 use Rattle.encoder.proofs.Draft.with_byte.Statement.{statement}
 use Rattle.encoder.proofs.Draft.with_byte.Tie as tie
 

@@ -2,7 +2,7 @@
 use Rattle.little_endian.proofs.Parts.{one-byte}
 use Rattle.fields.proofs.FieldLaws.{byte-field, word-field, dword-field, lacking-field}
 use borrow.Author.Needs.{needs}
-use Rattle.encoder.specs.Draft.{withField, withBytes}
+use Rattle.encoder.specs.mirror.Draft.{withField, withBytes}
 use Rattle.encoder.proofs.Draft.with_field.Statement.{statement}
 use Rattle.encoder.proofs.Draft.with_field.Tie as tie
 

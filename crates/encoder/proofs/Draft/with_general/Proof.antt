@@ -1,7 +1,7 @@
 -- `encoder::Draft::with_general` meets its contract: one call for each field, in order.
 use Rattle.field_groups.proofs.LayoutLaws.{general-fields}
 use borrow.Author.Needs.{needs}
-use Rattle.encoder.specs.Draft.{withFields}
+use Rattle.encoder.specs.mirror.Draft.{withFields}
 use Rattle.encoder.proofs.Draft.with_general.Statement.{statement}
 use Rattle.encoder.proofs.Draft.with_general.Tie as tie
 

@@ -1,6 +1,6 @@
 -- `encoder::Draft::with_refusal` meets its contract: the test of the number picks the case of `withRefusal`.
 use borrow.Author.Tests.{eq-eqb, ne-eqb}
-use Rattle.encoder.specs.Draft.{withRefusal}
+use Rattle.encoder.specs.mirror.Draft.{withRefusal}
 use Rattle.encoder.proofs.Draft.with_refusal.Statement.{statement}
 use Rattle.encoder.proofs.Draft.with_refusal.Tie as tie
 

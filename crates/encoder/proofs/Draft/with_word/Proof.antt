@@ -1,7 +1,7 @@
 -- `encoder::Draft::with_word` meets its contract: a word is two bytes, the low one first.
 use Rattle.little_endian.proofs.Parts.{two-bytes}
 use borrow.Author.Needs.{needs}
-use Rattle.encoder.specs.Draft.{withBytes}
+use Rattle.encoder.specs.mirror.Draft.{withBytes}
 use Rattle.encoder.proofs.Draft.with_word.Statement.{statement}
 use Rattle.encoder.proofs.Draft.with_word.Tie as tie
 

@@ -1,8 +1,8 @@
 -- `types::is_signed` meets its contract: at each return, what the calls and tests on the way say picks the case of `Types`.
 use borrow.Author.Tests.{eq-eqb, ne-eqb}
-use Rattle.types.specs.Types.{isSigned}
-use Rattle.types.proofs.is_signed.Statement.{statement}
-use Rattle.types.proofs.is_signed.Tie as tie
+use Rattle.element_types.specs.Types.{isSigned}
+use Rattle.element_types.proofs.is_signed.Statement.{statement}
+use Rattle.element_types.proofs.is_signed.Tie as tie
 
 returns : tie.Need-returns
 unfolding isSigned

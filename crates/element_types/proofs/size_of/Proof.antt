@@ -1,8 +1,8 @@
 -- `types::size_of` meets its contract: at each return, what the calls and tests on the way say picks the case of `Types`.
 use borrow.Author.Tests.{eq-eqb, ne-eqb}
-use Rattle.types.specs.Types.{sizeOf}
-use Rattle.types.proofs.size_of.Statement.{statement}
-use Rattle.types.proofs.size_of.Tie as tie
+use Rattle.element_types.specs.Types.{sizeOf}
+use Rattle.element_types.proofs.size_of.Statement.{statement}
+use Rattle.element_types.proofs.size_of.Tie as tie
 
 returns : tie.Need-returns
 unfolding sizeOf

@@ -1,6 +1,6 @@
 // The element types: code, size and sign of each, in this one place.
 ghost use mathlib.Core.Path.{_≡_};
-ghost use Rattle.types.specs.Types.{sizeOf, isListed, isSigned, hasHighWord};
+ghost use Rattle.element_types.specs.Types.{sizeOf, isListed, isSigned, hasHighWord};
 
 pub const UD: u8 = 0;
 

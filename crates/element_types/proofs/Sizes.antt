@@ -5,7 +5,7 @@ use Prim.Native.Nat.{ℕ, _*_, _/_, _%_, _≤_, _<_}
 use native.Mathlib.Omega.{arith}
 use lib.Dec.{eqb}
 use borrow.Author.Tests.{ltb-true, lt-ltb, le-ltb}
-use Rattle.types.specs.Types.{UD, D, UW, W, UB, B, F, UQ, sizeOf, isListed}
+use Rattle.element_types.specs.Types.{UD, D, UW, W, UB, B, F, UQ, sizeOf, isListed}
 
 either : (P : ℕ → Type 0) (b : Bool) {x y : ℕ} → P x → P y → P (cond b x y)
 either P true p q = p
