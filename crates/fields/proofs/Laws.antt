@@ -2,21 +2,22 @@
 use mathlib.Core.Path.{_≡_, refl, sym, ap, _∙_, subst}
 use mathlib.Core.Logic.{_≢_}
 use mathlib.Core.List.{List, [], _∷_, _++_, append-assoc, append-nil}
-use Prim.Native.Nat.{ℕ, _<_}
+use Prim.Native.Nat.{ℕ, suc, _<_}
 use native.Mathlib.Omega.{arith}
 use lib.ListN.{length, length-append}
 use lib.Dec.{eqb}
 use borrow.Author.Tests.{eqb-true, eqb-false}
 use Rattle.little_endian.specs.LittleEndian.{bytesOf, Bytes}
 use Rattle.little_endian.proofs.Laws.{length-bytes}
-use Rattle.reader.specs.declared.Cursor.{Cursor}
-use Rattle.reader.proofs.Laws.{Passed, passed-then, cond-then, byte-then, word-then, dword-then}
+use Rattle.reader.specs.Answer.{Answer, refused, done, Read, got, andThen}
+use Rattle.reader.proofs.Laws.{Passed, passed-then, cond-then, read-then}
+use Rattle.reader.specs.Reading.{readAt}
 use Rattle.fields.specs.declared.ByteRule.{ByteRule}
 use Rattle.fields.specs.declared.WordRule.{WordRule}
 use Rattle.fields.specs.declared.Field.{Field}
 use Rattle.fields.specs.declared.Field.the-variants as field
 use Rattle.fields.specs.Rules.{judged, byteRefusal, wordRefusal}
-use Rattle.fields.specs.Reading.{byteFieldAt, wordFieldAt, dwordFieldAt, onByteField, onWordField, onDwordField}
+use Rattle.fields.specs.Reading.{judgedRead, byteFieldAt, wordFieldAt, dwordFieldAt}
 use Rattle.fields.specs.Layout.{fieldBytes, fieldRefusal, layoutBytes, layoutRefusal}
 use Rattle.fields.proofs.FirstRefusal.{append-good, one-refusal}
 
@@ -29,15 +30,15 @@ layout-append (f ∷ fs) gs = ap (λ (l : List ℕ). fieldBytes f ++ l) (layout-
 
 -- ---- forward
 
--- from `at` to the cursor stand the bytes of these fields, and all are good
-pub record Parsed (s : List ℕ) (at : ℕ) (c : Cursor) (fs : List Field) : Type 0 where
-  pub passed : Passed s at c (layoutBytes fs)
+-- from `at` to `next` stand the bytes of these fields, and all are good
+pub record Parsed (s : List ℕ) (at next : ℕ) (fs : List Field) : Type 0 where
+  pub passed : Passed s at next (layoutBytes fs)
   pub good : layoutRefusal fs ≡ 0
 
-pub parsed-then : {s : List ℕ} {at : ℕ} {c d : Cursor} {fs gs : List Field} → Parsed s at c fs → Parsed s (c .at) d gs → Parsed s at d (fs ++ gs)
-parsed-then {s} {at} {c} {d} {fs} {gs} p q =
+pub parsed-then : {s : List ℕ} {at m n : ℕ} {fs gs : List Field} → Parsed s at m fs → Parsed s m n gs → Parsed s at n (fs ++ gs)
+parsed-then {s} {at} {m} {n} {fs} {gs} p q =
     record {
-      passed = subst (λ (l : List ℕ). Passed s at d l) (sym (layout-append fs gs)) (passed-then (p .passed) (q .passed));
+      passed = subst (λ (l : List ℕ). Passed s at n l) (sym (layout-append fs gs)) (passed-then (p .passed) (q .passed));
       good = append-good fs gs (p .good) (q .good);
     }
 
@@ -46,38 +47,60 @@ pub one-bytes : (f : Field) → layoutBytes (f ∷ []) ≡ fieldBytes f
 unfolding layoutBytes
 one-bytes f = append-nil (fieldBytes f)
 
-parsed-one : {s : List ℕ} {at : ℕ} {c : Cursor} (f : Field) → Passed s at c (fieldBytes f) → fieldRefusal f ≡ 0 → Parsed s at c (f ∷ [])
-parsed-one {s} {at} {c} f p e = record { passed = subst (λ (l : List ℕ). Passed s at c l) (sym (one-bytes f)) p; good = one-refusal f ∙ e }
+parsed-one : {s : List ℕ} {at next : ℕ} (f : Field) → Passed s at next (fieldBytes f) → fieldRefusal f ≡ 0 → Parsed s at next (f ∷ [])
+parsed-one {s} {at} {next} f p e = record { passed = subst (λ (l : List ℕ). Passed s at next l) (sym (one-bytes f)) p; good = one-refusal f ∙ e }
+
+-- a high word that the type lacks takes no byte
+pub parsed-lacking : {s : List ℕ} {at next : ℕ} {fs : List Field} → Parsed s at next fs → Parsed s next next (field.Lacking 0 ∷ [])
+unfolding fieldBytes fieldRefusal judged
+parsed-lacking {s} {at} {next} p = parsed-one (field.Lacking 0) (record { end = omega arith; inside = p .passed .inside; bytes = refl }) refl
+
+-- of an answer: what was given stands there, laid out as fields; a refusal's number is not 0, which means done
+abbrev pub ParsedAs : {A : Type 0} → (A → List Field) → List ℕ → ℕ → Answer (Read A) → Type 0
+ParsedAs fields s at (refused n) = n ≢ 0
+ParsedAs fields s at (done r) = Parsed s at (r .next) (fields (r .value))
+
+pub record Given {A : Type 0} (fields : A → List Field) (s : List ℕ) (at : ℕ) (a : Answer (Read A)) : Type 0 where
+  pub is : ParsedAs fields s at a
+
+-- what follows it, read from a start before it
+pub given-then : {A B : Type 0} {fs : A → List Field} {gs : B → List Field} {s : List ℕ} {at start : ℕ} {a : Answer (Read A)} {f : Read A → Answer (Read B)} → Given fs s at a → ((r : Read A) → Parsed s at (r .next) (fs (r .value)) → Given gs s start (f r)) → Given gs s start (andThen a f)
+given-then {A} {B} {fs} {gs} {s} {at} {start} {a} {f} g on = told a (g .is)
+  where
+    told : (a : Answer (Read A)) → ParsedAs fs s at a → Given gs s start (andThen a f)
+    told (refused n) o = record { is = o }
+    told (done r) o = on r o
 
 one-refuses : _≢_ {A = ℕ} 1 0
 one-refuses = λ (z : _≡_ {A = ℕ} 1 0). omega arith
 
--- a refusal's number is never 0, which means done
-module _ {X : Type 0} (P : X → Type 0) (s : List ℕ) (b : Bytes s) (at : ℕ) {refused : ℕ → X} {got : ℕ → Cursor → X} (no : (n : ℕ) → n ≢ 0 → P (refused n)) where
-  pub byte-field-then : (rule : ByteRule) → ((v : ℕ) (c : Cursor) → Parsed s at c (field.Byte rule v ∷ []) → P (got v c)) → P (onByteField (byteFieldAt rule s at) refused got)
+module _ (s : List ℕ) (b : Bytes s) where
+  judged-given : (at n : ℕ) (refusal : ℕ → ℕ) (f : ℕ → Field) → ((v : ℕ) → fieldBytes (f v) ≡ bytesOf (suc n) v) → ((v : ℕ) → fieldRefusal (f v) ≡ refusal v) → Given (λ v. f v ∷ []) s at (andThen (readAt (suc n) s at) (judgedRead refusal))
+  unfolding judgedRead
+  judged-given at n refusal f bytes refuses =
+      record {
+        is =
+            read-then (λ a. P (andThen a (judgedRead refusal))) n s at b one-refuses (λ v next p.
+            cond-then P (eqb (refusal v) 0)
+            (λ e. parsed-one (f v) (subst (λ (l : List ℕ). Passed s at next l) (sym (bytes v)) p) (refuses v ∙ eqb-true (refusal v) 0 e))
+            (λ e. eqb-false (refusal v) 0 e));
+      }
+    where
+      P : Answer (Read ℕ) → Type 0
+      P = ParsedAs (λ v. f v ∷ []) s at
+
+  pub byte-given : (rule : ByteRule) (at : ℕ) → Given (λ v. field.Byte rule v ∷ []) s at (byteFieldAt rule s at)
   unfolding byteFieldAt fieldBytes fieldRefusal
-  byte-field-then rule on =
-      byte-then (λ r. P (onByteField r refused got)) s at b (no 1 one-refuses) (λ v c p.
-      cond-then (λ r. P (onByteField r refused got)) (eqb (byteRefusal rule v) 0)
-      (λ e. on v c (parsed-one (field.Byte rule v) p (eqb-true (byteRefusal rule v) 0 e)))
-      (λ e. no (byteRefusal rule v) (eqb-false (byteRefusal rule v) 0 e)))
+  byte-given rule at = judged-given at 0 (byteRefusal rule) (field.Byte rule) (λ v. refl) (λ v. refl)
 
-  pub word-field-then : (rule : WordRule) → ((v : ℕ) (c : Cursor) → Parsed s at c (field.Word rule v ∷ []) → P (got v c)) → P (onWordField (wordFieldAt rule s at) refused got)
+  pub word-given : (rule : WordRule) (at : ℕ) → Given (λ v. field.Word rule v ∷ []) s at (wordFieldAt rule s at)
   unfolding wordFieldAt fieldBytes fieldRefusal
-  word-field-then rule on =
-      word-then (λ r. P (onWordField r refused got)) s at b (no 1 one-refuses) (λ v c p.
-      cond-then (λ r. P (onWordField r refused got)) (eqb (wordRefusal rule v) 0)
-      (λ e. on v c (parsed-one (field.Word rule v) p (eqb-true (wordRefusal rule v) 0 e)))
-      (λ e. no (wordRefusal rule v) (eqb-false (wordRefusal rule v) 0 e)))
+  word-given rule at = judged-given at 1 (wordRefusal rule) (field.Word rule) (λ v. refl) (λ v. refl)
 
-  pub dword-field-then : ((v : ℕ) (c : Cursor) → Parsed s at c (field.Dword v ∷ []) → P (got v c)) → P (onDwordField (dwordFieldAt s at) refused got)
+  pub dword-given : (at : ℕ) → Given (λ v. field.Dword v ∷ []) s at (dwordFieldAt s at)
   unfolding dwordFieldAt fieldBytes fieldRefusal
-  dword-field-then on = dword-then (λ r. P (onDwordField r refused got)) s at b (no 1 one-refuses) (λ v c p. on v c (parsed-one (field.Dword v) p refl))
-
--- a high word that the type lacks takes no byte
-pub parsed-lacking : {s : List ℕ} {at : ℕ} {c : Cursor} {fs : List Field} → Parsed s at c fs → Parsed s (c .at) c (field.Lacking 0 ∷ [])
-unfolding fieldBytes fieldRefusal judged
-parsed-lacking {s} {at} {c} p = parsed-one (field.Lacking 0) (record { end = omega arith; inside = p .passed .inside; bytes = refl }) refl
+  dword-given at =
+      record { is = read-then (ParsedAs (λ v. field.Dword v ∷ []) s at) 3 s at b one-refuses (λ v next p. parsed-one (field.Dword v) p refl) }
 
 -- what begins with a byte has a byte
 pub byte-some : (rule : ByteRule) (v : ℕ) (fs : List Field) → 0 < length (layoutBytes (field.Byte rule v ∷ fs))

@@ -3,8 +3,8 @@ use Prim.Native.Nat.{ℕ}
 use mathlib.Core.List.{List}
 use mathlib.Core.Bool.{cond}
 use lib.Dec.{eqb}
-use Rattle.reader.specs.declared.Cursor.{Cursor}
-use Rattle.reader.specs.Reading.{byteAt, wordAt, dwordAt, onByte, onWord, onDword}
+use Rattle.reader.specs.Answer.{Answer, refused, Read, got, andThen}
+use Rattle.reader.specs.Reading.{readAt}
 use Rattle.fields.specs.declared.ByteRule.{ByteRule}
 use Rattle.fields.specs.declared.WordRule.{WordRule}
 use Rattle.fields.specs.declared.ByteField.{ByteField}
@@ -15,29 +15,29 @@ use Rattle.fields.specs.declared.DwordField.{DwordField}
 use Rattle.fields.specs.declared.DwordField.the-variants as dword
 use Rattle.fields.specs.Rules.{byteRefusal, wordRefusal}
 
-unfoldable pub byteFieldAt : ByteRule → List ℕ → ℕ → ByteField
-byteFieldAt rule s at =
-    onByte (byteAt s at) (byte.Refused 1) (λ v c.
-    cond (eqb (byteRefusal rule v) 0) (byte.Got v c) (byte.Refused (byteRefusal rule v)))
+-- a number that was read, or the refusal that it gets, 0 for none
+unfoldable pub judgedRead : (ℕ → ℕ) → Read ℕ → Answer (Read ℕ)
+judgedRead refusal r = cond (eqb (refusal (r .value)) 0) (got (r .value) (r .next)) (refused (refusal (r .value)))
 
-unfoldable pub wordFieldAt : WordRule → List ℕ → ℕ → WordField
-wordFieldAt rule s at =
-    onWord (wordAt s at) (word.Refused 1) (λ v c.
-    cond (eqb (wordRefusal rule v) 0) (word.Got v c) (word.Refused (wordRefusal rule v)))
+unfoldable pub byteFieldAt : ByteRule → List ℕ → ℕ → Answer (Read ℕ)
+byteFieldAt rule s at = andThen (readAt 1 s at) (judgedRead (byteRefusal rule))
+
+unfoldable pub wordFieldAt : WordRule → List ℕ → ℕ → Answer (Read ℕ)
+wordFieldAt rule s at = andThen (readAt 2 s at) (judgedRead (wordRefusal rule))
 
 -- no stored number of four bytes has a rule
-unfoldable pub dwordFieldAt : List ℕ → ℕ → DwordField
-dwordFieldAt s at = onDword (dwordAt s at) (dword.Refused 1) dword.Got
+unfoldable pub dwordFieldAt : List ℕ → ℕ → Answer (Read ℕ)
+dwordFieldAt s at = readAt 4 s at
 
--- what follows a field, or its refusal
-abbrev pub onByteField {ℓ} : {X : Type ℓ} → ByteField → (ℕ → X) → (ℕ → Cursor → X) → X
-onByteField (byte.Refused n) x f = x n
-onByteField (byte.Got v c) x f = f v c
+-- number and values of each case
+abbrev pub byteFieldAnswer : ByteField → Answer (Read ℕ)
+byteFieldAnswer (byte.Refused n) = refused n
+byteFieldAnswer (byte.Got v c) = got v (c .at)
 
-abbrev pub onWordField {ℓ} : {X : Type ℓ} → WordField → (ℕ → X) → (ℕ → Cursor → X) → X
-onWordField (word.Refused n) x f = x n
-onWordField (word.Got v c) x f = f v c
+abbrev pub wordFieldAnswer : WordField → Answer (Read ℕ)
+wordFieldAnswer (word.Refused n) = refused n
+wordFieldAnswer (word.Got v c) = got v (c .at)
 
-abbrev pub onDwordField {ℓ} : {X : Type ℓ} → DwordField → (ℕ → X) → (ℕ → Cursor → X) → X
-onDwordField (dword.Refused n) x f = x n
-onDwordField (dword.Got v c) x f = f v c
+abbrev pub dwordFieldAnswer : DwordField → Answer (Read ℕ)
+dwordFieldAnswer (dword.Refused n) = refused n
+dwordFieldAnswer (dword.Got v c) = got v (c .at)

@@ -5,7 +5,7 @@ use reader::ReadDword;
 use reader::ReadWord;
 ghost use mathlib.Core.Path.{_≡_};
 ghost use Rattle.fields.specs.Rules.{judged, execGood, scatterExecGood, destinationTagGood, sourceTagGood, channelsGood, sourceCountGood, predicateGood, regionGood, tagRefusal, byteRefusal, wordRefusal};
-ghost use Rattle.fields.specs.Reading.{byteFieldAt, wordFieldAt, dwordFieldAt};
+ghost use Rattle.fields.specs.Reading.{byteFieldAt, wordFieldAt, dwordFieldAt, byteFieldAnswer, wordFieldAnswer, dwordFieldAnswer};
 
 // Which stored byte it is, and so which rule judges it.
 pub enum ByteRule {
@@ -157,7 +157,7 @@ pub fn word_refusal(rule: WordRule, v: u16) -> u8
 }
 
 pub fn byte_field(kernel: &[u8], cursor: Cursor, rule: ByteRule) -> ByteField
-    ensures { λ r. ⌜ r ≡ byteFieldAt rule (now (kernel .entry)) (cursor .at) ⌝ }
+    ensures { λ r. ⌜ byteFieldAnswer r ≡ byteFieldAt rule (now (kernel .entry)) (cursor .at) ⌝ }
 {
     match cursor.byte(kernel) {
         ReadByte::Got(v, next) => {
@@ -173,7 +173,7 @@ pub fn byte_field(kernel: &[u8], cursor: Cursor, rule: ByteRule) -> ByteField
 }
 
 pub fn word_field(kernel: &[u8], cursor: Cursor, rule: WordRule) -> WordField
-    ensures { λ r. ⌜ r ≡ wordFieldAt rule (now (kernel .entry)) (cursor .at) ⌝ }
+    ensures { λ r. ⌜ wordFieldAnswer r ≡ wordFieldAt rule (now (kernel .entry)) (cursor .at) ⌝ }
 {
     match cursor.word(kernel) {
         ReadWord::Got(v, next) => {
@@ -189,7 +189,7 @@ pub fn word_field(kernel: &[u8], cursor: Cursor, rule: WordRule) -> WordField
 }
 
 pub fn dword_field(kernel: &[u8], cursor: Cursor) -> DwordField
-    ensures { λ r. ⌜ r ≡ dwordFieldAt (now (kernel .entry)) (cursor .at) ⌝ }
+    ensures { λ r. ⌜ dwordFieldAnswer r ≡ dwordFieldAt (now (kernel .entry)) (cursor .at) ⌝ }
 {
     match cursor.dword(kernel) {
         ReadDword::Got(v, next) => DwordField::Got(v, next),

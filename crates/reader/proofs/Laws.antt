@@ -10,24 +10,21 @@ use lib.Dec.{leb}
 use borrow.Author.Tests.{leb-true, leb-false, le-leb, lt-leb}
 use Rattle.little_endian.specs.LittleEndian.{numberAt, bytesOf, Bytes}
 use Rattle.little_endian.proofs.Laws.{length-bytes, number-more, number-there, bytes-there}
-use Rattle.reader.specs.declared.Cursor.{Cursor}
-use Rattle.reader.specs.declared.ReadByte.the-variants as byte
-use Rattle.reader.specs.declared.ReadWord.the-variants as word
-use Rattle.reader.specs.declared.ReadDword.the-variants as dword
-use Rattle.reader.specs.Reading.{wholeAt, cursor, byteAt, wordAt, dwordAt, onByte, onWord, onDword}
+use Rattle.reader.specs.Answer.{Answer, refused, Read, got}
+use Rattle.reader.specs.Reading.{wholeAt, readAt}
 
--- from `at` to the cursor the kernel has these bytes
-pub record Passed (s : List ℕ) (at : ℕ) (c : Cursor) (bs : List ℕ) : Type 0 where
-  pub end : c .at ≡ at + length bs
-  pub inside : c .at ≤ length s
-  pub bytes : drop at s ≡ bs ++ drop (c .at) s
+-- from `at` to `next` the kernel has these bytes
+pub record Passed (s : List ℕ) (at next : ℕ) (bs : List ℕ) : Type 0 where
+  pub end : next ≡ at + length bs
+  pub inside : next ≤ length s
+  pub bytes : drop at s ≡ bs ++ drop next s
 
-pub passed-then : {s : List ℕ} {at : ℕ} {c d : Cursor} {bs ds : List ℕ} → Passed s at c bs → Passed s (c .at) d ds → Passed s at d (bs ++ ds)
-passed-then {s} {at} {c} {d} {bs} {ds} p q =
+pub passed-then : {s : List ℕ} {at m n : ℕ} {bs ds : List ℕ} → Passed s at m bs → Passed s m n ds → Passed s at n (bs ++ ds)
+passed-then {s} {at} {m} {n} {bs} {ds} p q =
     record {
       end = simp length-append (omega (arith, p .end, q .end));
       inside = q .inside;
-      bytes = p .bytes ∙ ap (λ (l : List ℕ). bs ++ l) (q .bytes) ∙ sym (append-assoc bs ds (drop (d .at) s));
+      bytes = p .bytes ∙ ap (λ (l : List ℕ). bs ++ l) (q .bytes) ∙ sym (append-assoc bs ds (drop n s));
     }
 
 -- what stands past the bytes
@@ -53,7 +50,7 @@ pub past-whole : (n : ℕ) (s : List ℕ) (at : ℕ) → length s < at → whole
 unfolding wholeAt
 past-whole n s at h = lt-leb (at + n) (length s) (omega arith)
 
-number-passed : (n : ℕ) (s : List ℕ) (at : ℕ) → Bytes s → wholeAt (suc n) s at ≡ true → Passed s at (cursor (at + suc n)) (bytesOf (suc n) (numberAt (suc n) s at))
+number-passed : (n : ℕ) (s : List ℕ) (at : ℕ) → Bytes s → wholeAt (suc n) s at ≡ true → Passed s at (at + suc n) (bytesOf (suc n) (numberAt (suc n) s at))
 number-passed n s at b w =
     let h : at + suc n ≤ length s = whole-room (suc n) s at w in
     record { end = rw (length-bytes (suc n) (numberAt (suc n) s at)); inside = h; bytes = bytes-there n s at b h }
@@ -64,9 +61,6 @@ whole-there n s at v t e =
     let l : length s - at ≡ length (bytesOf (suc n) v) + length t = sym (length-drop at s) ∙ ap length e ∙ length-append (bytesOf (suc n) v) t in
     le-leb (at + suc n) (length s) (omega (arith, l, length-bytes (suc n) v))
 
-past-number : (n : ℕ) (s : List ℕ) (at v : ℕ) (t : List ℕ) → drop at s ≡ bytesOf n v ++ t → drop (at + n) s ≡ t
-past-number n s at v t e = rw (length-bytes n v) at (past s at (bytesOf n v) t e)
-
 pub dword-words : (s : List ℕ) (at : ℕ) → numberAt 4 s at ≡ numberAt 2 s at + 65536 * numberAt 2 s (at + 2)
 dword-words s at = number-more 2 2 s at
 
@@ -75,33 +69,14 @@ pub cond-then : {X : Type 0} (P : X → Type 0) (b : Bool) {x y : X} → (b ≡ 
 cond-then P true p q = p refl
 cond-then P false p q = q refl
 
--- ---- forward: what holds of each way on, holds of what follows a read
+-- ---- a number of one byte or more is read
 
-pub byte-then : {X : Type 0} (P : X → Type 0) (s : List ℕ) (at : ℕ) {x : X} {f : ℕ → Cursor → X} → Bytes s → P x → ((v : ℕ) (c : Cursor) → Passed s at c (bytesOf 1 v) → P (f v c)) → P (onByte (byteAt s at) x f)
-unfolding byteAt
-byte-then P s at {x} {f} b short on =
-    cond-then (λ r. P (onByte r x f)) (wholeAt 1 s at) (λ w. on _ _ (number-passed 0 s at b w)) (λ _. short)
+-- forward: what holds of a refusal by 1, and of what was read, holds of the answer
+pub read-then : (P : Answer (Read ℕ) → Type 0) (n : ℕ) (s : List ℕ) (at : ℕ) → Bytes s → P (refused 1) → ((v next : ℕ) → Passed s at next (bytesOf (suc n) v) → P (got v next)) → P (readAt (suc n) s at)
+unfolding readAt
+read-then P n s at b short on = cond-then P (wholeAt (suc n) s at) (λ w. on _ _ (number-passed n s at b w)) (λ _. short)
 
-pub word-then : {X : Type 0} (P : X → Type 0) (s : List ℕ) (at : ℕ) {x : X} {f : ℕ → Cursor → X} → Bytes s → P x → ((v : ℕ) (c : Cursor) → Passed s at c (bytesOf 2 v) → P (f v c)) → P (onWord (wordAt s at) x f)
-unfolding wordAt
-word-then P s at {x} {f} b short on =
-    cond-then (λ r. P (onWord r x f)) (wholeAt 2 s at) (λ w. on _ _ (number-passed 1 s at b w)) (λ _. short)
-
-pub dword-then : {X : Type 0} (P : X → Type 0) (s : List ℕ) (at : ℕ) {x : X} {f : ℕ → Cursor → X} → Bytes s → P x → ((v : ℕ) (c : Cursor) → Passed s at c (bytesOf 4 v) → P (f v c)) → P (onDword (dwordAt s at) x f)
-unfolding dwordAt
-dword-then P s at {x} {f} b short on =
-    cond-then (λ r. P (onDword r x f)) (wholeAt 4 s at) (λ w. on _ _ (number-passed 3 s at b w)) (λ _. short)
-
--- ---- backward: the read, and what stands past it
-
-pub byte-next : (s : List ℕ) (at v : ℕ) (t : List ℕ) → drop at s ≡ bytesOf 1 v ++ t → (byteAt s at ≡ byte.Got v (cursor (at + 1))) × (drop (at + 1) s ≡ t)
-unfolding byteAt
-byte-next s at v t e = (rw (whole-there 0 s at v t e, number-there 0 s at v t e), past-number 1 s at v t e)
-
-pub word-next : (s : List ℕ) (at v : ℕ) (t : List ℕ) → drop at s ≡ bytesOf 2 v ++ t → (wordAt s at ≡ word.Got v (cursor (at + 2))) × (drop (at + 2) s ≡ t)
-unfolding wordAt
-word-next s at v t e = (rw (whole-there 1 s at v t e, number-there 1 s at v t e), past-number 2 s at v t e)
-
-pub dword-next : (s : List ℕ) (at v : ℕ) (t : List ℕ) → drop at s ≡ bytesOf 4 v ++ t → (dwordAt s at ≡ dword.Got v (cursor (at + 4))) × (drop (at + 4) s ≡ t)
-unfolding dwordAt
-dword-next s at v t e = (rw (whole-there 3 s at v t e, number-there 3 s at v t e), past-number 4 s at v t e)
+-- backward: the read, and what stands past it
+pub read-there : (n : ℕ) (s : List ℕ) (at v : ℕ) (t : List ℕ) → drop at s ≡ bytesOf (suc n) v ++ t → readAt (suc n) s at ≡ got v (at + suc n)
+unfolding readAt
+read-there n s at v t e = rw (whole-there n s at v t e, number-there n s at v t e)

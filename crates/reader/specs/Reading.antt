@@ -6,39 +6,31 @@ use mathlib.Core.Bool.{Bool, cond}
 use lib.ListN.{length}
 use lib.Dec.{leb}
 use Rattle.little_endian.specs.LittleEndian.{numberAt}
-use Rattle.reader.specs.declared.Cursor.{Cursor}
 use Rattle.reader.specs.declared.ReadByte.{ReadByte}
 use Rattle.reader.specs.declared.ReadByte.the-variants as byte
 use Rattle.reader.specs.declared.ReadWord.{ReadWord}
 use Rattle.reader.specs.declared.ReadWord.the-variants as word
 use Rattle.reader.specs.declared.ReadDword.{ReadDword}
 use Rattle.reader.specs.declared.ReadDword.the-variants as dword
+use Rattle.reader.specs.Answer.{Answer, refused, Read, got}
 
 -- n bytes stand from the position on
 unfoldable pub wholeAt : ℕ → List ℕ → ℕ → Bool
 wholeAt n s at = leb (at + n) (length s)
 
-abbrev pub cursor : ℕ → Cursor
-cursor at = record { at = at }
+-- a stored number of n bytes: "1 for a field not whole"
+unfoldable pub readAt : ℕ → List ℕ → ℕ → Answer (Read ℕ)
+readAt n s at = cond (wholeAt n s at) (got (numberAt n s at) (at + n)) (refused 1)
 
-unfoldable pub byteAt : List ℕ → ℕ → ReadByte
-byteAt s at = cond (wholeAt 1 s at) (byte.Got (numberAt 1 s at) (cursor (at + 1))) byte.Short
+-- number and values of each case
+abbrev pub readByteAnswer : ReadByte → Answer (Read ℕ)
+readByteAnswer byte.Short = refused 1
+readByteAnswer (byte.Got v c) = got v (c .at)
 
-unfoldable pub wordAt : List ℕ → ℕ → ReadWord
-wordAt s at = cond (wholeAt 2 s at) (word.Got (numberAt 2 s at) (cursor (at + 2))) word.Short
+abbrev pub readWordAnswer : ReadWord → Answer (Read ℕ)
+readWordAnswer word.Short = refused 1
+readWordAnswer (word.Got v c) = got v (c .at)
 
-unfoldable pub dwordAt : List ℕ → ℕ → ReadDword
-dwordAt s at = cond (wholeAt 4 s at) (dword.Got (numberAt 4 s at) (cursor (at + 4))) dword.Short
-
--- what follows a number that was read, or its absence
-abbrev pub onByte {ℓ} : {X : Type ℓ} → ReadByte → X → (ℕ → Cursor → X) → X
-onByte byte.Short x f = x
-onByte (byte.Got v c) x f = f v c
-
-abbrev pub onWord {ℓ} : {X : Type ℓ} → ReadWord → X → (ℕ → Cursor → X) → X
-onWord word.Short x f = x
-onWord (word.Got v c) x f = f v c
-
-abbrev pub onDword {ℓ} : {X : Type ℓ} → ReadDword → X → (ℕ → Cursor → X) → X
-onDword dword.Short x f = x
-onDword (dword.Got v c) x f = f v c
+abbrev pub readDwordAnswer : ReadDword → Answer (Read ℕ)
+readDwordAnswer dword.Short = refused 1
+readDwordAnswer (dword.Got v c) = got v (c .at)

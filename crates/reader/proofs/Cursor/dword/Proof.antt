@@ -2,7 +2,7 @@
 use mathlib.Core.Path.{sym, _∙_}
 use native.Mathlib.Omega.{arith}
 use borrow.Author.Needs.{needs}
-use Rattle.reader.specs.Reading.{dwordAt}
+use Rattle.reader.specs.Reading.{readAt}
 use Rattle.reader.proofs.Laws.{whole-room, dword-words}
 use Rattle.reader.proofs.Cursor.dword.Statement.{statement}
 use Rattle.reader.proofs.Cursor.dword.Tie as tie
@@ -26,7 +26,7 @@ add-t9 c =
     omega (arith, whole-room _ _ _ (sym (a .before .whole .ensures) ∙ a .if1 .taken))
 
 returns : tie.Need-returns
-unfolding dwordAt
+unfolding readAt
 returns c =
     let a = c .before .before .before .before in
     rw (
@@ -40,7 +40,7 @@ returns c =
     )
 
 returns-2 : tie.Need-returns-2
-unfolding dwordAt
+unfolding readAt
 returns-2 c = rw (← c .before .whole .ensures, c .if1 .left)
 
 pub dword-spec : {M : Type 1} → statement M

@@ -2,7 +2,7 @@
 use mathlib.Core.Path.{sym, _∙_}
 use native.Mathlib.Omega.{arith}
 use borrow.Author.Needs.{needs}
-use Rattle.reader.specs.Reading.{wordAt}
+use Rattle.reader.specs.Reading.{readAt}
 use Rattle.reader.proofs.Laws.{whole-room}
 use Rattle.reader.proofs.Cursor.word.Statement.{statement}
 use Rattle.reader.proofs.Cursor.word.Tie as tie
@@ -15,11 +15,11 @@ add-t7 c =
     omega (arith, whole-room _ _ _ (sym (c .before .before .whole .ensures) ∙ c .before .if1 .taken))
 
 returns : tie.Need-returns
-unfolding wordAt
+unfolding readAt
 returns c = rw (← c .before .before .whole .ensures, c .before .if1 .taken, ← c .word-at .ensures)
 
 returns-2 : tie.Need-returns-2
-unfolding wordAt
+unfolding readAt
 returns-2 c = rw (← c .before .whole .ensures, c .if1 .left)
 
 pub word-spec : {M : Type 1} → statement M
