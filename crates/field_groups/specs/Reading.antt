@@ -5,11 +5,11 @@ use mathlib.Core.List.{List}
 use mathlib.Core.Bool.{Bool, cond}
 use lib.Dec.{eqb}
 use Rattle.element_types.specs.Types.{hasHighWord}
-use Rattle.reader.specs.declared.Cursor.{Cursor}
+use Rattle.reader.specs.Answer.{Answer, refused, Read, got, andThen}
 use Rattle.fields.specs.declared.ByteRule.{ByteRule}
 use Rattle.fields.specs.declared.ByteRule.the-variants as byte
 use Rattle.fields.specs.declared.WordRule.the-variants as word
-use Rattle.fields.specs.Reading.{byteFieldAt, wordFieldAt, dwordFieldAt, onByteField, onWordField, onDwordField}
+use Rattle.fields.specs.Reading.{byteFieldAt, wordFieldAt, dwordFieldAt}
 use Rattle.field_groups.specs.declared.Control.{Control}
 use Rattle.field_groups.specs.declared.ControlField.{ControlField}
 use Rattle.field_groups.specs.declared.ControlField.the-variants as control
@@ -29,97 +29,101 @@ use Rattle.field_groups.specs.declared.Message.{Message}
 use Rattle.field_groups.specs.declared.MessageField.{MessageField}
 use Rattle.field_groups.specs.declared.MessageField.the-variants as message
 
--- what follows a group of fields, or its refusal
-abbrev pub onControl {ℓ} : {X : Type ℓ} → ControlField → (ℕ → X) → (Control → Cursor → X) → X
-onControl (control.Refused n) x f = x n
-onControl (control.Got v c) x f = f v c
-
-abbrev pub onOperand {ℓ} : {X : Type ℓ} → OperandField → (ℕ → X) → (Operand → Cursor → X) → X
-onOperand (operand.Refused n) x f = x n
-onOperand (operand.Got v c) x f = f v c
-
-abbrev pub onRaw {ℓ} : {X : Type ℓ} → RawField → (ℕ → X) → (Raw → Cursor → X) → X
-onRaw (raw.Refused n) x f = x n
-onRaw (raw.Got v c) x f = f v c
-
-abbrev pub onScalarAndRaws {ℓ} : {X : Type ℓ} → ScalarAndRawsField → (ℕ → X) → (Operand → Raw → Raw → Cursor → X) → X
-onScalarAndRaws (scalar-and-raws.Refused n) x f = x n
-onScalarAndRaws (scalar-and-raws.Got v first second c) x f = f v first second c
-
-abbrev pub onAccess {ℓ} : {X : Type ℓ} → AccessField → (ℕ → X) → (Access → Cursor → X) → X
-onAccess (access.Refused n) x f = x n
-onAccess (access.Got v c) x f = f v c
-
-abbrev pub onMessage {ℓ} : {X : Type ℓ} → MessageField → (ℕ → X) → (Message → Cursor → X) → X
-onMessage (message.Refused n) x f = x n
-onMessage (message.Got v c) x f = f v c
-
 -- Exec_size and Pred
-unfoldable pub controlAt : ByteRule → List ℕ → ℕ → ControlField
+unfoldable pub controlAt : ByteRule → List ℕ → ℕ → Answer (Read Control)
 controlAt rule s at =
-    onByteField (byteFieldAt rule s at) control.Refused (λ exec c₁.
-    onWordField (wordFieldAt word.Predicate s (c₁ .at)) control.Refused (λ pred c₂.
-    control.Got (record { exec = exec; pred = pred }) c₂))
+    andThen (byteFieldAt rule s at) (λ exec.
+    andThen (wordFieldAt word.Predicate s (exec .next)) (λ pred.
+    got (record { exec = exec .value; pred = pred .value }) (pred .next)))
 
 -- "General, class 0: index uw, row ub, column ub, region uw"
-unfoldable pub generalAt : List ℕ → ℕ → OperandField
+unfoldable pub generalAt : List ℕ → ℕ → Answer (Read Operand)
 generalAt s at =
-    onWordField (wordFieldAt word.Free s at) operand.Refused (λ index c₁.
-    onByteField (byteFieldAt byte.Free s (c₁ .at)) operand.Refused (λ row c₂.
-    onByteField (byteFieldAt byte.Free s (c₂ .at)) operand.Refused (λ column c₃.
-    onWordField (wordFieldAt word.Region s (c₃ .at)) operand.Refused (λ region c₄.
-    operand.Got (General (record { index = index; row = row; column = column; region = region })) c₄))))
+    andThen (wordFieldAt word.Free s at) (λ index.
+    andThen (byteFieldAt byte.Free s (index .next)) (λ row.
+    andThen (byteFieldAt byte.Free s (row .next)) (λ column.
+    andThen (wordFieldAt word.Region s (column .next)) (λ region.
+    got (General (record { index = index .value; row = row .value; column = column .value; region = region .value })) (region .next)))))
 
 -- the high word of an immediate: "high ud for UQ only", 0 where the type has none
-unfoldable pub highAt : Bool → ℕ → ℕ → List ℕ → Cursor → OperandField
-highAt wide code low s c =
-    cond wide
-    (onDwordField (dwordFieldAt s (c .at)) operand.Refused (λ high d. operand.Got (Immediate (record { code = code; low = low; high = high })) d))
-    (operand.Got (Immediate (record { code = code; low = low; high = 0 })) c)
+unfoldable pub highWordAt : Bool → List ℕ → ℕ → Answer (Read ℕ)
+highWordAt wide s at = cond wide (dwordFieldAt s at) (got 0 at)
 
 -- "Immediate, class 5: type ub, low ud, and high ud for UQ only"
-unfoldable pub immediateAt : List ℕ → ℕ → OperandField
+unfoldable pub immediateAt : List ℕ → ℕ → Answer (Read Operand)
 immediateAt s at =
-    onByteField (byteFieldAt byte.ImmediateType s at) operand.Refused (λ code c₁.
-    onDwordField (dwordFieldAt s (c₁ .at)) operand.Refused (λ low c₂.
-    highAt (hasHighWord code) code low s c₂))
+    andThen (byteFieldAt byte.ImmediateType s at) (λ code.
+    andThen (dwordFieldAt s (code .next)) (λ low.
+    andThen (highWordAt (hasHighWord (code .value)) s (low .next)) (λ high.
+    got (Immediate (record { code = code .value; low = low .value; high = high .value })) (high .next))))
 
 -- "Vector operand: tag (bits 0-2 class, 3-5 modifier)"; the rule of a tag leaves no class but these two
-unfoldable pub operandAt : ByteRule → List ℕ → ℕ → OperandField
+unfoldable pub operandAt : ByteRule → List ℕ → ℕ → Answer (Read Operand)
 operandAt rule s at =
-    onByteField (byteFieldAt rule s at) operand.Refused (λ tag c₁.
-    cond (eqb tag 0) (generalAt s (c₁ .at))
-    (cond (eqb tag 5) (immediateAt s (c₁ .at))
-    (operand.Refused 4)))
+    andThen (byteFieldAt rule s at) (λ tag.
+    cond (eqb (tag .value) 0) (generalAt s (tag .next))
+    (cond (eqb (tag .value) 5) (immediateAt s (tag .next))
+    (refused 4)))
 
 -- "Raw: index uw, byte offset uw"
-unfoldable pub rawAt : List ℕ → ℕ → RawField
+unfoldable pub rawAt : List ℕ → ℕ → Answer (Read Raw)
 rawAt s at =
-    onWordField (wordFieldAt word.Free s at) raw.Refused (λ index c₁.
-    onWordField (wordFieldAt word.Free s (c₁ .at)) raw.Refused (λ offset c₂.
-    raw.Got (record { index = index; offset = offset }) c₂))
+    andThen (wordFieldAt word.Free s at) (λ index.
+    andThen (wordFieldAt word.Free s (index .next)) (λ offset.
+    got (record { index = index .value; offset = offset .value }) (offset .next)))
+
+-- a scalar and the two raw operands after it
+pub record ScalarAndRaws : Type 0 where
+  pub scalar : Operand
+  pub first : Raw
+  pub second : Raw
 
 -- the last three operands of pages 000 (Address, Element_offset, Src), 001 (Offset, Element_offset, Dst) and 002 (Desc, Src, Dst)
-unfoldable pub scalarAndRawsAt : List ℕ → ℕ → ScalarAndRawsField
+unfoldable pub scalarAndRawsAt : List ℕ → ℕ → Answer (Read ScalarAndRaws)
 scalarAndRawsAt s at =
-    onOperand (operandAt byte.SourceTag s at) scalar-and-raws.Refused (λ scalar c₁.
-    onRaw (rawAt s (c₁ .at)) scalar-and-raws.Refused (λ first c₂.
-    onRaw (rawAt s (c₂ .at)) scalar-and-raws.Refused (λ second c₃.
-    scalar-and-raws.Got scalar first second c₃)))
+    andThen (operandAt byte.SourceTag s at) (λ scalar.
+    andThen (rawAt s (scalar .next)) (λ first.
+    andThen (rawAt s (first .next)) (λ second.
+    got (record { scalar = scalar .value; first = first .value; second = second .value }) (second .next))))
 
 -- page 001: Block_size, Num_blocks, Scale, Surface
-unfoldable pub accessAt : List ℕ → ℕ → AccessField
+unfoldable pub accessAt : List ℕ → ℕ → Answer (Read Access)
 accessAt s at =
-    onByteField (byteFieldAt byte.Free s at) access.Refused (λ size c₁.
-    onByteField (byteFieldAt byte.NumBlocks s (c₁ .at)) access.Refused (λ blocks c₂.
-    onWordField (wordFieldAt word.Free s (c₂ .at)) access.Refused (λ scale c₃.
-    onByteField (byteFieldAt byte.Free s (c₃ .at)) access.Refused (λ surface c₄.
-    access.Got (record { «block_size» = size; «num_blocks» = blocks; scale = scale; surface = surface }) c₄))))
+    andThen (byteFieldAt byte.Free s at) (λ size.
+    andThen (byteFieldAt byte.NumBlocks s (size .next)) (λ blocks.
+    andThen (wordFieldAt word.Free s (blocks .next)) (λ scale.
+    andThen (byteFieldAt byte.Free s (scale .next)) (λ surface.
+    got (record { «block_size» = size .value; «num_blocks» = blocks .value; scale = scale .value; surface = surface .value }) (surface .next)))))
 
 -- page 002: ExMsgDesc, NumSrc, NumDst
-unfoldable pub messageAt : List ℕ → ℕ → MessageField
+unfoldable pub messageAt : List ℕ → ℕ → Answer (Read Message)
 messageAt s at =
-    onDwordField (dwordFieldAt s at) message.Refused (λ extended c₁.
-    onByteField (byteFieldAt byte.NumSrc s (c₁ .at)) message.Refused (λ sources c₂.
-    onByteField (byteFieldAt byte.NumDst s (c₂ .at)) message.Refused (λ destinations c₃.
-    message.Got (record { extended = extended; «num_src» = sources; «num_dst» = destinations }) c₃)))
+    andThen (dwordFieldAt s at) (λ extended.
+    andThen (byteFieldAt byte.NumSrc s (extended .next)) (λ sources.
+    andThen (byteFieldAt byte.NumDst s (sources .next)) (λ destinations.
+    got (record { extended = extended .value; «num_src» = sources .value; «num_dst» = destinations .value }) (destinations .next))))
+
+-- number and values of each case
+abbrev pub controlFieldAnswer : ControlField → Answer (Read Control)
+controlFieldAnswer (control.Refused n) = refused n
+controlFieldAnswer (control.Got v c) = got v (c .at)
+
+abbrev pub operandFieldAnswer : OperandField → Answer (Read Operand)
+operandFieldAnswer (operand.Refused n) = refused n
+operandFieldAnswer (operand.Got v c) = got v (c .at)
+
+abbrev pub rawFieldAnswer : RawField → Answer (Read Raw)
+rawFieldAnswer (raw.Refused n) = refused n
+rawFieldAnswer (raw.Got v c) = got v (c .at)
+
+abbrev pub scalarAndRawsFieldAnswer : ScalarAndRawsField → Answer (Read ScalarAndRaws)
+scalarAndRawsFieldAnswer (scalar-and-raws.Refused n) = refused n
+scalarAndRawsFieldAnswer (scalar-and-raws.Got v first second c) = got (record { scalar = v; first = first; second = second }) (c .at)
+
+abbrev pub accessFieldAnswer : AccessField → Answer (Read Access)
+accessFieldAnswer (access.Refused n) = refused n
+accessFieldAnswer (access.Got v c) = got v (c .at)
+
+abbrev pub messageFieldAnswer : MessageField → Answer (Read Message)
+messageFieldAnswer (message.Refused n) = refused n
+messageFieldAnswer (message.Got v c) = got v (c .at)

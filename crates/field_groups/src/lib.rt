@@ -7,9 +7,10 @@ use fields::WordRule;
 use reader::Cursor;
 ghost use mathlib.Core.Path.{_≡_};
 ghost use Rattle.element_types.specs.Types.{hasHighWord};
-ghost use Rattle.field_groups.specs.Reading.{controlAt, generalAt, highAt, immediateAt, operandAt, rawAt, scalarAndRawsAt, accessAt, messageAt};
+ghost use Rattle.fields.specs.Reading.{dwordFieldAnswer};
+ghost use Rattle.field_groups.specs.Reading.{controlAt, generalAt, highWordAt, immediateAt, operandAt, rawAt, scalarAndRawsAt, accessAt, messageAt, controlFieldAnswer, operandFieldAnswer, rawFieldAnswer, scalarAndRawsFieldAnswer, accessFieldAnswer, messageFieldAnswer};
 
-// What stands in front of every instruction: Exec_size and Pred.
+// Exec_size and Pred, which every instruction has.
 pub struct Control {
     pub exec: u8,
     pub pred: u16,
@@ -88,7 +89,7 @@ pub enum MessageField {
 }
 
 pub fn control_field(kernel: &[u8], cursor: Cursor, rule: ByteRule) -> ControlField
-    ensures { λ r. ⌜ r ≡ controlAt rule (now (kernel .entry)) (cursor .at) ⌝ }
+    ensures { λ r. ⌜ controlFieldAnswer r ≡ controlAt rule (now (kernel .entry)) (cursor .at) ⌝ }
 {
     match fields::byte_field(kernel, cursor, rule) {
         ByteField::Got(exec, c1) => match fields::word_field(kernel, c1, WordRule::Predicate) {
@@ -101,7 +102,7 @@ pub fn control_field(kernel: &[u8], cursor: Cursor, rule: ByteRule) -> ControlFi
 
 // A General operand after its tag.
 fn general_field(kernel: &[u8], cursor: Cursor) -> OperandField
-    ensures { λ r. ⌜ r ≡ generalAt (now (kernel .entry)) (cursor .at) ⌝ }
+    ensures { λ r. ⌜ operandFieldAnswer r ≡ generalAt (now (kernel .entry)) (cursor .at) ⌝ }
 {
     match fields::word_field(kernel, cursor, WordRule::Free) {
         WordField::Got(index, c1) => match fields::byte_field(kernel, c1, ByteRule::Free) {
@@ -128,30 +129,30 @@ fn general_field(kernel: &[u8], cursor: Cursor) -> OperandField
     }
 }
 
-// The high word of an Immediate operand, where its type has one.
-fn high_field(kernel: &[u8], cursor: Cursor, code: u8, low: u32) -> OperandField
-    ensures { λ r. ⌜ r ≡ highAt (hasHighWord code) code low (now (kernel .entry)) cursor ⌝ }
+// The high word of an immediate of this type, 0 where the type has none.
+fn high_word(kernel: &[u8], cursor: Cursor, code: u8) -> DwordField
+    ensures { λ r. ⌜ dwordFieldAnswer r ≡ highWordAt (hasHighWord code) (now (kernel .entry)) (cursor .at) ⌝ }
 {
     if element_types::has_high_word(code) {
-        match fields::dword_field(kernel, cursor) {
-            DwordField::Got(high, next) => OperandField::Got(
-                Operand::Immediate(Immediate { code, low, high }),
-                next,
-            ),
-            DwordField::Refused(number) => OperandField::Refused(number),
-        }
+        fields::dword_field(kernel, cursor)
     } else {
-        OperandField::Got(Operand::Immediate(Immediate { code, low, high: 0 }), cursor)
+        DwordField::Got(0, cursor)
     }
 }
 
 // An Immediate operand after its tag.
 fn immediate_field(kernel: &[u8], cursor: Cursor) -> OperandField
-    ensures { λ r. ⌜ r ≡ immediateAt (now (kernel .entry)) (cursor .at) ⌝ }
+    ensures { λ r. ⌜ operandFieldAnswer r ≡ immediateAt (now (kernel .entry)) (cursor .at) ⌝ }
 {
     match fields::byte_field(kernel, cursor, ByteRule::ImmediateType) {
         ByteField::Got(code, c1) => match fields::dword_field(kernel, c1) {
-            DwordField::Got(low, c2) => { high_field(kernel, c2, code, low) }
+            DwordField::Got(low, c2) => match high_word(kernel, c2, code) {
+                DwordField::Got(high, c3) => OperandField::Got(
+                    Operand::Immediate(Immediate { code, low, high }),
+                    c3,
+                ),
+                DwordField::Refused(number) => OperandField::Refused(number),
+            },
             DwordField::Refused(number) => OperandField::Refused(number),
         },
         ByteField::Refused(number) => OperandField::Refused(number),
@@ -160,7 +161,7 @@ fn immediate_field(kernel: &[u8], cursor: Cursor) -> OperandField
 
 // A destination, source or scalar: the rule of its tag says which.
 pub fn operand_field(kernel: &[u8], cursor: Cursor, rule: ByteRule) -> OperandField
-    ensures { λ r. ⌜ r ≡ operandAt rule (now (kernel .entry)) (cursor .at) ⌝ }
+    ensures { λ r. ⌜ operandFieldAnswer r ≡ operandAt rule (now (kernel .entry)) (cursor .at) ⌝ }
 {
     match fields::byte_field(kernel, cursor, rule) {
         ByteField::Got(tag, c1) => {
@@ -178,7 +179,7 @@ pub fn operand_field(kernel: &[u8], cursor: Cursor, rule: ByteRule) -> OperandFi
 }
 
 pub fn raw_field(kernel: &[u8], cursor: Cursor) -> RawField
-    ensures { λ r. ⌜ r ≡ rawAt (now (kernel .entry)) (cursor .at) ⌝ }
+    ensures { λ r. ⌜ rawFieldAnswer r ≡ rawAt (now (kernel .entry)) (cursor .at) ⌝ }
 {
     match fields::word_field(kernel, cursor, WordRule::Free) {
         WordField::Got(index, c1) => match fields::word_field(kernel, c1, WordRule::Free) {
@@ -190,7 +191,7 @@ pub fn raw_field(kernel: &[u8], cursor: Cursor) -> RawField
 }
 
 pub fn scalar_and_raws_field(kernel: &[u8], cursor: Cursor) -> ScalarAndRawsField
-    ensures { λ r. ⌜ r ≡ scalarAndRawsAt (now (kernel .entry)) (cursor .at) ⌝ }
+    ensures { λ r. ⌜ scalarAndRawsFieldAnswer r ≡ scalarAndRawsAt (now (kernel .entry)) (cursor .at) ⌝ }
 {
     match operand_field(kernel, cursor, ByteRule::SourceTag) {
         OperandField::Got(scalar, c1) => match raw_field(kernel, c1) {
@@ -205,7 +206,7 @@ pub fn scalar_and_raws_field(kernel: &[u8], cursor: Cursor) -> ScalarAndRawsFiel
 }
 
 pub fn access_field(kernel: &[u8], cursor: Cursor) -> AccessField
-    ensures { λ r. ⌜ r ≡ accessAt (now (kernel .entry)) (cursor .at) ⌝ }
+    ensures { λ r. ⌜ accessFieldAnswer r ≡ accessAt (now (kernel .entry)) (cursor .at) ⌝ }
 {
     match fields::byte_field(kernel, cursor, ByteRule::Free) {
         ByteField::Got(block_size, c1) => {
@@ -237,7 +238,7 @@ pub fn access_field(kernel: &[u8], cursor: Cursor) -> AccessField
 }
 
 pub fn message_field(kernel: &[u8], cursor: Cursor) -> MessageField
-    ensures { λ r. ⌜ r ≡ messageAt (now (kernel .entry)) (cursor .at) ⌝ }
+    ensures { λ r. ⌜ messageFieldAnswer r ≡ messageAt (now (kernel .entry)) (cursor .at) ⌝ }
 {
     match fields::dword_field(kernel, cursor) {
         DwordField::Got(extended, c1) => match fields::byte_field(kernel, c1, ByteRule::NumSrc) {
