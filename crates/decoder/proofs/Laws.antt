@@ -7,14 +7,12 @@ use native.Mathlib.Omega.{arith}
 use lib.ListN.{length, take, drop, take-append-drop, length-drop}
 use lib.Seq.{drop-append-le, length-take-le, take-at}
 use Rattle.little_endian.specs.LittleEndian.{Bytes}
-use Rattle.reader.specs.declared.Cursor.{Cursor}
-use Rattle.reader.specs.Reading.{cursor}
+use Rattle.reader.specs.Answer.{got}
 use Rattle.fields.specs.declared.ByteRule.the-variants as byte
 use Rattle.fields.specs.Layout.{layoutBytes}
 use Rattle.fields.proofs.Laws.{byte-some}
 use Rattle.decoder.specs.declared.Instruction.{Instruction}
 use Rattle.decoder.specs.declared.Instruction.the-variants as instruction
-use Rattle.decoder.specs.declared.Decoded.the-variants as decoded
 use Rattle.decoder.specs.Decoding.{instructionAt}
 use Rattle.decoder.specs.Format.{shlFields, gatherFields, scatterFields, rawSendFields, instructionFields, instructionBytes, instructionRefusal}
 use Rattle.decoder.proofs.DecodeEncode.{decode-encode}
@@ -28,13 +26,13 @@ some-bytes (instruction.Gather x) = byte-some byte.Free 0x78 _
 some-bytes (instruction.Scatter x) = byte-some byte.Free 0x4e _
 some-bytes (instruction.RawSend x) = byte-some byte.Free 0x5d _
 
-pub record Within (s : List ℕ) (at : ℕ) (c : Cursor) : Type 0 where
-  pub past : at < c .at
-  pub inside : c .at ≤ length s
+pub record Within (s : List ℕ) (at next : ℕ) : Type 0 where
+  pub past : at < next
+  pub inside : next ≤ length s
 
-pub accepted-within : (s : List ℕ) (at : ℕ) (i : Instruction) (c : Cursor) → Bytes s → instructionAt s at ≡ decoded.Accepted i c → Within s at c
-accepted-within s at i c b e =
-    let p = decode-encode s at i c b e .passed in
+pub accepted-within : (s : List ℕ) (at : ℕ) (i : Instruction) (next : ℕ) → Bytes s → instructionAt s at ≡ got i next → Within s at next
+accepted-within s at i next b e =
+    let p = decode-encode s at i next b e .passed in
     record { past = omega (arith, p .end, some-bytes i); inside = p .inside }
 
 -- a part of a list, and what stands past it
@@ -50,14 +48,14 @@ part-is l at n bs e h d =
     ∙ take-at bs (drop n l) (length bs) refl
 
 -- two kernels that agree up to the end of an accepted instruction decode alike
-pub decode-local : (s u : List ℕ) (at : ℕ) (i : Instruction) (c : Cursor) → Bytes s → instructionAt s at ≡ decoded.Accepted i c → take (c .at) u ≡ take (c .at) s → instructionAt u at ≡ decoded.Accepted i c
+pub decode-local : (s u : List ℕ) (at : ℕ) (i : Instruction) (next : ℕ) → Bytes s → instructionAt s at ≡ got i next → take next u ≡ take next s → instructionAt u at ≡ got i next
 unfolding instructionBytes instructionRefusal
-decode-local s u at i c b e same =
-    let q = decode-encode s at i c b e in
+decode-local s u at i next b e same =
+    let q = decode-encode s at i next b e in
     let p = q .passed in
     let bs = instructionBytes i in
-    let k : length (take (c .at) s) ≡ c .at = length-take-le (c .at) s (p .inside) in
-    let l : at ≤ length (take (c .at) u) = rw same (omega (arith, p .end)) in
-    let d : drop at (take (c .at) u) ≡ bs = ap (λ (x : List ℕ). drop at x) same ∙ part-is s at (c .at) bs (sym (p .end)) (p .inside) (p .bytes) in
-    encode-decode u at i (drop (c .at) u) (q .good) (part u at (c .at) l ∙ ap (λ (x : List ℕ). x ++ drop (c .at) u) d)
-    ∙ ap (λ (n : ℕ). decoded.Accepted i (cursor n)) (sym (p .end))
+    let k : length (take next s) ≡ next = length-take-le next s (p .inside) in
+    let l : at ≤ length (take next u) = rw same (omega (arith, p .end)) in
+    let d : drop at (take next u) ≡ bs = ap (λ (x : List ℕ). drop at x) same ∙ part-is s at next bs (sym (p .end)) (p .inside) (p .bytes) in
+    encode-decode u at i (drop next u) (q .good) (part u at next l ∙ ap (λ (x : List ℕ). x ++ drop next u) d)
+    ∙ ap (λ (n : ℕ). got i n) (sym (p .end))

@@ -3,7 +3,7 @@ use mathlib.Core.Path.{_≡_, subst}
 use mathlib.Core.List.{List, [], _∷_}
 use Prim.Native.Nat.{ℕ}
 use Rattle.little_endian.specs.LittleEndian.{Bytes}
-use Rattle.reader.specs.declared.Cursor.{Cursor}
+use Rattle.reader.specs.Answer.{got}
 use Rattle.fields.specs.declared.ByteRule.the-variants as byte
 use Rattle.fields.specs.declared.Field.{Field}
 use Rattle.fields.specs.declared.Field.the-variants.{Byte}
@@ -14,7 +14,6 @@ use Rattle.field_groups.specs.Layout.{controlFields}
 use Rattle.field_groups.proofs.LayoutLaws.{control-fields}
 use Rattle.decoder.specs.declared.Scatter.{Scatter}
 use Rattle.decoder.specs.declared.Instruction.the-variants as instruction
-use Rattle.decoder.specs.declared.Decoded.the-variants as decoded
 use Rattle.decoder.specs.Decoding.{instructionAt}
 use Rattle.decoder.specs.Format.{scatterFields, instructionFields}
 use Rattle.decoder.proofs.DecodeEncode.{decode-encode}
@@ -27,6 +26,6 @@ good-exec x g =
     let control = controlFields byte.ScatterExec (x .control) in
     scatter-exec (x .control .exec) _ (subst (λ (fs : List Field). layoutRefusal fs ≡ 0) (control-fields byte.ScatterExec (x .control)) (good-append control _ (good-append opcodes _ g .1) .0))
 
-pub decoded-scatter : (s : List ℕ) (at : ℕ) (x : Scatter) (c : Cursor) → Bytes s → instructionAt s at ≡ decoded.Accepted (instruction.Scatter x) c → EightOrSixteen (x .control .exec)
+pub decoded-scatter : (s : List ℕ) (at : ℕ) (x : Scatter) (next : ℕ) → Bytes s → instructionAt s at ≡ got (instruction.Scatter x) next → EightOrSixteen (x .control .exec)
 unfolding instructionFields
-decoded-scatter s at x c b e = good-exec x (decode-encode s at (instruction.Scatter x) c b e .good)
+decoded-scatter s at x next b e = good-exec x (decode-encode s at (instruction.Scatter x) next b e .good)

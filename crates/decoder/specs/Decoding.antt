@@ -5,76 +5,92 @@ use mathlib.Core.List.{List, []}
 use mathlib.Core.Bool.{cond}
 use lib.ListN.{take, drop}
 use lib.Dec.{eqb}
-use Rattle.reader.specs.declared.Cursor.{Cursor}
+use Rattle.reader.specs.Answer.{Answer, refused, Read, got, onAnswer, andThen}
 use Rattle.fields.specs.declared.ByteRule.the-variants as byte
 use Rattle.fields.specs.declared.WordRule.the-variants as word
-use Rattle.fields.specs.Reading.{byteFieldAt, wordFieldAt, onByteField, onWordField}
-use Rattle.field_groups.specs.Reading.{controlAt, operandAt, scalarAndRawsAt, accessAt, messageAt, onControl, onOperand, onScalarAndRaws, onAccess, onMessage}
+use Rattle.fields.specs.Reading.{byteFieldAt, wordFieldAt}
+use Rattle.field_groups.specs.Reading.{controlAt, operandAt, scalarAndRawsAt, accessAt, messageAt}
 use Rattle.decoder.specs.declared.Instruction.{Instruction}
 use Rattle.decoder.specs.declared.Instruction.the-variants.{Shl, Gather, Scatter, RawSend}
 use Rattle.decoder.specs.declared.Decoded.{Decoded}
 use Rattle.decoder.specs.declared.Decoded.the-variants as decoded
 
--- what follows an instruction, or its refusal
-abbrev pub onDecoded {ℓ} : {X : Type ℓ} → Decoded → (ℕ → X) → (Instruction → Cursor → X) → X
-onDecoded (decoded.Refused n) x f = x n
-onDecoded (decoded.Accepted i c) x f = f i c
-
 -- page 004: Exec_size, Pred, Dst, Src0, Src1
-unfoldable pub shlAt : List ℕ → ℕ → Decoded
+unfoldable pub shlAt : List ℕ → ℕ → Answer (Read Instruction)
 shlAt s at =
-    onControl (controlAt byte.Exec s at) decoded.Refused (λ control c₁.
-    onOperand (operandAt byte.DestinationTag s (c₁ .at)) decoded.Refused (λ destination c₂.
-    onOperand (operandAt byte.SourceTag s (c₂ .at)) decoded.Refused (λ source c₃.
-    onOperand (operandAt byte.SourceTag s (c₃ .at)) decoded.Refused (λ count c₄.
-    decoded.Accepted (Shl (record { control = control; destination = destination; source = source; count = count })) c₄))))
+    andThen (controlAt byte.Exec s at) (λ control.
+    andThen (operandAt byte.DestinationTag s (control .next)) (λ destination.
+    andThen (operandAt byte.SourceTag s (destination .next)) (λ source.
+    andThen (operandAt byte.SourceTag s (source .next)) (λ count.
+    got (Shl (record { control = control .value; destination = destination .value; source = source .value; count = count .value })) (count .next)))))
 
 -- page 001: Exec_size, Pred, Block_size, Num_blocks, Scale, Surface, Offset, Element_offset, Dst
-unfoldable pub gatherAt : List ℕ → ℕ → Decoded
+unfoldable pub gatherAt : List ℕ → ℕ → Answer (Read Instruction)
 gatherAt s at =
-    onControl (controlAt byte.Exec s at) decoded.Refused (λ control c₁.
-    onAccess (accessAt s (c₁ .at)) decoded.Refused (λ access c₂.
-    onScalarAndRaws (scalarAndRawsAt s (c₂ .at)) decoded.Refused (λ offset elements destination c₃.
-    decoded.Accepted (Gather (record { control = control; access = access; offset = offset; «element_offset» = elements; destination = destination })) c₃)))
+    andThen (controlAt byte.Exec s at) (λ control.
+    andThen (accessAt s (control .next)) (λ access.
+    andThen (scalarAndRawsAt s (access .next)) (λ last.
+    got (Gather (record {
+      control = control .value;
+      access = access .value;
+      offset = last .value .scalar;
+      «element_offset» = last .value .first;
+      destination = last .value .second;
+    })) (last .next))))
 
 -- page 000: Exec_size, Pred, Channels, Scale, Address, Element_offset, Src
-unfoldable pub scatterAt : List ℕ → ℕ → Decoded
+unfoldable pub scatterAt : List ℕ → ℕ → Answer (Read Instruction)
 scatterAt s at =
-    onControl (controlAt byte.ScatterExec s at) decoded.Refused (λ control c₁.
-    onByteField (byteFieldAt byte.Channels s (c₁ .at)) decoded.Refused (λ channels c₂.
-    onWordField (wordFieldAt word.Free s (c₂ .at)) decoded.Refused (λ scale c₃.
-    onScalarAndRaws (scalarAndRawsAt s (c₃ .at)) decoded.Refused (λ address elements source c₄.
-    decoded.Accepted (Scatter (record { control = control; channels = channels; scale = scale; address = address; «element_offset» = elements; source = source })) c₄))))
+    andThen (controlAt byte.ScatterExec s at) (λ control.
+    andThen (byteFieldAt byte.Channels s (control .next)) (λ channels.
+    andThen (wordFieldAt word.Free s (channels .next)) (λ scale.
+    andThen (scalarAndRawsAt s (scale .next)) (λ last.
+    got (Scatter (record {
+      control = control .value;
+      channels = channels .value;
+      scale = scale .value;
+      address = last .value .scalar;
+      «element_offset» = last .value .first;
+      source = last .value .second;
+    })) (last .next)))))
 
 -- "2: opcode, or SVM sub-opcode, not above"
-unfoldable pub svmAt : List ℕ → ℕ → Decoded
+unfoldable pub svmAt : List ℕ → ℕ → Answer (Read Instruction)
 svmAt s at =
-    onByteField (byteFieldAt byte.Free s at) decoded.Refused (λ opcode c₁.
-    cond (eqb opcode 0x07) (scatterAt s (c₁ .at)) (decoded.Refused 2))
+    andThen (byteFieldAt byte.Free s at) (λ opcode.
+    cond (eqb (opcode .value) 0x07) (scatterAt s (opcode .next)) (refused 2))
 
 -- page 002: Modifiers, Exec_size, Pred, ExMsgDesc, NumSrc, NumDst, Desc, Src, Dst
-unfoldable pub rawSendAt : List ℕ → ℕ → Decoded
+unfoldable pub rawSendAt : List ℕ → ℕ → Answer (Read Instruction)
 rawSendAt s at =
-    onByteField (byteFieldAt byte.Modifiers s at) decoded.Refused (λ modifiers c₁.
-    onControl (controlAt byte.Exec s (c₁ .at)) decoded.Refused (λ control c₂.
-    onMessage (messageAt s (c₂ .at)) decoded.Refused (λ message c₃.
-    onScalarAndRaws (scalarAndRawsAt s (c₃ .at)) decoded.Refused (λ descriptor source destination c₄.
-    decoded.Accepted (RawSend (record { modifiers = modifiers; control = control; message = message; descriptor = descriptor; source = source; destination = destination })) c₄))))
+    andThen (byteFieldAt byte.Modifiers s at) (λ modifiers.
+    andThen (controlAt byte.Exec s (modifiers .next)) (λ control.
+    andThen (messageAt s (control .next)) (λ message.
+    andThen (scalarAndRawsAt s (message .next)) (λ last.
+    got (RawSend (record {
+      modifiers = modifiers .value;
+      control = control .value;
+      message = message .value;
+      descriptor = last .value .scalar;
+      source = last .value .first;
+      destination = last .value .second;
+    })) (last .next)))))
 
 -- "SHL (0x24 ..), GATHER_SCALED (0x78 ..), SVM SCATTER4_SCALED (0x4e 0x07 ..), RAW_SEND (0x5d ..)"
-unfoldable pub instructionAt : List ℕ → ℕ → Decoded
+unfoldable pub instructionAt : List ℕ → ℕ → Answer (Read Instruction)
 instructionAt s at =
-    onByteField (byteFieldAt byte.Free s at) decoded.Refused (λ opcode c₁.
-    cond (eqb opcode 0x24) (shlAt s (c₁ .at))
-    (cond (eqb opcode 0x78) (gatherAt s (c₁ .at))
-    (cond (eqb opcode 0x4e) (svmAt s (c₁ .at))
-    (cond (eqb opcode 0x5d) (rawSendAt s (c₁ .at))
-    (decoded.Refused 2)))))
+    andThen (byteFieldAt byte.Free s at) (λ opcode.
+    cond (eqb (opcode .value) 0x24) (shlAt s (opcode .next))
+    (cond (eqb (opcode .value) 0x78) (gatherAt s (opcode .next))
+    (cond (eqb (opcode .value) 0x4e) (svmAt s (opcode .next))
+    (cond (eqb (opcode .value) 0x5d) (rawSendAt s (opcode .next))
+    (refused 2)))))
 
--- the number given back: "0: done"
-unfoldable pub numberOf : Decoded → ℕ
-numberOf r = onDecoded r (λ n. n) (λ i c. 0)
+-- number and values of each case
+abbrev pub decodedAnswer : Decoded → Answer (Read Instruction)
+decodedAnswer (decoded.Refused n) = refused n
+decodedAnswer (decoded.Accepted i c) = got i (c .at)
 
 -- "the decoder hands back the instruction's own bytes as a part of the kernel, an empty part on a refusal"
 unfoldable pub ownBytes : List ℕ → ℕ → List ℕ
-ownBytes s at = onDecoded (instructionAt s at) (λ n. []) (λ i c. take (c .at - at) (drop at s))
+ownBytes s at = onAnswer (instructionAt s at) (λ n. []) (λ i. take (i .next - at) (drop at s))

@@ -15,7 +15,8 @@ use fields::WordField;
 use fields::WordRule;
 use reader::Cursor;
 ghost use mathlib.Core.Path.{_≡_};
-ghost use Rattle.decoder.specs.Decoding.{shlAt, gatherAt, scatterAt, svmAt, rawSendAt, instructionAt, numberOf, ownBytes};
+ghost use Rattle.reader.specs.Answer.{numberOf};
+ghost use Rattle.decoder.specs.Decoding.{shlAt, gatherAt, scatterAt, svmAt, rawSendAt, instructionAt, decodedAnswer, ownBytes};
 
 pub struct Shl {
     pub control: Control,
@@ -51,7 +52,7 @@ pub struct RawSend {
     pub destination: Raw,
 }
 
-// A decoded instruction: its stored numbers as they stand.
+// A decoded instruction: the numbers of its fields, each as stored. Opcodes and tags are told by the variants.
 pub enum Instruction {
     Shl(Shl),
     Gather(Gather),
@@ -67,7 +68,7 @@ pub enum Decoded {
 
 // SHL after its opcode.
 fn shl_fields(kernel: &[u8], cursor: Cursor) -> Decoded
-    ensures { λ r. ⌜ r ≡ shlAt (now (kernel .entry)) (cursor .at) ⌝ }
+    ensures { λ r. ⌜ decodedAnswer r ≡ shlAt (now (kernel .entry)) (cursor .at) ⌝ }
 {
     match field_groups::control_field(kernel, cursor, ByteRule::Exec) {
         ControlField::Got(control, c1) => {
@@ -100,7 +101,7 @@ fn shl_fields(kernel: &[u8], cursor: Cursor) -> Decoded
 
 // GATHER_SCALED after its opcode.
 fn gather_fields(kernel: &[u8], cursor: Cursor) -> Decoded
-    ensures { λ r. ⌜ r ≡ gatherAt (now (kernel .entry)) (cursor .at) ⌝ }
+    ensures { λ r. ⌜ decodedAnswer r ≡ gatherAt (now (kernel .entry)) (cursor .at) ⌝ }
 {
     match field_groups::control_field(kernel, cursor, ByteRule::Exec) {
         ControlField::Got(control, c1) => {
@@ -130,7 +131,7 @@ fn gather_fields(kernel: &[u8], cursor: Cursor) -> Decoded
 
 // SVM SCATTER4_SCALED after its sub-opcode.
 fn scatter_fields(kernel: &[u8], cursor: Cursor) -> Decoded
-    ensures { λ r. ⌜ r ≡ scatterAt (now (kernel .entry)) (cursor .at) ⌝ }
+    ensures { λ r. ⌜ decodedAnswer r ≡ scatterAt (now (kernel .entry)) (cursor .at) ⌝ }
 {
     match field_groups::control_field(kernel, cursor, ByteRule::ScatterExec) {
         ControlField::Got(control, c1) => {
@@ -166,7 +167,7 @@ fn scatter_fields(kernel: &[u8], cursor: Cursor) -> Decoded
 
 // SVM after its opcode.
 fn svm_fields(kernel: &[u8], cursor: Cursor) -> Decoded
-    ensures { λ r. ⌜ r ≡ svmAt (now (kernel .entry)) (cursor .at) ⌝ }
+    ensures { λ r. ⌜ decodedAnswer r ≡ svmAt (now (kernel .entry)) (cursor .at) ⌝ }
 {
     match fields::byte_field(kernel, cursor, ByteRule::Free) {
         ByteField::Got(sub_opcode, c1) => {
@@ -182,7 +183,7 @@ fn svm_fields(kernel: &[u8], cursor: Cursor) -> Decoded
 
 // RAW_SEND after its opcode.
 fn raw_send_fields(kernel: &[u8], cursor: Cursor) -> Decoded
-    ensures { λ r. ⌜ r ≡ rawSendAt (now (kernel .entry)) (cursor .at) ⌝ }
+    ensures { λ r. ⌜ decodedAnswer r ≡ rawSendAt (now (kernel .entry)) (cursor .at) ⌝ }
 {
     match fields::byte_field(kernel, cursor, ByteRule::Modifiers) {
         ByteField::Got(modifiers, c1) => {
@@ -218,7 +219,7 @@ fn raw_send_fields(kernel: &[u8], cursor: Cursor) -> Decoded
 
 // The instruction at a position, which may lie past the end.
 pub fn decode(kernel: &[u8], at: usize) -> Decoded
-    ensures { λ r. ⌜ r ≡ instructionAt (now (kernel .entry)) at ⌝ }
+    ensures { λ r. ⌜ decodedAnswer r ≡ instructionAt (now (kernel .entry)) at ⌝ }
 {
     match fields::byte_field(kernel, Cursor { at }, ByteRule::Free) {
         ByteField::Got(opcode, c1) => {
