@@ -3,11 +3,11 @@ use Prim.Native.Nat.{ℕ, zero, suc}
 use mathlib.Core.Path.{_≡_, refl, ap, _∙_}
 use native.Mathlib.Omega.{arith}
 use Rattle.cells.specs.Effect.{Effect}
-use Rattle.decoder.specs.declared.Decoded.{Decoded}
-use Rattle.decoder.specs.declared.Decoded.the-variants as decoded
+use Rattle.reader.specs.Answer as answer
+use Rattle.reader.specs.Answer.{Answer, Read, onAnswer}
 use Rattle.decoder.specs.declared.Instruction.{Instruction}
 use Rattle.decoder.specs.declared.Instruction.the-variants as instruction
-use Rattle.decoder.specs.Decoding.{instructionAt, onDecoded}
+use Rattle.decoder.specs.Decoding.{instructionAt}
 use Rattle.plan.specs.declared.Plan.{Plan}
 use Rattle.plan.specs.declared.Operation.{Operation}
 use Rattle.plan.specs.Checked.{checked}
@@ -49,7 +49,7 @@ module _ (x : Setup) (s : State) where
   unfolding stepAt firstFailing
   step-number at = told (instructionAt (x .kernel) at)
     where
-      told : (d : Decoded) → stepOf x (λ (p : Plan). planEffect (constantsOf x) p s) at d .effect .number
-          ≡ onDecoded d (λ n. n) (λ i c. firstOf (planned i .number) (dataTests x i (planned i) s))
-      told (decoded.Refused n) = refl
-      told (decoded.Accepted i c) = plan-number i
+      told : (d : Answer (Read Instruction)) → stepOf x (λ (p : Plan). planEffect (constantsOf x) p s) at d .effect .number
+          ≡ onAnswer d (λ n. n) (λ i. firstOf (planned (i .value) .number) (dataTests x (i .value) (planned (i .value)) s))
+      told (answer.refused n) = refl
+      told (answer.done i) = plan-number (i .value)

@@ -1,19 +1,20 @@
 -- The plan of a decoded and checked instruction passes the executors' guards, whatever the tables hold: the sizes of its elements come from
 -- the types that its operands may have, its lanes from test 8, and those of a scatter from decoding.
 use Prim.Native.Nat.{ℕ, _≤_}
-use mathlib.Core.Path.{_≡_, sym, subst, _∙_}
+use mathlib.Core.Path.{_≡_, sym, ap, subst, _∙_}
 use mathlib.Core.Logic.{⊎-elim}
 use mathlib.Core.Bool.{true}
 use mathlib.Core.List.{List}
 use native.Mathlib.Omega.{arith}
 use Rattle.little_endian.specs.LittleEndian.{Bytes}
 use Rattle.reader.specs.declared.Cursor.{Cursor}
+use Rattle.reader.specs.Answer.{got}
 use Rattle.fields.proofs.ScatterExec.{EightOrSixteen}
 use Rattle.decoder.specs.declared.Instruction.{Instruction}
 use Rattle.decoder.specs.declared.Instruction.the-variants as instruction
 use Rattle.decoder.specs.declared.Decoded.{Decoded}
 use Rattle.decoder.specs.declared.Decoded.the-variants as decoded
-use Rattle.decoder.specs.Decoding.{instructionAt}
+use Rattle.decoder.specs.Decoding.{instructionAt, decodedAnswer}
 use Rattle.decoder.proofs.ScatterLaws.{decoded-scatter}
 use Rattle.channels.specs.Exec.{execSize}
 use Rattle.channels.proofs.ExecLaws.{exec-size}
@@ -35,23 +36,23 @@ fits-as : (o : Operation) (p : Plan) → p .operation ≡ o → fitsFor o p ≡ 
 fits-as o p is = subst (λ (q : Operation). fitsFor q p ≡ true) (sym is)
 
 module _ (kernel : List ℕ) (t : Tables) (at : ℕ) (b : Bytes kernel) where
-  decoded-fits : (i : Instruction) (c : Cursor) → instructionAt kernel at ≡ decoded.Accepted i c → checked t i .number ≡ 0
+  decoded-fits : (i : Instruction) (next : ℕ) → instructionAt kernel at ≡ got i next → checked t i .number ≡ 0
       → fitsFor (checked t i .operation) (checked t i) ≡ true
   unfolding fitsFor
-  decoded-fits (instruction.Shl i) c e z =
+  decoded-fits (instruction.Shl i) next e z =
       let k = plan-keeps t (instruction.Shl i) z in
       fits-as _ _ (k .operation) (shl.sound-fits _ (i .control) k)
-  decoded-fits (instruction.Gather i) c e z =
+  decoded-fits (instruction.Gather i) next e z =
       let k = plan-keeps t (instruction.Gather i) z in
       fits-as _ _ (k .operation) (gather.sound-fits _ (i .control) k)
-  decoded-fits (instruction.Scatter i) c e z =
+  decoded-fits (instruction.Scatter i) next e z =
       let k = plan-keeps t (instruction.Scatter i) z in
-      fits-as _ _ (k .operation) (scatter.sound-fits _ (i .control) (sixteen-lanes (i .control .exec) (decoded-scatter kernel at i c b e)) k)
-  decoded-fits (instruction.RawSend i) c e z = absurd (plan-keeps t (instruction.RawSend i) z)
+      fits-as _ _ (k .operation) (scatter.sound-fits _ (i .control) (sixteen-lanes (i .control .exec) (decoded-scatter kernel at i next b e)) k)
+  decoded-fits (instruction.RawSend i) next e z = absurd (plan-keeps t (instruction.RawSend i) z)
 
-  pub planned-fits : (i : Instruction) (c : Cursor) → instructionAt kernel at ≡ decoded.Accepted i c → Fits (checked t i)
-  planned-fits i c is = record { when-accepted = decoded-fits i c is }
+  pub planned-fits : (i : Instruction) (next : ℕ) → instructionAt kernel at ≡ got i next → Fits (checked t i)
+  planned-fits i next is = record { when-accepted = decoded-fits i next is }
 
   -- as the code learns it
-  pub told-fits : (d : Decoded) (i : Instruction) (c : Cursor) (p : Plan) → d ≡ instructionAt kernel at → d ≡ decoded.Accepted i c → p ≡ checked t i → Fits p
-  told-fits d i c p told is plan = subst Fits (sym plan) (planned-fits i c (sym told ∙ is))
+  pub told-fits : (d : Decoded) (i : Instruction) (c : Cursor) (p : Plan) → decodedAnswer d ≡ instructionAt kernel at → d ≡ decoded.Accepted i c → p ≡ checked t i → Fits p
+  told-fits d i c p told is plan = subst Fits (sym plan) (planned-fits i (c .at) (sym told ∙ ap decodedAnswer is))

@@ -8,8 +8,9 @@ use lib.Dec.{eqb}
 use Rattle.cells.specs.Effect.{Effect}
 use Rattle.cells.proofs.WriteLaws.{bytes-kept, taint-kept}
 use Rattle.cells.proofs.RefusalLaws.{WritesOnlyWhenDone, refused-writes, unless-writes}
-use Rattle.decoder.specs.declared.Decoded.{Decoded}
-use Rattle.decoder.specs.declared.Decoded.the-variants as decoded
+use Rattle.reader.specs.Answer as answer
+use Rattle.reader.specs.Answer.{Answer, Read}
+use Rattle.decoder.specs.declared.Instruction.{Instruction}
 use Rattle.decoder.specs.Decoding.{instructionAt}
 use Rattle.plan.specs.declared.Plan.{Plan}
 use Rattle.plan.specs.declared.Operation.{Operation}
@@ -51,9 +52,9 @@ module _ (x : Setup) (s : State) where
   unfolding planEffect
   plan-writes p = unless-writes (not (eqb (p .number) 0)) (p .number) _ (acted-writes (p .operation) p)
 
-  decoded-writes : (at : ℕ) (d : Decoded) → WritesOnlyWhenDone (stepOf x (λ (p : Plan). planEffect (constantsOf x) p s) at d .effect)
-  decoded-writes at (decoded.Refused n) = refused-writes n
-  decoded-writes at (decoded.Accepted i c) = plan-writes (checked (x .tables) i)
+  decoded-writes : (at : ℕ) (d : Answer (Read Instruction)) → WritesOnlyWhenDone (stepOf x (λ (p : Plan). planEffect (constantsOf x) p s) at d .effect)
+  decoded-writes at (answer.refused n) = refused-writes n
+  decoded-writes at (answer.done i) = plan-writes (checked (x .tables) (i .value))
 
   -- every step whose number is not 0 writes nothing
   pub step-writes : (at : ℕ) → WritesOnlyWhenDone (stepAt x at s .effect)

@@ -7,11 +7,10 @@ use lib.Dec.{eqb}
 use lib.ListN.{length}
 use borrow.Author.Tests.{eqb-true, eqb-false}
 use Rattle.little_endian.specs.LittleEndian.{Bytes}
-use Rattle.reader.specs.declared.Cursor.{Cursor}
+use Rattle.reader.specs.Answer as answer
+use Rattle.reader.specs.Answer.{Answer, Read, got}
 use Rattle.cells.specs.Effect.{Effect}
 use Rattle.channels.specs.Exec.{execSize}
-use Rattle.decoder.specs.declared.Decoded.{Decoded}
-use Rattle.decoder.specs.declared.Decoded.the-variants as decoded
 use Rattle.decoder.specs.declared.Instruction.{Instruction}
 use Rattle.decoder.specs.Decoding.{instructionAt}
 use Rattle.decoder.proofs.DecodeEncode.{refusal-not-zero}
@@ -39,10 +38,10 @@ use Rattle.step.proofs.FirstFailing.{step-number}
 use Rattle.step.proofs.AcceptedLaws.{plan-refuses, plan-passes}
 
 -- the step at an instruction
-step-is : (x : Setup) (s : State) (at : ℕ) (i : Instruction) (c : Cursor) → instructionAt (x .kernel) at ≡ decoded.Accepted i c
-    → stepAt x at s ≡ record { next = c .at; effect = planEffect (constantsOf x) (checked (x .tables) i) s }
+step-is : (x : Setup) (s : State) (at : ℕ) (i : Instruction) (next : ℕ) → instructionAt (x .kernel) at ≡ got i next
+    → stepAt x at s ≡ record { next = next; effect = planEffect (constantsOf x) (checked (x .tables) i) s }
 unfolding stepAt
-step-is x s at i c is = ap (stepOf x (λ (p : Plan). planEffect (constantsOf x) p s) at) is
+step-is x s at i next is = ap (stepOf x (λ (p : Plan). planEffect (constantsOf x) p s) at) is
 
 module _ (x : Setup) (s : State) (good : tablesGood (lengthsOf x s) (x .tables) ≡ true) where
   acted-results : (o : Operation) (p : Plan) → execSize (p .control .exec) ≤ 32 → SoundFor o (length (s .registers .bytes)) (length (s .surfaces .bytes)) p
@@ -81,11 +80,11 @@ module _ (x : Setup) (s : State) (good : tablesGood (lengthsOf x s) (x .tables) 
       }
 
   -- the instruction at a position, decoded and not refused
-  step-leaves : (at : ℕ) (i : Instruction) (c : Cursor) → instructionAt (x .kernel) at ≡ decoded.Accepted i c → stepAt x at s .effect .number ≡ 0
+  step-leaves : (at : ℕ) (i : Instruction) (next : ℕ) → instructionAt (x .kernel) at ≡ got i next → stepAt x at s .effect .number ≡ 0
       → Leaves x (checked (x .tables) i) s (after (stepAt x at s .effect) s)
-  step-leaves at i c is done =
+  step-leaves at i next is done =
       let p = checked (x .tables) i in
-      let effect : stepAt x at s .effect ≡ planEffect (constantsOf x) p s = ap (λ (t : Stepped). t .effect) (step-is x s at i c is) in
+      let effect : stepAt x at s .effect ≡ planEffect (constantsOf x) p s = ap (λ (t : Stepped). t .effect) (step-is x s at i next is) in
       let done′ : planEffect (constantsOf x) p s .number ≡ 0 = sym (ap (λ (e : Effect). e .number) effect) ∙ done in
       let zero : p .number ≡ 0 = accepted p done′ in
       subst (λ (e : Effect). Leaves x p s (after e s)) (sym effect)
@@ -96,15 +95,13 @@ module _ (x : Setup) (s : State) (good : tablesGood (lengthsOf x s) (x .tables) 
   unfolding stepAt
   step-completes b at done = told (instructionAt (x .kernel) at) refl
     where
-      told : (d : Decoded) → instructionAt (x .kernel) at ≡ d → Completes x at s (stepAt x at s .next) (after (stepAt x at s .effect) s)
-      told (decoded.Refused n) e =
-          absurd (refusal-not-zero (x .kernel) at n b e (sym (ap (λ (d : Decoded). stepOf x (λ (p : Plan). planEffect (constantsOf x) p s) at d .effect .number) e) ∙ done))
-      told (decoded.Accepted i c) e =
+      told : (d : Answer (Read Instruction)) → instructionAt (x .kernel) at ≡ d → Completes x at s (stepAt x at s .next) (after (stepAt x at s .effect) s)
+      told (answer.refused n) e =
+          absurd (refusal-not-zero (x .kernel) at n b e (sym (ap (λ (d : Answer (Read Instruction)). stepOf x (λ (p : Plan). planEffect (constantsOf x) p s) at d .effect .number) e) ∙ done))
+      told (answer.done i) e =
           record {
-            instruction = i;
-            cursor = c;
-            decodes = e;
+            instruction = i .value;
+            decodes = e ∙ ap (λ (n : ℕ). got (i .value) n) (sym (ap (λ (t : Stepped). t .next) (step-is x s at (i .value) (i .next) e)));
             passes = sym (step-number x s at) ∙ done;
-            leaves = step-leaves at i c e done;
-            ends-at = ap (λ (t : Stepped). t .next) (step-is x s at i c e);
+            leaves = step-leaves at (i .value) (i .next) e done;
           }

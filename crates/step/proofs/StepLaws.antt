@@ -4,10 +4,11 @@ use mathlib.Core.List.{[]}
 use Prim.Native.Nat.{ℕ}
 use Rattle.cells.specs.Effect.{refused}
 use Rattle.reader.specs.declared.Cursor.{Cursor}
+use Rattle.reader.specs.Answer.{Answer, Read}
 use Rattle.decoder.specs.declared.Decoded.{Decoded}
 use Rattle.decoder.specs.declared.Decoded.the-variants as decoded
 use Rattle.decoder.specs.declared.Instruction.{Instruction}
-use Rattle.decoder.specs.Decoding.{instructionAt}
+use Rattle.decoder.specs.Decoding.{instructionAt, decodedAnswer}
 use Rattle.plan.specs.declared.Plan.{Plan}
 use Rattle.plan.specs.Checked.{checked}
 use Rattle.step.specs.declared.Progress.{Progress}
@@ -22,7 +23,7 @@ module _ (x : Setup) (at : ℕ) (s : State) where
   abbrev made : Stepped → Advanced
   made t = record { number = t .effect .number; next = t .next; state = after (t .effect) s }
 
-  stepped : (d : Decoded) → instructionAt (x .kernel) at ≡ d
+  stepped : (d : Answer (Read Instruction)) → instructionAt (x .kernel) at ≡ d
       → stepOf x (λ (p : Plan). planEffect (constantsOf x) p s) at d ≡ stepAt x at s
   unfolding stepAt
   stepped d e = ap (stepOf x (λ (p : Plan). planEffect (constantsOf x) p s) at) (sym e)
@@ -30,20 +31,20 @@ module _ (x : Setup) (at : ℕ) (s : State) where
   unchanged : (n : ℕ) → after (refused n) s ≡ s
   unchanged n = λ i. record { registers = unwritten [] (s .registers) refl i; surfaces = s .surfaces; memory = unwritten [] (s .memory) refl i }
 
-  module _ (d : Decoded) (told : d ≡ instructionAt (x .kernel) at) where
+  module _ (d : Decoded) (told : decodedAnswer d ≡ instructionAt (x .kernel) at) where
     pub accepted-advances : (i : Instruction) (c : Cursor) (p : Plan) (n : ℕ) (u : State) → d ≡ decoded.Accepted i c → p ≡ checked (x .tables) i → performed n u ≡ planPerformed (constantsOf x) p s
         → advanced (record { number = n; next = c .at }) u ≡ stepAdvanced x at s
     unfolding stepAdvanced planPerformed
     accepted-advances i c p n u is plan done =
         ap (λ (q : Performed). advanced (record { number = q .number; next = c .at }) (q .state)) done
         ∙ (ap (λ (p : Plan). made (record { next = c .at; effect = planEffect (constantsOf x) p s })) plan
-        ∙ ap made (stepped (decoded.Accepted i c) (sym told ∙ is)))
+        ∙ ap made (stepped (decodedAnswer (decoded.Accepted i c)) (sym told ∙ ap decodedAnswer is)))
 
     pub refusal-advances : (n : ℕ) → d ≡ decoded.Refused n → advanced (record { number = n; next = at }) s ≡ stepAdvanced x at s
     unfolding stepAdvanced
     refusal-advances n is =
         ap (λ (u : State). advanced (record { number = n; next = at }) u) (sym (unchanged n))
-        ∙ ap made (stepped (decoded.Refused n) (sym told ∙ is))
+        ∙ ap made (stepped (decodedAnswer (decoded.Refused n)) (sym told ∙ ap decodedAnswer is))
 
 -- the same, part by part
 pub record Advances (x : Setup) (at : ℕ) (s : State) (p : Progress) (u : State) : Type 0 where

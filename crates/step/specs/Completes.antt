@@ -1,8 +1,7 @@
 -- A completed instruction: it is decoded, fails no test, and leaves its results; the next one begins at its end.
 use mathlib.Core.Path.{_≡_}
 use Prim.Native.Nat.{ℕ}
-use Rattle.reader.specs.declared.Cursor.{Cursor}
-use Rattle.decoder.specs.declared.Decoded.the-variants as decoded
+use Rattle.reader.specs.Answer.{got}
 use Rattle.decoder.specs.declared.Instruction.{Instruction}
 use Rattle.decoder.specs.Decoding.{instructionAt}
 use Rattle.plan.specs.Checked.{checked}
@@ -13,8 +12,6 @@ use Rattle.step.specs.FirstFailing.{firstFailing}
 -- from a position and a state to the next ones
 pub record Completes (x : Setup) (at : ℕ) (s : State) (next : ℕ) (u : State) : Type 0 where
   pub instruction : Instruction
-  pub cursor : Cursor
-  pub decodes : instructionAt (x .kernel) at ≡ decoded.Accepted instruction cursor
+  pub decodes : instructionAt (x .kernel) at ≡ got instruction next
   pub passes : firstFailing x at s ≡ 0
   pub leaves : Leaves x (checked (x .tables) instruction) s u
-  pub ends-at : next ≡ cursor .at

@@ -5,9 +5,10 @@ use Prim.Native.Nat.{ℕ, zero, suc}
 use mathlib.Core.Bool.{Bool, cond}
 use lib.ListN.{length}
 use Rattle.cells.specs.Over.{some}
+use Rattle.reader.specs.Answer.{onAnswer}
 use Rattle.decoder.specs.declared.Instruction.{Instruction}
 use Rattle.decoder.specs.declared.Instruction.the-variants as instruction
-use Rattle.decoder.specs.Decoding.{instructionAt, onDecoded}
+use Rattle.decoder.specs.Decoding.{instructionAt}
 use Rattle.plan.specs.declared.Plan.{Plan}
 use Rattle.plan.specs.Checked.{checked}
 use Rattle.staging.specs.Lanes.{lanesOn}
@@ -41,6 +42,6 @@ dataTests x (instruction.RawSend i) p s = 0
 -- decoding's number; else that of the tests before data, 8 to 9 (`checked`); else that of the tests of data
 unfoldable pub firstFailing : Setup → ℕ → State → ℕ
 firstFailing x at s =
-    onDecoded (instructionAt (x .kernel) at)
+    onAnswer (instructionAt (x .kernel) at)
     (λ n. n)
-    (λ i c. firstOf (checked (x .tables) i .number) (dataTests x i (checked (x .tables) i) s))
+    (λ i. firstOf (checked (x .tables) (i .value) .number) (dataTests x (i .value) (checked (x .tables) (i .value)) s))

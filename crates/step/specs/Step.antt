@@ -5,7 +5,8 @@ use lib.ListN.{length}
 use lib.Dec.{eqb}
 use Rattle.cells.specs.Writes.{writtenAll}
 use Rattle.cells.specs.Effect.{Effect, refused, unless}
-use Rattle.decoder.specs.Decoding.{instructionAt, onDecoded}
+use Rattle.reader.specs.Answer.{onAnswer}
+use Rattle.decoder.specs.Decoding.{instructionAt}
 use Rattle.plan.specs.declared.Plan.{Plan}
 use Rattle.plan.specs.declared.Operation.{Operation}
 use Rattle.plan.specs.declared.Operation.the-variants as operation
@@ -36,9 +37,9 @@ pub record Stepped : Type 0 where
 
 unfoldable pub stepAt : Setup → ℕ → State → Stepped
 stepAt x at s =
-    onDecoded (instructionAt (x .kernel) at)
+    onAnswer (instructionAt (x .kernel) at)
     (λ n. record { next = at; effect = refused n })
-    (λ i c. record { next = c .at; effect = planEffect (constantsOf x) (checked (x .tables) i) s })
+    (λ i. record { next = i .next; effect = planEffect (constantsOf x) (checked (x .tables) (i .value)) s })
 
 -- the state after an effect; surfaces are never written
 abbrev pub after : Effect → State → State
