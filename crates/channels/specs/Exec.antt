@@ -1,10 +1,14 @@
--- The exec byte. Document 01, "Bytes of an instruction": "Exec byte: bits 0-2 sizes 1, 2, 4, 8, 16, 32 (codes 6, 7 reserved ..);
--- bits 4-7 M1..M8, then M1_NM..M8_NM. Mk and Mk_NM have offset 4(k-1)."
+-- The exec byte: decoder, encoder and channels go by this definition. Document 01, "Bytes of an instruction": "Exec byte: bits 0-2 sizes 1, 2,
+-- 4, 8, 16, 32 (codes 6, 7 reserved ..); bits 4-7 M1..M8, then M1_NM..M8_NM. Mk and Mk_NM have offset 4(k-1)."
 use Prim.Native.Nat.{ℕ, _+_, _-_, _*_, _%_, _^_}
-use mathlib.Core.Bool.{Bool}
+use mathlib.Core.Bool.{Bool, _||_}
 use lib.Dec.{leb}
-use Rattle.channels.specs.Bits.{bitField}
+use Rattle.channels.specs.Bits.{bit, bitField}
 use Rattle.channels.specs.declared.Exec.{Exec}
+
+-- "codes 6, 7 reserved", and bit 3 is not named: "Bits not named are zero"
+unfoldable pub execReserved : ℕ → Bool
+execReserved exec = bit exec 3 || leb 6 (bitField exec 0 2)
 
 -- "bits 0-2 sizes 1, 2, 4, 8, 16, 32". Decoding refuses codes 6 and 7. Here they give 64 and 128, which a run would refuse by 8.
 unfoldable pub execSize : ℕ → ℕ
@@ -27,4 +31,4 @@ unfoldable pub noMask : ℕ → Bool
 noMask exec = leb 8 (maskControl exec)
 
 abbrev pub execOf : ℕ → Exec
-execOf exec = record { size = execSize exec; offset = execOffset exec; unmasked = noMask exec }
+execOf exec = record { reserved = execReserved exec; size = execSize exec; offset = execOffset exec; unmasked = noMask exec }

@@ -1,7 +1,7 @@
 -- The pred word. Document 01, "Bytes of an instruction": "Pred word: bits 0-11 id, 12 zero, 13-14 none/any/all/reserved, 15 inverse.
 -- A word of 0 means no predicate."
 use Prim.Native.Nat.{ℕ}
-use mathlib.Core.Bool.{Bool, not}
+use mathlib.Core.Bool.{Bool, not, _||_}
 use lib.Dec.{eqb}
 use Rattle.channels.specs.Bits.{bit, bitField}
 
@@ -12,7 +12,7 @@ hasPredicate pred = not (eqb pred 0)
 unfoldable pub predicateId : ℕ → ℕ
 predicateId pred = bitField pred 0 11
 
--- "13-14 none/any/all/reserved": decoding refuses the reserved code 3
+-- "13-14 none/any/all/reserved"
 unfoldable pub predicateCombine : ℕ → ℕ
 predicateCombine pred = bitField pred 13 14
 
@@ -21,6 +21,10 @@ ANY = 1
 
 abbrev pub ALL : ℕ
 ALL = 2
+
+-- "12 zero", "13-14 .. reserved": code 3
+unfoldable pub predicateReserved : ℕ → Bool
+predicateReserved pred = bit pred 12 || eqb (predicateCombine pred) 3
 
 unfoldable pub predicateInverse : ℕ → Bool
 predicateInverse pred = bit pred 15

@@ -4,8 +4,8 @@ ghost use mathlib.Core.Bool.{Bool·beq};
 ghost use Prim.Native.Nat.{ℕ, _+_};
 ghost use Rattle.channels.specs.Bits.{bit};
 ghost use Rattle.channels.specs.Below.{someBelow};
-ghost use Rattle.channels.specs.Exec.{execOf};
-ghost use Rattle.channels.specs.Predicate.{hasPredicate, predicateId, predicateCombine, predicateInverse};
+ghost use Rattle.channels.specs.Exec.{execReserved, execOf};
+ghost use Rattle.channels.specs.Predicate.{hasPredicate, predicateId, predicateCombine, predicateReserved, predicateInverse};
 ghost use Rattle.channels.specs.Lanes.{inverted};
 ghost use Rattle.channels.specs.mirror.Prepared.{combinedPredicate, predicateOf, lanesOf, agreesAt, isOn};
 
@@ -13,8 +13,9 @@ const ANY: u8 = 1;
 
 const ALL: u8 = 2;
 
-// The parts of an exec byte: ExecSize, the offset, and whether NM is chosen.
+// The parts of an exec byte: whether it is reserved, ExecSize, the offset, and whether NM is chosen.
 pub struct Exec {
+    pub reserved: bool,
     pub size: u8,
     pub offset: u8,
     pub unmasked: bool,
@@ -33,6 +34,13 @@ pub struct Lanes {
     pub predicate: Predicate,
 }
 
+// Bit 3 is not named, and codes 6 and 7 are no sizes.
+fn exec_reserved(exec: u8) -> bool
+    ensures { λ r. ⌜ r ≡ execReserved exec ⌝ }
+{
+    exec / 8 % 2 == 1 || 6 <= exec % 8
+}
+
 // What the exec byte means is found here and nowhere else.
 pub fn split(exec: u8) -> Exec
     ensures { λ r. ⌜ r ≡ execOf exec ⌝ }
@@ -41,13 +49,14 @@ pub fn split(exec: u8) -> Exec
     let control = exec / 16;
     let k = control % 8 + 1;
     Exec {
+        reserved: exec_reserved(exec),
         size: 1 << (exec % 8),
         offset: 4 * (k - 1),
         unmasked: 8 <= control,
     }
 }
 
-// What the pred word means is found by the next four and nowhere else.
+// What the pred word means is found by the next five and nowhere else.
 pub fn has_predicate(pred: u16) -> bool
     ensures { λ r. ⌜ r ≡ hasPredicate pred ⌝ }
 {
@@ -64,6 +73,13 @@ pub fn predicate_combine(pred: u16) -> u8
     ensures { λ r. ⌜ r ≡ predicateCombine pred ⌝ }
 {
     (pred / 8192 % 4) as u8
+}
+
+// Bit 12 is zero, and code 3 of none, any and all is reserved.
+pub fn predicate_reserved(pred: u16) -> bool
+    ensures { λ r. ⌜ r ≡ predicateReserved pred ⌝ }
+{
+    pred / 4096 % 2 == 1 || predicate_combine(pred) == 3
 }
 
 pub fn predicate_inverse(pred: u16) -> bool

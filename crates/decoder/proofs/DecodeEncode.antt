@@ -6,14 +6,16 @@ use mathlib.Core.Bool.{true}
 use Prim.Native.Nat.{ℕ}
 use native.Mathlib.Omega.{arith}
 use lib.Dec.{eqb}
+use borrow.Author.Tests.{eqb-true}
 use Rattle.little_endian.specs.LittleEndian.{Bytes}
 use Rattle.reader.specs.Answer.{Answer, refused, Read, got}
 use Rattle.reader.proofs.Laws.{cond-then}
+use Rattle.fields.specs.declared.TagRule.the-variants as tag
 use Rattle.fields.specs.declared.ByteRule.the-variants as byte
 use Rattle.fields.specs.declared.WordRule.the-variants as word
 use Rattle.fields.specs.declared.Field.the-variants.{Byte}
 use Rattle.fields.proofs.Laws.{Parsed, parsed-then, ParsedAs, Given, given-then, byte-given, word-given}
-use Rattle.field_groups.proofs.Parsed.{tagged, control-given, operand-given, scalar-and-raws-given, access-given, message-given}
+use Rattle.field_groups.proofs.Parsed.{read-as, control-given, operand-given, scalar-and-raws-given, access-given, message-given}
 use Rattle.decoder.specs.declared.Instruction.{Instruction}
 use Rattle.decoder.specs.Decoding.{shlAt, gatherAt, scatterAt, svmAt, rawSendAt, instructionAt}
 use Rattle.decoder.specs.Format.{shlFields, gatherFields, scatterFields, rawSendFields, instructionFields}
@@ -28,9 +30,9 @@ module _ (s : List ℕ) (b : Bytes s) where
   unfolding shlAt instructionFields shlFields
   shl-given at next p =
       given-then (control-given s b byte.Exec next) (λ control p₁.
-      given-then (operand-given s b byte.DestinationTag (control .next)) (λ destination p₂.
-      given-then (operand-given s b byte.SourceTag (destination .next)) (λ source p₃.
-      given-then (operand-given s b byte.SourceTag (source .next)) (λ count p₄.
+      given-then (operand-given s b tag.Destination (control .next)) (λ destination p₂.
+      given-then (operand-given s b tag.Source (destination .next)) (λ source p₃.
+      given-then (operand-given s b tag.Source (source .next)) (λ count p₄.
       record { is = parsed-then p (parsed-then p₁ (parsed-then p₂ (parsed-then p₃ p₄))) }))))
 
   gather-given : (at next : ℕ) → Parsed s at next (Byte byte.Free 0x78 ∷ []) → Given instructionFields s at (gatherAt s next)
@@ -56,7 +58,7 @@ module _ (s : List ℕ) (b : Bytes s) where
       let P = Given instructionFields s at in
       given-then (byte-given s b byte.Free next) (λ opcode q.
       cond-then P (eqb (opcode .value) 0x07)
-      (λ e. scatter-given at next (opcode .next) p (tagged s byte.Free next (opcode .value) 0x07 (opcode .next) e q))
+      (λ e. scatter-given at next (opcode .next) p (read-as s byte.Free next (opcode .value) 0x07 (opcode .next) (eqb-true (opcode .value) 0x07 e) q))
       (λ _. record { is = two-refuses }))
 
   raw-send-given : (at next : ℕ) → Parsed s at next (Byte byte.Free 0x5d ∷ []) → Given instructionFields s at (rawSendAt s next)
@@ -73,7 +75,7 @@ module _ (s : List ℕ) (b : Bytes s) where
   instruction-given at =
       let P = Given instructionFields s at in
       given-then (byte-given s b byte.Free at) (λ opcode p.
-      let is : (t : ℕ) → eqb (opcode .value) t ≡ true → Parsed s at (opcode .next) (Byte byte.Free t ∷ []) = λ t e. tagged s byte.Free at (opcode .value) t (opcode .next) e p in
+      let is : (t : ℕ) → eqb (opcode .value) t ≡ true → Parsed s at (opcode .next) (Byte byte.Free t ∷ []) = λ t e. read-as s byte.Free at (opcode .value) t (opcode .next) (eqb-true (opcode .value) t e) p in
       cond-then P (eqb (opcode .value) 0x24) (λ e. shl-given at (opcode .next) (is 0x24 e)) (λ _.
       cond-then P (eqb (opcode .value) 0x78) (λ e. gather-given at (opcode .next) (is 0x78 e)) (λ _.
       cond-then P (eqb (opcode .value) 0x4e) (λ e. svm-given at (opcode .next) (is 0x4e e)) (λ _.

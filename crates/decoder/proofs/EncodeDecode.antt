@@ -5,6 +5,7 @@ use mathlib.Core.List.{List, _++_}
 use Prim.Native.Nat.{ℕ, _+_}
 use lib.ListN.{length, drop}
 use Rattle.reader.specs.Answer.{refused, got}
+use Rattle.fields.specs.declared.TagRule.the-variants as tag
 use Rattle.fields.specs.declared.ByteRule.the-variants as byte
 use Rattle.fields.specs.declared.WordRule.the-variants as word
 use Rattle.fields.specs.Told.{LayoutTold}
@@ -21,9 +22,9 @@ unfolding instructionAt shlAt gatherAt svmAt scatterAt rawSendAt instructionFiel
 instruction-there (instruction.Shl x) h =
     there-then _ (byte-there byte.Free 0x24) h (λ n₁ h₁.
     there-then _ (control-there byte.Exec (x .control)) h₁ (λ n₂ h₂.
-    there-then _ (operand-there byte.DestinationTag (x .destination)) h₂ (λ n₃ h₃.
-    there-then _ (operand-there byte.SourceTag (x .source)) h₃ (λ n₄ h₄.
-    there-last _ (operand-there byte.SourceTag (x .count) h₄)))))
+    there-then _ (operand-there tag.Destination (x .destination)) h₂ (λ n₃ h₃.
+    there-then _ (operand-there tag.Source (x .source)) h₃ (λ n₄ h₄.
+    there-last _ (operand-there tag.Source (x .count) h₄)))))
 instruction-there (instruction.Gather x) h =
     there-then _ (byte-there byte.Free 0x78) h (λ n₁ h₁.
     there-then _ (control-there byte.Exec (x .control)) h₁ (λ n₂ h₂.

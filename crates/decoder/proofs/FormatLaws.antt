@@ -4,6 +4,7 @@ use mathlib.Core.List.{[], _∷_, _++_}
 use Prim.Native.Nat.{_≤_}
 use native.Mathlib.Omega.{arith}
 use lib.ListN.{length}
+use Rattle.fields.specs.declared.TagRule.the-variants as tag
 use Rattle.fields.specs.declared.ByteRule.the-variants as byte
 use Rattle.fields.specs.declared.WordRule.the-variants as word
 use Rattle.fields.specs.declared.Field.the-variants.{Byte, Word}
@@ -21,19 +22,19 @@ use Rattle.decoder.specs.Format.{shlFields, gatherFields, scatterFields,
 
 -- ---- group by group
 
-pub shl-fields : (x : Shl) → shlFields x ≡ (Byte byte.Free 0x24 ∷ []) ++ (controlFields byte.Exec (x .control) ++ (operandFields byte.DestinationTag (x .destination) ++ (operandFields byte.SourceTag (x .source) ++ operandFields byte.SourceTag (x .count))))
+pub shl-fields : (x : Shl) → shlFields x ≡ (Byte byte.Free 0x24 ∷ []) ++ (controlFields byte.Exec (x .control) ++ (operandFields tag.Destination (x .destination) ++ (operandFields tag.Source (x .source) ++ operandFields tag.Source (x .count))))
 unfolding shlFields
 shl-fields x = refl
 
-pub gather-fields : (x : Gather) → gatherFields x ≡ (Byte byte.Free 0x78 ∷ []) ++ (controlFields byte.Exec (x .control) ++ (accessFields (x .access) ++ (operandFields byte.SourceTag (x .offset) ++ (rawFields (x .«element_offset») ++ rawFields (x .destination)))))
+pub gather-fields : (x : Gather) → gatherFields x ≡ (Byte byte.Free 0x78 ∷ []) ++ (controlFields byte.Exec (x .control) ++ (accessFields (x .access) ++ (operandFields tag.Scalar (x .offset) ++ (rawFields (x .«element_offset») ++ rawFields (x .destination)))))
 unfolding gatherFields
 gather-fields x = refl
 
-pub scatter-fields : (x : Scatter) → scatterFields x ≡ (Byte byte.Free 0x4e ∷ []) ++ ((Byte byte.Free 0x07 ∷ []) ++ (controlFields byte.ScatterExec (x .control) ++ ((Byte byte.Channels (x .channels) ∷ []) ++ ((Word word.Free (x .scale) ∷ []) ++ (operandFields byte.SourceTag (x .address) ++ (rawFields (x .«element_offset») ++ rawFields (x .source)))))))
+pub scatter-fields : (x : Scatter) → scatterFields x ≡ (Byte byte.Free 0x4e ∷ []) ++ ((Byte byte.Free 0x07 ∷ []) ++ (controlFields byte.ScatterExec (x .control) ++ ((Byte byte.Channels (x .channels) ∷ []) ++ ((Word word.Free (x .scale) ∷ []) ++ (operandFields tag.Scalar (x .address) ++ (rawFields (x .«element_offset») ++ rawFields (x .source)))))))
 unfolding scatterFields
 scatter-fields x = refl
 
-pub raw-send-fields : (x : RawSend) → rawSendFields x ≡ (Byte byte.Free 0x5d ∷ []) ++ ((Byte byte.Modifiers (x .modifiers) ∷ []) ++ (controlFields byte.Exec (x .control) ++ (messageFields (x .message) ++ (operandFields byte.SourceTag (x .descriptor) ++ (rawFields (x .source) ++ rawFields (x .destination))))))
+pub raw-send-fields : (x : RawSend) → rawSendFields x ≡ (Byte byte.Free 0x5d ∷ []) ++ ((Byte byte.Modifiers (x .modifiers) ∷ []) ++ (controlFields byte.Exec (x .control) ++ (messageFields (x .message) ++ (operandFields tag.Scalar (x .descriptor) ++ (rawFields (x .source) ++ rawFields (x .destination))))))
 unfolding rawSendFields
 raw-send-fields x = refl
 

@@ -4,6 +4,7 @@ use mathlib.Core.List.{List, [], _∷_}
 use Prim.Native.Nat.{ℕ}
 use Rattle.little_endian.specs.LittleEndian.{Bytes}
 use Rattle.reader.specs.Answer.{got}
+use Rattle.channels.specs.Exec.{execSize}
 use Rattle.fields.specs.declared.ByteRule.the-variants as byte
 use Rattle.fields.specs.declared.Field.{Field}
 use Rattle.fields.specs.declared.Field.the-variants.{Byte}
@@ -19,13 +20,13 @@ use Rattle.decoder.specs.Format.{scatterFields, instructionFields}
 use Rattle.decoder.proofs.DecodeEncode.{decode-encode}
 
 -- the exec byte stands after opcode and sub-opcode
-good-exec : (x : Scatter) → layoutRefusal (scatterFields x) ≡ 0 → EightOrSixteen (x .control .exec)
+good-exec : (x : Scatter) → layoutRefusal (scatterFields x) ≡ 0 → EightOrSixteen (execSize (x .control .exec))
 unfolding scatterFields
 good-exec x g =
     let opcodes = Byte byte.Free 0x4e ∷ Byte byte.Free 0x07 ∷ [] in
     let control = controlFields byte.ScatterExec (x .control) in
     scatter-exec (x .control .exec) _ (subst (λ (fs : List Field). layoutRefusal fs ≡ 0) (control-fields byte.ScatterExec (x .control)) (good-append control _ (good-append opcodes _ g .1) .0))
 
-pub decoded-scatter : (s : List ℕ) (at : ℕ) (x : Scatter) (next : ℕ) → Bytes s → instructionAt s at ≡ got (instruction.Scatter x) next → EightOrSixteen (x .control .exec)
+pub decoded-scatter : (s : List ℕ) (at : ℕ) (x : Scatter) (next : ℕ) → Bytes s → instructionAt s at ≡ got (instruction.Scatter x) next → EightOrSixteen (execSize (x .control .exec))
 unfolding instructionFields
 decoded-scatter s at x next b e = good-exec x (decode-encode s at (instruction.Scatter x) next b e .good)

@@ -6,6 +6,7 @@ use mathlib.Core.Bool.{cond}
 use lib.ListN.{take, drop}
 use lib.Dec.{eqb}
 use Rattle.reader.specs.Answer.{Answer, refused, Read, got, onAnswer, andThen}
+use Rattle.fields.specs.declared.TagRule.the-variants as tag
 use Rattle.fields.specs.declared.ByteRule.the-variants as byte
 use Rattle.fields.specs.declared.WordRule.the-variants as word
 use Rattle.fields.specs.Reading.{byteFieldAt, wordFieldAt}
@@ -19,9 +20,9 @@ use Rattle.decoder.specs.declared.Decoded.the-variants as decoded
 unfoldable pub shlAt : List ℕ → ℕ → Answer (Read Instruction)
 shlAt s at =
     andThen (controlAt byte.Exec s at) (λ control.
-    andThen (operandAt byte.DestinationTag s (control .next)) (λ destination.
-    andThen (operandAt byte.SourceTag s (destination .next)) (λ source.
-    andThen (operandAt byte.SourceTag s (source .next)) (λ count.
+    andThen (operandAt tag.Destination s (control .next)) (λ destination.
+    andThen (operandAt tag.Source s (destination .next)) (λ source.
+    andThen (operandAt tag.Source s (source .next)) (λ count.
     got (Shl (record { control = control .value; destination = destination .value; source = source .value; count = count .value })) (count .next)))))
 
 -- page 001: Exec_size, Pred, Block_size, Num_blocks, Scale, Surface, Offset, Element_offset, Dst

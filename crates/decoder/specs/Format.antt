@@ -1,6 +1,7 @@
 -- An instruction laid out as fields, in the order of its page's Format table: what it is encoded from.
 use Prim.Native.Nat.{ℕ}
 use mathlib.Core.List.{List, [], _∷_, _++_}
+use Rattle.fields.specs.declared.TagRule.the-variants as tag
 use Rattle.fields.specs.declared.ByteRule.the-variants as byte
 use Rattle.fields.specs.declared.WordRule.the-variants as word
 use Rattle.fields.specs.declared.Field.{Field}
@@ -18,16 +19,16 @@ unfoldable pub shlFields : Shl → List Field
 shlFields x =
     (Byte byte.Free 0x24 ∷ [])
     ++ (controlFields byte.Exec (x .control)
-    ++ (operandFields byte.DestinationTag (x .destination)
-    ++ (operandFields byte.SourceTag (x .source)
-    ++ operandFields byte.SourceTag (x .count))))
+    ++ (operandFields tag.Destination (x .destination)
+    ++ (operandFields tag.Source (x .source)
+    ++ operandFields tag.Source (x .count))))
 
 unfoldable pub gatherFields : Gather → List Field
 gatherFields x =
     (Byte byte.Free 0x78 ∷ [])
     ++ (controlFields byte.Exec (x .control)
     ++ (accessFields (x .access)
-    ++ (operandFields byte.SourceTag (x .offset)
+    ++ (operandFields tag.Scalar (x .offset)
     ++ (rawFields (x .«element_offset»)
     ++ rawFields (x .destination)))))
 
@@ -38,7 +39,7 @@ scatterFields x =
     ++ (controlFields byte.ScatterExec (x .control)
     ++ ((Byte byte.Channels (x .channels) ∷ [])
     ++ ((Word word.Free (x .scale) ∷ [])
-    ++ (operandFields byte.SourceTag (x .address)
+    ++ (operandFields tag.Scalar (x .address)
     ++ (rawFields (x .«element_offset»)
     ++ rawFields (x .source)))))))
 
@@ -48,7 +49,7 @@ rawSendFields x =
     ++ ((Byte byte.Modifiers (x .modifiers) ∷ [])
     ++ (controlFields byte.Exec (x .control)
     ++ (messageFields (x .message)
-    ++ (operandFields byte.SourceTag (x .descriptor)
+    ++ (operandFields tag.Scalar (x .descriptor)
     ++ (rawFields (x .source)
     ++ rawFields (x .destination))))))
 

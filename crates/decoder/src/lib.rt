@@ -11,6 +11,7 @@ use field_groups::Raw;
 use field_groups::ScalarAndRawsField;
 use fields::ByteField;
 use fields::ByteRule;
+use fields::TagRule;
 use fields::WordField;
 use fields::WordRule;
 use reader::Cursor;
@@ -72,11 +73,11 @@ fn shl_fields(kernel: &[u8], cursor: Cursor) -> Decoded
 {
     match field_groups::control_field(kernel, cursor, ByteRule::Exec) {
         ControlField::Got(control, c1) => {
-            match field_groups::operand_field(kernel, c1, ByteRule::DestinationTag) {
+            match field_groups::operand_field(kernel, c1, TagRule::Destination) {
                 OperandField::Got(destination, c2) => {
-                    match field_groups::operand_field(kernel, c2, ByteRule::SourceTag) {
+                    match field_groups::operand_field(kernel, c2, TagRule::Source) {
                         OperandField::Got(source, c3) => {
-                            match field_groups::operand_field(kernel, c3, ByteRule::SourceTag) {
+                            match field_groups::operand_field(kernel, c3, TagRule::Source) {
                                 OperandField::Got(count, c4) => Decoded::Accepted(
                                     Instruction::Shl(Shl {
                                         control,

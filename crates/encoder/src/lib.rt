@@ -13,6 +13,7 @@ use field_groups::Operand;
 use field_groups::Raw;
 use fields::ByteRule;
 use fields::Field;
+use fields::TagRule;
 use fields::WordRule;
 ghost use mathlib.Core.Path.{_≡_};
 ghost use mathlib.Core.List.{_++_};
@@ -139,27 +140,27 @@ impl Draft {
             .with_field(Field::Word(WordRule::Predicate, x.pred))
     }
 
-    fn with_general(self, rule: ByteRule, x: General) -> Draft
+    fn with_general(self, rule: TagRule, x: General) -> Draft
         ensures { λ r. ⌜ r ≡ withFields (operandFields rule (operand.General x)) self ⌝ }
     {
-        self.with_field(Field::Byte(rule, 0))
+        self.with_field(Field::Byte(ByteRule::Tag(rule), 0))
             .with_field(Field::Word(WordRule::Free, x.index))
             .with_field(Field::Byte(ByteRule::Free, x.row))
             .with_field(Field::Byte(ByteRule::Free, x.column))
             .with_field(Field::Word(WordRule::Region, x.region))
     }
 
-    fn with_immediate(self, rule: ByteRule, x: Immediate) -> Draft
+    fn with_immediate(self, rule: TagRule, x: Immediate) -> Draft
         ensures { λ r. ⌜ r ≡ withFields (operandFields rule (operand.Immediate x)) self ⌝ }
     {
-        self.with_field(Field::Byte(rule, 5))
+        self.with_field(Field::Byte(ByteRule::Tag(rule), 5))
             .with_field(Field::Byte(ByteRule::ImmediateType, x.code))
             .with_field(Field::Dword(x.low))
             .with_field(high_field(x.code, x.high))
     }
 
     // `rule` is the place's rule of its tag.
-    fn with_operand(self, rule: ByteRule, x: Operand) -> Draft
+    fn with_operand(self, rule: TagRule, x: Operand) -> Draft
         ensures { λ r. ⌜ r ≡ withFields (operandFields rule x) self ⌝ }
     {
         match x {
@@ -202,9 +203,9 @@ fn draft_shl(x: Shl) -> Draft
     Draft::empty()
         .with_field(Field::Byte(ByteRule::Free, 0x24))
         .with_control(ByteRule::Exec, x.control)
-        .with_operand(ByteRule::DestinationTag, destination)
-        .with_operand(ByteRule::SourceTag, source)
-        .with_operand(ByteRule::SourceTag, count)
+        .with_operand(TagRule::Destination, destination)
+        .with_operand(TagRule::Source, source)
+        .with_operand(TagRule::Source, count)
 }
 
 fn draft_gather(x: Gather) -> Draft
@@ -215,7 +216,7 @@ fn draft_gather(x: Gather) -> Draft
         .with_field(Field::Byte(ByteRule::Free, 0x78))
         .with_control(ByteRule::Exec, x.control)
         .with_access(x.access)
-        .with_operand(ByteRule::SourceTag, offset)
+        .with_operand(TagRule::Scalar, offset)
         .with_raw(x.element_offset)
         .with_raw(x.destination)
 }
@@ -230,7 +231,7 @@ fn draft_scatter(x: Scatter) -> Draft
         .with_control(ByteRule::ScatterExec, x.control)
         .with_field(Field::Byte(ByteRule::Channels, x.channels))
         .with_field(Field::Word(WordRule::Free, x.scale))
-        .with_operand(ByteRule::SourceTag, address)
+        .with_operand(TagRule::Scalar, address)
         .with_raw(x.element_offset)
         .with_raw(x.source)
 }
@@ -244,7 +245,7 @@ fn draft_raw_send(x: RawSend) -> Draft
         .with_field(Field::Byte(ByteRule::Modifiers, x.modifiers))
         .with_control(ByteRule::Exec, x.control)
         .with_message(x.message)
-        .with_operand(ByteRule::SourceTag, descriptor)
+        .with_operand(TagRule::Scalar, descriptor)
         .with_raw(x.source)
         .with_raw(x.destination)
 }

@@ -5,6 +5,7 @@ use mathlib.Core.Bool.{Bool, true, false, cond}
 use Prim.Native.Nat.{ℕ}
 use native.Mathlib.Omega.{arith}
 use Rattle.element_types.specs.Types.{hasHighWord}
+use Rattle.fields.specs.declared.TagRule.{TagRule}
 use Rattle.fields.specs.declared.ByteRule.{ByteRule}
 use Rattle.fields.specs.declared.ByteRule.the-variants as byte
 use Rattle.fields.specs.declared.WordRule.the-variants as word
@@ -30,11 +31,11 @@ pub high-field : (code high : ℕ) → highField code high ≡ cond (hasHighWord
 unfolding highField
 high-field code high = refl
 
-pub general-fields : (rule : ByteRule) (g : General) → operandFields rule (operand.General g) ≡ Byte rule 0 ∷ Word word.Free (g .index) ∷ Byte byte.Free (g .row) ∷ Byte byte.Free (g .column) ∷ Word word.Region (g .region) ∷ []
+pub general-fields : (rule : TagRule) (g : General) → operandFields rule (operand.General g) ≡ Byte (byte.Tag rule) 0 ∷ Word word.Free (g .index) ∷ Byte byte.Free (g .row) ∷ Byte byte.Free (g .column) ∷ Word word.Region (g .region) ∷ []
 unfolding operandFields
 general-fields rule g = refl
 
-pub immediate-fields : (rule : ByteRule) (i : Immediate) → operandFields rule (operand.Immediate i) ≡ Byte rule 5 ∷ Byte byte.ImmediateType (i .code) ∷ Dword (i .low) ∷ highField (i .code) (i .high) ∷ []
+pub immediate-fields : (rule : TagRule) (i : Immediate) → operandFields rule (operand.Immediate i) ≡ Byte (byte.Tag rule) 5 ∷ Byte byte.ImmediateType (i .code) ∷ Dword (i .low) ∷ highField (i .code) (i .high) ∷ []
 unfolding operandFields
 immediate-fields rule i = refl
 
@@ -59,7 +60,7 @@ pub control-at-most : (rule : ByteRule) (x : Control) → AtMost 3 (controlField
 unfolding controlFields
 control-at-most rule x = at-most-byte _ _ _ 2 (at-most-word _ _ _ 0 at-most-nil)
 
-pub operand-at-most : (rule : ByteRule) (x : Operand) → AtMost 10 (operandFields rule x)
+pub operand-at-most : (rule : TagRule) (x : Operand) → AtMost 10 (operandFields rule x)
 unfolding operandFields highField
 operand-at-most rule (operand.General g) =
     let h : AtMost 7 (operandFields rule (operand.General g)) = at-most-byte _ _ _ 6 (at-most-word _ _ _ 4 (at-most-byte _ _ _ 3 (at-most-byte _ _ _ 2 (at-most-word _ _ _ 0 at-most-nil)))) in

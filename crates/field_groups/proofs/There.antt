@@ -3,6 +3,8 @@ use mathlib.Core.List.{List, [], _∷_}
 use mathlib.Core.Bool.{Bool, true, false, cond}
 use Prim.Native.Nat.{ℕ}
 use Rattle.element_types.specs.Types.{hasHighWord}
+use Rattle.fields.specs.declared.TagRule.{TagRule}
+use Rattle.fields.specs.declared.TagRule.the-variants as tag
 use Rattle.fields.specs.declared.ByteRule.{ByteRule}
 use Rattle.fields.specs.declared.ByteRule.the-variants as byte
 use Rattle.fields.specs.declared.WordRule.the-variants as word
@@ -31,16 +33,16 @@ module _ {s : List ℕ} {at : ℕ} {t : List ℕ} where
       there-then _ (byte-there rule (x .exec)) h (λ n₁ h₁.
       there-last _ (word-there word.Predicate (x .pred) h₁))
 
-  pub operand-there : (rule : ByteRule) (x : Operand) → Stands s at (operandFields rule x) t → There (operandAt rule s at) x at (operandFields rule x)
+  pub operand-there : (rule : TagRule) (x : Operand) → Stands s at (operandFields rule x) t → There (operandAt rule s at) x at (operandFields rule x)
   unfolding operandAt generalAt immediateAt operandFields highField
   operand-there rule (General x) h =
-      there-then _ (byte-there rule 0) h (λ n₁ h₁.
+      there-then _ (byte-there (byte.Tag rule) 0) h (λ n₁ h₁.
       there-then _ (word-there word.Free (x .index)) h₁ (λ n₂ h₂.
       there-then _ (byte-there byte.Free (x .row)) h₂ (λ n₃ h₃.
       there-then _ (byte-there byte.Free (x .column)) h₃ (λ n₄ h₄.
       there-last _ (word-there word.Region (x .region) h₄)))))
   operand-there rule (Immediate x) h =
-      there-then _ (byte-there rule 5) h (λ n₁ h₁.
+      there-then _ (byte-there (byte.Tag rule) 5) h (λ n₁ h₁.
       there-then _ (byte-there byte.ImmediateType (x .code)) h₁ (λ n₂ h₂.
       there-then _ (dword-there (x .low)) h₂ (λ n₃ h₃.
       there-last _ (high-word-there (hasHighWord (x .code)) (x .high) h₃))))
@@ -70,6 +72,6 @@ module _ {s : List ℕ} {at : ℕ} {t : List ℕ} where
   pub scalar-and-raws-there : (x : ScalarAndRaws) → Stands s at (scalarAndRawsFields x) t → There (scalarAndRawsAt s at) x at (scalarAndRawsFields x)
   unfolding scalarAndRawsAt
   scalar-and-raws-there x h =
-      there-then _ (operand-there byte.SourceTag (x .scalar)) h (λ n₁ h₁.
+      there-then _ (operand-there tag.Scalar (x .scalar)) h (λ n₁ h₁.
       there-then _ (raw-there (x .first)) h₁ (λ n₂ h₂.
       there-last _ (raw-there (x .second) h₂)))

@@ -6,9 +6,12 @@ use mathlib.Core.Bool.{Bool, cond}
 use lib.Dec.{eqb}
 use Rattle.element_types.specs.Types.{hasHighWord}
 use Rattle.reader.specs.Answer.{Answer, refused, Read, got, andThen}
+use Rattle.fields.specs.declared.TagRule.{TagRule}
+use Rattle.fields.specs.declared.TagRule.the-variants as tag
 use Rattle.fields.specs.declared.ByteRule.{ByteRule}
 use Rattle.fields.specs.declared.ByteRule.the-variants as byte
 use Rattle.fields.specs.declared.WordRule.the-variants as word
+use Rattle.fields.specs.Tags.{tagOf, GENERAL, IMMEDIATE}
 use Rattle.fields.specs.Reading.{byteFieldAt, wordFieldAt, dwordFieldAt}
 use Rattle.field_groups.specs.declared.Control.{Control}
 use Rattle.field_groups.specs.declared.ControlField.{ControlField}
@@ -58,11 +61,11 @@ immediateAt s at =
     got (Immediate (record { code = code .value; low = low .value; high = high .value })) (high .next))))
 
 -- "Vector operand: tag (bits 0-2 class, 3-5 modifier)"; the rule of a tag leaves no class but these two
-unfoldable pub operandAt : ByteRule → List ℕ → ℕ → Answer (Read Operand)
+unfoldable pub operandAt : TagRule → List ℕ → ℕ → Answer (Read Operand)
 operandAt rule s at =
-    andThen (byteFieldAt rule s at) (λ tag.
-    cond (eqb (tag .value) 0) (generalAt s (tag .next))
-    (cond (eqb (tag .value) 5) (immediateAt s (tag .next))
+    andThen (byteFieldAt (byte.Tag rule) s at) (λ tag.
+    cond (eqb (tagOf (tag .value) .class) GENERAL) (generalAt s (tag .next))
+    (cond (eqb (tagOf (tag .value) .class) IMMEDIATE) (immediateAt s (tag .next))
     (refused 4)))
 
 -- "Raw: index uw, byte offset uw"
@@ -81,7 +84,7 @@ pub record ScalarAndRaws : Type 0 where
 -- the last three operands of pages 000 (Address, Element_offset, Src), 001 (Offset, Element_offset, Dst) and 002 (Desc, Src, Dst)
 unfoldable pub scalarAndRawsAt : List ℕ → ℕ → Answer (Read ScalarAndRaws)
 scalarAndRawsAt s at =
-    andThen (operandAt byte.SourceTag s at) (λ scalar.
+    andThen (operandAt tag.Scalar s at) (λ scalar.
     andThen (rawAt s (scalar .next)) (λ first.
     andThen (rawAt s (first .next)) (λ second.
     got (record { scalar = scalar .value; first = first .value; second = second .value }) (second .next))))

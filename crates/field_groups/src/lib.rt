@@ -2,6 +2,7 @@
 use fields::ByteField;
 use fields::ByteRule;
 use fields::DwordField;
+use fields::TagRule;
 use fields::WordField;
 use fields::WordRule;
 use reader::Cursor;
@@ -160,15 +161,16 @@ fn immediate_field(kernel: &[u8], cursor: Cursor) -> OperandField
 }
 
 // A destination, source or scalar: the rule of its tag says which.
-pub fn operand_field(kernel: &[u8], cursor: Cursor, rule: ByteRule) -> OperandField
+pub fn operand_field(kernel: &[u8], cursor: Cursor, rule: TagRule) -> OperandField
     ensures { λ r. ⌜ operandFieldAnswer r ≡ operandAt rule (now (kernel .entry)) (cursor .at) ⌝ }
 {
-    match fields::byte_field(kernel, cursor, rule) {
-        ByteField::Got(tag, c1) => {
-            if tag == 0 {
+    match fields::byte_field(kernel, cursor, ByteRule::Tag(rule)) {
+        ByteField::Got(v, c1) => {
+            let tag = fields::split_tag(v);
+            if tag.class == 0 {
                 return general_field(kernel, c1);
             }
-            if tag == 5 {
+            if tag.class == 5 {
                 immediate_field(kernel, c1)
             } else {
                 OperandField::Refused(4)
@@ -193,7 +195,7 @@ pub fn raw_field(kernel: &[u8], cursor: Cursor) -> RawField
 pub fn scalar_and_raws_field(kernel: &[u8], cursor: Cursor) -> ScalarAndRawsField
     ensures { λ r. ⌜ scalarAndRawsFieldAnswer r ≡ scalarAndRawsAt (now (kernel .entry)) (cursor .at) ⌝ }
 {
-    match operand_field(kernel, cursor, ByteRule::SourceTag) {
+    match operand_field(kernel, cursor, TagRule::Scalar) {
         OperandField::Got(scalar, c1) => match raw_field(kernel, c1) {
             RawField::Got(first, c2) => match raw_field(kernel, c2) {
                 RawField::Got(second, c3) => ScalarAndRawsField::Got(scalar, first, second, c3),

@@ -10,13 +10,14 @@ use lib.Dec.{eqb}
 use Rattle.little_endian.specs.LittleEndian.{bytesOf, Bytes}
 use Rattle.little_endian.proofs.Laws.{length-bytes}
 use Rattle.little_endian.proofs.Parts.{nil-bytes, bytes-append, bytes-before, bytes-after, bytes-small, small-bytes}
+use Rattle.fields.specs.declared.TagRule.{TagRule}
 use Rattle.fields.specs.declared.ByteRule.{ByteRule}
 use Rattle.fields.specs.declared.ByteRule.the-variants as byte
 use Rattle.fields.specs.declared.WordRule.{WordRule}
 use Rattle.fields.specs.declared.WordRule.the-variants as word
 use Rattle.fields.specs.declared.Field.{Field}
 use Rattle.fields.specs.declared.Field.the-variants.{Byte, Word, Dword, Lacking}
-use Rattle.fields.specs.Rules.{judged, tagRefusal, byteRefusal, wordRefusal}
+use Rattle.fields.specs.Rules.{judged, tagGood, tagRefusal, byteRefusal, wordRefusal}
 use Rattle.fields.specs.Layout.{fieldBytes, fieldRefusal, layoutBytes, layoutRefusal}
 use Rattle.fields.proofs.FirstRefusal.{good-append, lacking-zero}
 use Rattle.fields.proofs.Laws.{layout-append}
@@ -89,9 +90,9 @@ unfolding judged
 three true = inl refl
 three false = inr (inl refl)
 
-tag-refusals : (good : Bool) (v : ℕ) → ZeroThreeOrFour (tagRefusal good v)
+tag-refusals : (rule : TagRule) (v : ℕ) → ZeroThreeOrFour (tagRefusal rule v)
 unfolding tagRefusal judged
-tag-refusals good v = told (eqb (v / 64) 0) good
+tag-refusals rule v = told (eqb (v / 64) 0) (tagGood rule v)
   where
     told : (named good : Bool) → ZeroThreeOrFour (cond named (cond good 0 4) 3)
     told true true = inl refl
@@ -108,8 +109,7 @@ byte-refusals byte.Channels v = three _
 byte-refusals byte.Modifiers v = three _
 byte-refusals byte.NumSrc v = three _
 byte-refusals byte.NumDst v = three _
-byte-refusals byte.DestinationTag v = tag-refusals _ v
-byte-refusals byte.SourceTag v = tag-refusals _ v
+byte-refusals (byte.Tag rule) v = tag-refusals rule v
 byte-refusals byte.ImmediateType v = three _
 
 word-refusals : (rule : WordRule) (v : ℕ) → ZeroThreeOrFour (wordRefusal rule v)

@@ -1,3 +1,4 @@
+pub mod Tags
 pub mod Rules
 pub mod Reading
 pub mod Layout

@@ -1,28 +1,31 @@
 -- The rule of each stored number: the refusal that it gets, 0 for none. Document 01, "Bytes of an instruction": "Bits not named are zero",
 -- and "The numbers given back": "2 or 3, then 4 for class and modifier".
 use Prim.Native.Nat.{ℕ, _/_, _%_}
-use mathlib.Core.Bool.{Bool, cond, _&&_, _||_}
+use mathlib.Core.Bool.{Bool, cond, not, _&&_, _||_}
 use lib.Dec.{ltb, leb, eqb}
 use Rattle.element_types.specs.Types.{isListed}
+use Rattle.channels.specs.Exec.{execReserved, execSize}
+use Rattle.channels.specs.Predicate.{predicateReserved}
+use Rattle.fields.specs.declared.TagRule.{TagRule}
+use Rattle.fields.specs.declared.TagRule.the-variants as tag
 use Rattle.fields.specs.declared.ByteRule.{ByteRule}
 use Rattle.fields.specs.declared.ByteRule.the-variants as byte
 use Rattle.fields.specs.declared.WordRule.{WordRule}
 use Rattle.fields.specs.declared.WordRule.the-variants as word
+use Rattle.fields.specs.Tags.{tagOf, GENERAL, IMMEDIATE}
 
 unfoldable pub judged : Bool → ℕ → ℕ
 judged good number = cond good 0 number
 
--- "Exec byte: bits 0-2 sizes 1, 2, 4, 8, 16, 32 (codes 6, 7 reserved ..); bits 4-7 M1..M8, then M1_NM..M8_NM": bit 3 is not named
 unfoldable pub execGood : ℕ → Bool
-execGood v = eqb (v / 8 % 2) 0 && ltb (v % 8) 6
+execGood v = not (execReserved v)
 
--- ".. scatter 8 and 16 only": codes 3 and 4
+-- "scatter 8 and 16 only"
 unfoldable pub scatterExecGood : ℕ → Bool
-scatterExecGood v = eqb (v / 8 % 2) 0 && (eqb (v % 8) 3 || eqb (v % 8) 4)
+scatterExecGood v = execGood v && (eqb (execSize v) 8 || eqb (execSize v) 16)
 
--- "Pred word: bits 0-11 id, 12 zero, 13-14 none/any/all/reserved, 15 inverse"
 unfoldable pub predicateGood : ℕ → Bool
-predicateGood v = eqb (v / 4096 % 2) 0 && ltb (v / 8192 % 4) 3
+predicateGood v = not (predicateReserved v)
 
 -- "region uw (bits 0-3 vertical, 4-7 width, 8-11 horizontal stride; codes 0 Null, 1..7 ..)": "a region code over 7" is 3
 unfoldable pub regionGood : ℕ → Bool
@@ -36,17 +39,19 @@ channelsGood v = ltb 0 v && ltb v 16
 unfoldable pub sourceCountGood : ℕ → Bool
 sourceCountGood v = leb 1 v && leb v 15
 
--- "tag (bits 0-2 class, 3-5 modifier)": modifiers are left out; a destination is "General, class 0"
-unfoldable pub destinationTagGood : ℕ → Bool
-destinationTagGood v = eqb (v / 8 % 8) 0 && eqb (v % 8) 0
+-- "any class but General, or Immediate on a source, is 4": by the operand's role
+unfoldable pub classGood : TagRule → ℕ → Bool
+classGood tag.Destination class = eqb class GENERAL
+classGood tag.Source class = eqb class GENERAL || eqb class IMMEDIATE
+classGood tag.Scalar class = eqb class GENERAL || eqb class IMMEDIATE
 
--- "any class but General, or Immediate on a source, is 4"; "Immediate, class 5"
-unfoldable pub sourceTagGood : ℕ → Bool
-sourceTagGood v = eqb (v / 8 % 8) 0 && (eqb (v % 8) 0 || eqb (v % 8) 5)
+-- modifiers are left out
+unfoldable pub tagGood : TagRule → ℕ → Bool
+tagGood rule v = eqb (tagOf v .modifier) 0 && classGood rule (tagOf v .class)
 
--- bits 6 and 7 are not named: 3; then class and modifier: 4
-unfoldable pub tagRefusal : Bool → ℕ → ℕ
-tagRefusal good v = cond (eqb (v / 64) 0) (judged good 4) 3
+-- a bit that is not named: 3; then class and modifier: 4
+unfoldable pub tagRefusal : TagRule → ℕ → ℕ
+tagRefusal rule v = cond (eqb (tagOf v .unnamed) 0) (judged (tagGood rule v) 4) 3
 
 unfoldable pub byteRefusal : ByteRule → ℕ → ℕ
 byteRefusal byte.Free v = 0
@@ -60,8 +65,7 @@ byteRefusal byte.Modifiers v = judged (ltb v 2) 3
 byteRefusal byte.NumSrc v = judged (sourceCountGood v) 3
 -- "NumDst 0-16"
 byteRefusal byte.NumDst v = judged (leb v 16) 3
-byteRefusal byte.DestinationTag v = tagRefusal (destinationTagGood v) v
-byteRefusal byte.SourceTag v = tagRefusal (sourceTagGood v) v
+byteRefusal (byte.Tag rule) v = tagRefusal rule v
 -- "An immediate type code not listed above .. 3"
 byteRefusal byte.ImmediateType v = judged (isListed v) 3
 

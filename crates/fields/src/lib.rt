@@ -4,8 +4,16 @@ use reader::ReadByte;
 use reader::ReadDword;
 use reader::ReadWord;
 ghost use mathlib.Core.Path.{_≡_};
-ghost use Rattle.fields.specs.Rules.{judged, execGood, scatterExecGood, destinationTagGood, sourceTagGood, channelsGood, sourceCountGood, predicateGood, regionGood, tagRefusal, byteRefusal, wordRefusal};
+ghost use Rattle.fields.specs.Tags.{tagOf};
+ghost use Rattle.fields.specs.Rules.{judged, execGood, scatterExecGood, channelsGood, sourceCountGood, predicateGood, regionGood, classGood, tagGood, tagRefusal, byteRefusal, wordRefusal};
 ghost use Rattle.fields.specs.Reading.{byteFieldAt, wordFieldAt, dwordFieldAt, byteFieldAnswer, wordFieldAnswer, dwordFieldAnswer};
+
+// Whose tag it is: SHL's destination, a source of SHL, or a scalar (a gather's Offset, a scatter's Address, RAW_SEND's Desc).
+pub enum TagRule {
+    Destination,
+    Source,
+    Scalar,
+}
 
 // Which stored byte it is, and so which rule judges it.
 pub enum ByteRule {
@@ -17,8 +25,7 @@ pub enum ByteRule {
     Modifiers,
     NumSrc,
     NumDst,
-    DestinationTag,
-    SourceTag,
+    Tag(TagRule),
     ImmediateType,
 }
 
@@ -43,6 +50,13 @@ pub enum DwordField {
     Refused(u8),
 }
 
+// The parts of a tag: class, modifier, and the bits that are not named.
+pub struct Tag {
+    pub class: u8,
+    pub modifier: u8,
+    pub unnamed: u8,
+}
+
 // One field with its number: what an instruction is laid out from. `Lacking` is the high word of an immediate whose type
 // has none: it has no bytes, and must be 0.
 pub enum Field {
@@ -62,14 +76,16 @@ pub fn judge(good: bool, number: u8) -> u8
 fn exec_good(v: u8) -> bool
     ensures { λ r. ⌜ r ≡ execGood v ⌝ }
 {
-    v / 8 % 2 == 0 && v % 8 < 6
+    let exec = channels::split(v);
+    !exec.reserved
 }
 
 fn scatter_exec_good(v: u8) -> bool
     ensures { λ r. ⌜ r ≡ scatterExecGood v ⌝ }
 {
-    if v / 8 % 2 == 0 {
-        v % 8 == 3 || v % 8 == 4
+    if exec_good(v) {
+        let exec = channels::split(v);
+        exec.size == 8 || exec.size == 16
     } else {
         false
     }
@@ -87,32 +103,54 @@ fn source_count_good(v: u8) -> bool
     1 <= v && v <= 15
 }
 
-fn destination_tag_good(v: u8) -> bool
-    ensures { λ r. ⌜ r ≡ destinationTagGood v ⌝ }
+// What a tag means is found here and nowhere else.
+pub fn split_tag(v: u8) -> Tag
+    ensures { λ r. ⌜ r ≡ tagOf v ⌝ }
 {
-    v / 8 % 8 == 0 && v % 8 == 0
+    Tag {
+        class: v % 8,
+        modifier: v / 8 % 8,
+        unnamed: v / 64,
+    }
 }
 
-fn source_tag_good(v: u8) -> bool
-    ensures { λ r. ⌜ r ≡ sourceTagGood v ⌝ }
+// General is class 0, Immediate class 5.
+fn class_good(rule: TagRule, class: u8) -> bool
+    ensures { λ r. ⌜ r ≡ classGood rule class ⌝ }
 {
-    if v / 8 % 8 == 0 {
-        v % 8 == 0 || v % 8 == 5
+    match rule {
+        TagRule::Destination => class == 0,
+        TagRule::Source => class == 0 || class == 5,
+        TagRule::Scalar => class == 0 || class == 5,
+    }
+}
+
+fn tag_good(rule: TagRule, v: u8) -> bool
+    ensures { λ r. ⌜ r ≡ tagGood rule v ⌝ }
+{
+    let tag = split_tag(v);
+    if tag.modifier == 0 {
+        class_good(rule, tag.class)
     } else {
         false
     }
 }
 
-fn tag_refusal(good: bool, v: u8) -> u8
-    ensures { λ r. ⌜ r ≡ tagRefusal good v ⌝ }
+fn tag_refusal(rule: TagRule, v: u8) -> u8
+    ensures { λ r. ⌜ r ≡ tagRefusal rule v ⌝ }
 {
-    if v / 64 == 0 { judge(good, 4) } else { 3 }
+    let tag = split_tag(v);
+    if tag.unnamed == 0 {
+        judge(tag_good(rule, v), 4)
+    } else {
+        3
+    }
 }
 
 fn predicate_good(v: u16) -> bool
     ensures { λ r. ⌜ r ≡ predicateGood v ⌝ }
 {
-    v / 4096 % 2 == 0 && v / 8192 % 4 < 3
+    !channels::predicate_reserved(v)
 }
 
 fn region_good(v: u16) -> bool
@@ -140,8 +178,7 @@ pub fn byte_refusal(rule: ByteRule, v: u8) -> u8
         ByteRule::Modifiers => judge(v < 2, 3),
         ByteRule::NumSrc => judge(source_count_good(v), 3),
         ByteRule::NumDst => judge(v <= 16, 3),
-        ByteRule::DestinationTag => tag_refusal(destination_tag_good(v), v),
-        ByteRule::SourceTag => tag_refusal(source_tag_good(v), v),
+        ByteRule::Tag(tag) => tag_refusal(tag, v),
         ByteRule::ImmediateType => judge(element_types::is_listed(v), 3),
     }
 }

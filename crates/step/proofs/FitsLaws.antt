@@ -17,7 +17,6 @@ use Rattle.decoder.specs.declared.Decoded.the-variants as decoded
 use Rattle.decoder.specs.Decoding.{instructionAt, decodedAnswer}
 use Rattle.decoder.proofs.ScatterLaws.{decoded-scatter}
 use Rattle.channels.specs.Exec.{execSize}
-use Rattle.channels.proofs.ExecLaws.{exec-size}
 use Rattle.tables.specs.Tables.{Tables}
 use Rattle.plan.specs.declared.Plan.{Plan}
 use Rattle.plan.specs.declared.Operation.{Operation}
@@ -28,9 +27,8 @@ use Rattle.gather.proofs.SoundLaws as gather
 use Rattle.scatter.proofs.SoundLaws as scatter
 use Rattle.step.specs.Fits.{fitsFor, Fits}
 
--- the codes of 8 and 16 lanes
-sixteen-lanes : (exec : ℕ) → EightOrSixteen exec → execSize exec ≤ 16
-sixteen-lanes exec = ⊎-elim (λ e. rw (exec-size exec, e) (omega arith)) (λ e. rw (exec-size exec, e) (omega arith))
+at-most-sixteen : (lanes : ℕ) → EightOrSixteen lanes → lanes ≤ 16
+at-most-sixteen lanes = ⊎-elim (λ e. rw e (omega arith)) (λ e. rw e (omega arith))
 
 fits-as : (o : Operation) (p : Plan) → p .operation ≡ o → fitsFor o p ≡ true → fitsFor (p .operation) p ≡ true
 fits-as o p is = subst (λ (q : Operation). fitsFor q p ≡ true) (sym is)
@@ -47,7 +45,7 @@ module _ (kernel : List ℕ) (t : Tables) (at : ℕ) (b : Bytes kernel) where
       fits-as _ _ (k .operation) (gather.sound-fits _ (i .control) k)
   decoded-fits (instruction.Scatter i) next e z =
       let k = plan-keeps t (instruction.Scatter i) z in
-      fits-as _ _ (k .operation) (scatter.sound-fits _ (i .control) (sixteen-lanes (i .control .exec) (decoded-scatter kernel at i next b e)) k)
+      fits-as _ _ (k .operation) (scatter.sound-fits _ (i .control) (at-most-sixteen (execSize (i .control .exec)) (decoded-scatter kernel at i next b e)) k)
   decoded-fits (instruction.RawSend i) next e z = absurd (plan-keeps t (instruction.RawSend i) z)
 
   pub planned-fits : (i : Instruction) (next : ℕ) → instructionAt kernel at ≡ got i next → Fits (checked t i)

@@ -2,15 +2,15 @@
 use Rattle.little_endian.specs.LittleEndian.{numberAt}
 use Rattle.reader.specs.Reading.{wholeAt, readAt}
 use Rattle.fields.specs.Reading.{judgedRead, byteFieldAt, wordFieldAt, dwordFieldAt}
-use Rattle.fields.specs.Rules.{judged, execGood, scatterExecGood, predicateGood, channelsGood, sourceCountGood, destinationTagGood, sourceTagGood, tagRefusal, byteRefusal, wordRefusal}
+use Rattle.fields.specs.Rules.{judged, execGood, scatterExecGood, predicateGood, channelsGood, sourceCountGood, classGood, tagGood, tagRefusal, byteRefusal, wordRefusal}
 use Rattle.field_groups.specs.Reading.{controlAt, highWordAt, operandAt, scalarAndRawsAt, accessAt, messageAt}
 use Rattle.decoder.specs.Decoding.{shlAt, gatherAt, scatterAt, svmAt, rawSendAt, instructionAt}
 use Rattle.element_types.specs.Types.{sizeOf, isListed, isSigned, hasHighWord}
 use Rattle.channels.specs.Below.{someBelow, everyBelow}
 use Rattle.channels.specs.Bits.{bit, bitField}
-use Rattle.channels.specs.Exec.{execSize, maskControl, maskNumber, execOffset, noMask}
+use Rattle.channels.specs.Exec.{execReserved, execSize, maskControl, maskNumber, execOffset, noMask}
 use Rattle.channels.specs.Lanes.{anyBit, allBits, combined, inverted, predicateAgrees, maskAllows, laneOn}
-use Rattle.channels.specs.Predicate.{hasPredicate, predicateId, predicateCombine, predicateInverse}
+use Rattle.channels.specs.Predicate.{hasPredicate, predicateId, predicateCombine, predicateReserved, predicateInverse}
 use Rattle.tables.specs.Every.{every}
 use Rattle.tables.specs.Lengths.{registersGood, addressesGood, taintGood, lengthsGood}
 use Rattle.tables.specs.Surfaces.{surfaceLength, surfaceStart, surfaceGoodAt, surfacesGood}
@@ -49,5 +49,5 @@ use Rattle.plan.specs.Plans as plans
 use Rattle.shift.specs.Exact as exact
 
 unfoldable pub opened : Type 0
-unfolding numberAt wholeAt readAt judgedRead byteFieldAt wordFieldAt dwordFieldAt judged execGood scatterExecGood predicateGood rules.regionGood channelsGood sourceCountGood destinationTagGood sourceTagGood tagRefusal byteRefusal wordRefusal controlAt groups.generalAt highWordAt groups.immediateAt operandAt groups.rawAt scalarAndRawsAt accessAt messageAt shlAt gatherAt scatterAt svmAt rawSendAt instructionAt sizeOf isListed isSigned hasHighWord someBelow everyBelow bit bitField execSize maskControl maskNumber execOffset noMask anyBit allBits combined inverted predicateAgrees maskAllows laneOn hasPredicate predicateId predicateCombine predicateInverse every registersGood addressesGood taintGood lengthsGood surfaceLength surfaceStart surfaceGoodAt surfacesGood tablesGood lineGood variableGood variableGoodAt variablesGood shiftType dwordType typeAllowed filled lanePositions elementByte registerElements lowBytes immediateElement elements.refusal elementsGood generalOf operands.generalAt immediateOf operands.immediateAt vectorAt rawGood rawOf operands.rawAt smaller larger reach.lowest highest insideVariable twoRegisters reachGood verticalCode widthCode horizontalCode strideOf between sourceRegionGood scalarRegionGood destinationRegionGood regions.regionGood firstElement sourceElement elementOf inTable variableAt shlDst shlSrc0 shlSrc1 checkedShl gatherOffset gatherElementOffset gatherDst checkedGather surfacePart checkedSurface scatterAddress scatterElementOffset scatterSrc checkedScatter sendDesc sendSrc sendDst checkedSend checkedOperands checked controlOf controlRefusal predicateBits elementsNeeded enabledBelow channelStride scatterNeeded registersNeeded blockBytes plans.refusal tested shlPlan gatherPlan scatterPlan isTainted markOf anyTainted unless amongFrom among each some writtenAll numberWrites copyWrites span exact.lowest exactly modulo shifted lanesOn elementValue elementTainted eitherTainted shlValue shlMark shlLane shlEffect gatherAddress isRead gatheredByte gatheredMark gatherWrites gatherLane gatherEffect channelsOn targetAddress target sourceByte misaligned outside scatterPair scatterEffect runFrom run acted planEffect stepAt
+unfolding numberAt wholeAt readAt judgedRead byteFieldAt wordFieldAt dwordFieldAt judged execGood scatterExecGood predicateGood rules.regionGood channelsGood sourceCountGood classGood tagGood tagRefusal byteRefusal wordRefusal controlAt groups.generalAt highWordAt groups.immediateAt operandAt groups.rawAt scalarAndRawsAt accessAt messageAt shlAt gatherAt scatterAt svmAt rawSendAt instructionAt sizeOf isListed isSigned hasHighWord someBelow everyBelow bit bitField execReserved execSize maskControl maskNumber execOffset noMask anyBit allBits combined inverted predicateAgrees maskAllows laneOn hasPredicate predicateId predicateCombine predicateReserved predicateInverse every registersGood addressesGood taintGood lengthsGood surfaceLength surfaceStart surfaceGoodAt surfacesGood tablesGood lineGood variableGood variableGoodAt variablesGood shiftType dwordType typeAllowed filled lanePositions elementByte registerElements lowBytes immediateElement elements.refusal elementsGood generalOf operands.generalAt immediateOf operands.immediateAt vectorAt rawGood rawOf operands.rawAt smaller larger reach.lowest highest insideVariable twoRegisters reachGood verticalCode widthCode horizontalCode strideOf between sourceRegionGood scalarRegionGood destinationRegionGood regions.regionGood firstElement sourceElement elementOf inTable variableAt shlDst shlSrc0 shlSrc1 checkedShl gatherOffset gatherElementOffset gatherDst checkedGather surfacePart checkedSurface scatterAddress scatterElementOffset scatterSrc checkedScatter sendDesc sendSrc sendDst checkedSend checkedOperands checked controlOf controlRefusal predicateBits elementsNeeded enabledBelow channelStride scatterNeeded registersNeeded blockBytes plans.refusal tested shlPlan gatherPlan scatterPlan isTainted markOf anyTainted unless amongFrom among each some writtenAll numberWrites copyWrites span exact.lowest exactly modulo shifted lanesOn elementValue elementTainted eitherTainted shlValue shlMark shlLane shlEffect gatherAddress isRead gatheredByte gatheredMark gatherWrites gatherLane gatherEffect channelsOn targetAddress target sourceByte misaligned outside scatterPair scatterEffect runFrom run acted planEffect stepAt
 opened = Unit {0}

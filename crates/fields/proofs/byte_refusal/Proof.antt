@@ -58,23 +58,15 @@ returns-8 c =
 returns-9 : tie.Need-returns-9
 unfolding byteRefusal
 returns-9 c =
-    let a = c .before in
-    let b = a .before in
-    rw (b .enum-told9 .given .1, ← a .destination-tag-good .ensures, ← c .tag-refusal .ensures)
+    let a = c .before .before in
+    rw (a .rule .given .1, ← c .tag-refusal .ensures)
 
 returns-10 : tie.Need-returns-10
 unfolding byteRefusal
 returns-10 c =
     let a = c .before in
     let b = a .before in
-    rw (b .enum-told10 .given .1, ← a .source-tag-good .ensures, ← c .tag-refusal2 .ensures)
-
-returns-11 : tie.Need-returns-11
-unfolding byteRefusal
-returns-11 c =
-    let a = c .before in
-    let b = a .before in
-    rw (b .enum-told11 .given .1, ← a .is-listed .ensures, ← c .judge8 .ensures)
+    rw (b .enum-told9 .given .1, ← a .is-listed .ensures, ← c .judge8 .ensures)
 
 pub byte-refusal-spec : {M : Type 1} → statement M
-byte-refusal-spec = tie.close (tie.spec (λ c. search needs) (λ c. search needs) (λ c κs. search needs) (λ c κs. search needs) (λ c. search needs) (λ c κs. search needs) (λ c κs. search needs) (λ c. search needs) (λ c κs. search needs) (λ c. search needs) (λ c κs. search needs) (λ c κs. search needs) (λ c. search needs) (λ c κs. search needs) (λ c. search needs) (λ c κs. search needs) (λ c κs. search needs) (λ c. search needs) (λ c κs. search needs) (λ c. search needs) (λ c κs. search needs) (λ c κs. search needs) (λ c. search needs) (λ c κs. search needs) (λ c κs. search needs) (λ c. search needs) (λ c κs. search needs) (λ c κs. search needs) returns returns-2 returns-3 returns-4 returns-5 returns-6 returns-7 returns-8 returns-9 returns-10 returns-11)
+byte-refusal-spec = tie.close (tie.spec (λ c. search needs) (λ c. search needs) (λ c κs. search needs) (λ c κs. search needs) (λ c. search needs) (λ c κs. search needs) (λ c κs. search needs) (λ c. search needs) (λ c κs. search needs) (λ c. search needs) (λ c κs. search needs) (λ c κs. search needs) (λ c. search needs) (λ c κs. search needs) (λ c. search needs) (λ c κs. search needs) (λ c κs. search needs) (λ c. search needs) (λ c κs. search needs) (λ c. search needs) (λ c κs. search needs) (λ c. search needs) (λ c κs. search needs) (λ c κs. search needs) returns returns-2 returns-3 returns-4 returns-5 returns-6 returns-7 returns-8 returns-9 returns-10)

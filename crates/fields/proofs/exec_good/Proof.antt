@@ -1,18 +1,14 @@
--- `fields::exec_good` meets its contract: at each return, what the calls and tests on the way say picks the case of `Rules`.
-use borrow.Author.Tests.{eq-eqb, ne-eqb}
+-- `fields::exec_good` meets its contract: the part `reserved` of the exec byte decides.
+use mathlib.Core.Path.{ap}
+use borrow.Author.Needs.{needs}
+use Rattle.channels.specs.declared.Exec.{Exec}
 use Rattle.fields.specs.Rules.{execGood}
 use Rattle.fields.proofs.exec_good.Statement.{statement}
 use Rattle.fields.proofs.exec_good.Tie as tie
 
 returns : tie.Need-returns
 unfolding execGood
-returns c =
-    rw (eq-eqb _ _ (c .if1 .taken))
-
-returns-2 : tie.Need-returns-2
-unfolding execGood
-returns-2 c =
-    rw (ne-eqb _ _ (c .if1 .left))
+returns c = rw (← ap (λ (e : Exec). e .reserved) (c .before .split .ensures))
 
 pub exec-good-spec : {M : Type 1} → statement M
-exec-good-spec = tie.close (tie.spec returns returns-2)
+exec-good-spec = tie.close (tie.spec (λ c κs. search needs) returns)
