@@ -11,7 +11,7 @@ returns : tie.Need-returns
 unfolding operandAt
 returns c =
     let a = c .before in
-    let t = a .before in
+    let t = a .before .before in
     let b = t .before .before in
     let d = b .before .before in
     rw (← d .byte-field .ensures, b .v .given .1, ← ap (λ (t : Tag). t .class) (t .split-tag .ensures), eq-eqb _ _ (a .if1 .taken), ← c .general-field .ensures)
@@ -20,8 +20,8 @@ returns-2 : tie.Need-returns-2
 unfolding operandAt
 returns-2 c =
     let a = c .before in
-    let b = a .before in
-    let t = b .before in
+    let b = a .before .before in
+    let t = b .before .before in
     let d = t .before .before in
     let e = d .before .before in
     rw (← e .byte-field .ensures, d .v .given .1, ← ap (λ (t : Tag). t .class) (t .split-tag .ensures), ne-eqb _ _ (b .if1 .left), eq-eqb _ _ (a .if2 .taken), ← c .immediate-field .ensures)
@@ -29,8 +29,8 @@ returns-2 c =
 returns-3 : tie.Need-returns-3
 unfolding operandAt
 returns-3 c =
-    let a = c .before in
-    let t = a .before in
+    let a = c .before .before in
+    let t = a .before .before in
     let b = t .before .before in
     let d = b .before .before in
     rw (← d .byte-field .ensures, b .v .given .1, ← ap (λ (t : Tag). t .class) (t .split-tag .ensures), ne-eqb _ _ (a .if1 .left), ne-eqb _ _ (c .if2 .left))
