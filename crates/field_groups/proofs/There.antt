@@ -9,7 +9,7 @@ use Rattle.fields.specs.declared.ByteRule.{ByteRule}
 use Rattle.fields.specs.declared.ByteRule.the-variants as byte
 use Rattle.fields.specs.declared.WordRule.the-variants as word
 use Rattle.fields.specs.declared.Field.the-variants.{Dword, Lacking}
-use Rattle.fields.proofs.ReadBack.{Stands, There, there-end, there-then, there-last, lacking-there, byte-there, word-there, dword-there}
+use Rattle.fields.proofs.ReadBack.{Stands, There, there-then, there-last, lacking-there, byte-there, word-there, dword-there}
 use Rattle.field_groups.specs.declared.Control.{Control}
 use Rattle.field_groups.specs.declared.Operand.{Operand}
 use Rattle.field_groups.specs.declared.Operand.the-variants.{General, Immediate}

@@ -41,11 +41,6 @@ there-good t g = t .is ∙ rw g
 pub there-refused : {A : Type 0} {a : Answer (Read A)} {v : A} {at : ℕ} {fs : List Field} → There a v at fs → layoutRefusal fs ≢ 0 → a ≡ refused (layoutRefusal fs)
 there-refused {fs = fs} t b = t .is ∙ rw (ne-eqb (layoutRefusal fs) 0 b)
 
--- no field is left
-pub there-end : {A : Type 0} {v : A} (at : ℕ) → There (got v at) v at []
-unfolding layoutBytes layoutRefusal
-there-end {v = v} at = let e : at ≡ at + 0 = omega arith in record { is = ap (λ (n : ℕ). got v n) e }
-
 -- some fields, and then the others
 pub there-then : {A B : Type 0} {a : Answer (Read A)} {v : A} (f : Read A → Answer (Read B)) {w : B} {s : List ℕ} {at : ℕ} {fs gs : List Field} {t : List ℕ} → (Stands s at fs (layoutBytes gs ++ t) → There a v at fs) → Stands s at (fs ++ gs) t → ((n : ℕ) → Stands s n gs t → There (f (record { value = v; next = n })) w n gs) → There (andThen a f) w at (fs ++ gs)
 there-then {A} {B} {a} {v} f {w} {s} {at} {fs} {gs} {t} first h others = record { is = ap (λ (x : Answer (Read A)). andThen x f) (first (record { told = parts .0; bytes = stands }) .is) ∙ split (eqb (layoutRefusal fs) 0) refl }
