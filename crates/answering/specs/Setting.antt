@@ -17,8 +17,7 @@ setupOf c kernel t =
     setup
     (take (lengthOf 7 c) kernel)
     (tables (take (metOf 2 c) (t .types)) (take (metOf 2 c) (t .starts)) (take (metOf 2 c) (t .counts)) (take (metOf 3 c) (t .predicates)) (take (metOf 4 c) (t .lengths)))
-    (c .base)
-    (c .mask)
+    (record { base = c .base; mask = c .mask })
 
 -- "absent means .. marks all 0"; the buffer has this size
 unfoldable pub taintOf : ℕ → ℕ → Case → List ℕ → List ℕ

@@ -41,8 +41,7 @@ caseSetup frames =
         predicates = map dwordOf (ofKind 0x03 frames);
         surfaces = map length (ofKind 0x04 frames);
       };
-      base = baseOf (onlyOf 0x05 frames);
-      mask = dwordOf (onlyOf 0x06 frames);
+      constants = record { base = baseOf (onlyOf 0x05 frames); mask = dwordOf (onlyOf 0x06 frames) };
     }
 
 -- "absent means .. marks all 0": as many as there are bytes to mark

@@ -11,7 +11,7 @@ use Rattle.decoder.specs.Decoding.{instructionAt}
 use Rattle.plan.specs.declared.Plan.{Plan}
 use Rattle.plan.specs.Checked.{checked}
 use Rattle.step.specs.declared.Progress.{Progress}
-use Rattle.step.specs.State.{Setup, constantsOf, State}
+use Rattle.step.specs.State.{Setup, State}
 use Rattle.step.specs.Step.{planEffect, Stepped, stepAt, after}
 use Rattle.step.specs.Performed.{Performed, performed, planPerformed, Advanced, advanced, stepAdvanced}
 use Rattle.step.proofs.StepOf.{stepOf}
@@ -23,20 +23,20 @@ module _ (x : Setup) (at : ℕ) (s : State) where
   made t = record { number = t .effect .number; next = t .next; state = after (t .effect) s }
 
   stepped : (d : Decoded) → instructionAt (x .kernel) at ≡ d
-      → stepOf x (λ (p : Plan). planEffect (constantsOf x) p s) at d ≡ stepAt x at s
+      → stepOf x (λ (p : Plan). planEffect (x .constants) p s) at d ≡ stepAt x at s
   unfolding stepAt
-  stepped d e = ap (stepOf x (λ (p : Plan). planEffect (constantsOf x) p s) at) (sym e)
+  stepped d e = ap (stepOf x (λ (p : Plan). planEffect (x .constants) p s) at) (sym e)
 
   unchanged : (n : ℕ) → after (refused n) s ≡ s
   unchanged n = λ i. record { registers = unwritten [] (s .registers) refl i; surfaces = s .surfaces; memory = unwritten [] (s .memory) refl i }
 
   module _ (d : Decoded) (told : d ≡ instructionAt (x .kernel) at) where
-    pub accepted-advances : (i : Instruction) (c : Cursor) (p : Plan) (n : ℕ) (u : State) → d ≡ decoded.Accepted i c → p ≡ checked (x .tables) i → performed n u ≡ planPerformed (constantsOf x) p s
+    pub accepted-advances : (i : Instruction) (c : Cursor) (p : Plan) (n : ℕ) (u : State) → d ≡ decoded.Accepted i c → p ≡ checked (x .tables) i → performed n u ≡ planPerformed (x .constants) p s
         → advanced (record { number = n; next = c .at }) u ≡ stepAdvanced x at s
     unfolding stepAdvanced planPerformed
     accepted-advances i c p n u is plan done =
         ap (λ (q : Performed). advanced (record { number = q .number; next = c .at }) (q .state)) done
-        ∙ (ap (λ (p : Plan). made (record { next = c .at; effect = planEffect (constantsOf x) p s })) plan
+        ∙ (ap (λ (p : Plan). made (record { next = c .at; effect = planEffect (x .constants) p s })) plan
         ∙ ap made (stepped (decoded.Accepted i c) (sym told ∙ is)))
 
     pub refusal-advances : (n : ℕ) → d ≡ decoded.Refused n → advanced (record { number = n; next = at }) s ≡ stepAdvanced x at s

@@ -15,7 +15,7 @@ use Rattle.shl.specs.Shl.{shlEffect}
 use Rattle.gather.specs.Gather.{gatherEffect}
 use Rattle.scatter.specs.Scatter.{scatterEffect}
 use Rattle.step.specs.declared.Constants.{Constants}
-use Rattle.step.specs.State.{Setup, constantsOf, State}
+use Rattle.step.specs.State.{Setup, State}
 
 -- no memory byte is read: memory enters by its length alone
 unfoldable pub acted : Constants → Operation → Plan → State → Effect
@@ -38,7 +38,7 @@ unfoldable pub stepAt : Setup → ℕ → State → Stepped
 stepAt x at s =
     onDecoded (instructionAt (x .kernel) at)
     (λ n. record { next = at; effect = refused n })
-    (λ i c. record { next = c .at; effect = planEffect (constantsOf x) (checked (x .tables) i) s })
+    (λ i c. record { next = c .at; effect = planEffect (x .constants) (checked (x .tables) i) s })
 
 -- the state after an effect; surfaces are never written
 abbrev pub after : Effect → State → State

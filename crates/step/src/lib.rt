@@ -79,7 +79,7 @@ pub fn step(
     memory: &mut [u8],
     memory_taint: &mut [u8],
 ) -> Progress
-    ensures { λ r. ⌜ advanced r (state (now (registers .exit)) (now («register_taint» .exit)) (now (surfaces .entry)) (now («surface_taint» .entry)) (now (memory .exit)) (now («memory_taint» .exit))) ≡ stepAdvanced (setup (now (kernel .entry)) (tables (now (types .entry)) (now (starts .entry)) (now (counts .entry)) (now (predicates .entry)) (now («surface_lengths» .entry))) (constants .base) (constants .mask)) at (state (now (registers .entry)) (now («register_taint» .entry)) (now (surfaces .entry)) (now («surface_taint» .entry)) (now (memory .entry)) (now («memory_taint» .entry))) ⌝ }
+    ensures { λ r. ⌜ advanced r (state (now (registers .exit)) (now («register_taint» .exit)) (now (surfaces .entry)) (now («surface_taint» .entry)) (now (memory .exit)) (now («memory_taint» .exit))) ≡ stepAdvanced (setup (now (kernel .entry)) (tables (now (types .entry)) (now (starts .entry)) (now (counts .entry)) (now (predicates .entry)) (now («surface_lengths» .entry))) constants) at (state (now (registers .entry)) (now («register_taint» .entry)) (now (surfaces .entry)) (now («surface_taint» .entry)) (now (memory .entry)) (now («memory_taint» .entry))) ⌝ }
 {
     match decoder::decode(kernel, at) {
         Decoded::Accepted(instruction, cursor) => {

@@ -13,7 +13,7 @@ use Rattle.run.proofs.run_kernel.Tie as tie
 
 abbrev Inv-loop : tie.InvT-loop
 Inv-loop kernel types starts counts predicates surface-lengths constants surfaces surface-taint registers₀ register-taint₀ memory₀ memory-taint₀ completed₀ at₀ registers register-taint memory memory-taint completed at =
-    Reached (setup kernel (tables types starts counts predicates surface-lengths) (constants .base) (constants .mask)) (state registers₀ register-taint₀ surfaces surface-taint memory₀ memory-taint₀) completed at (state registers register-taint surfaces surface-taint memory memory-taint)
+    Reached (setup kernel (tables types starts counts predicates surface-lengths) constants) (state registers₀ register-taint₀ surfaces surface-taint memory₀ memory-taint₀) completed at (state registers register-taint surfaces surface-taint memory memory-taint)
 
 abbrev μ-loop : tie.MeasureT-loop
 μ-loop kernel types starts counts predicates surface-lengths constants surfaces surface-taint registers₀ register-taint₀ memory₀ memory-taint₀ completed₀ at₀ registers register-taint memory memory-taint completed at =
