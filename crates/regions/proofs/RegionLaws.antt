@@ -12,7 +12,7 @@ use Rattle.tables.specs.Lengths.{registerSize}
 use Rattle.tables.proofs.All.{left, right, all3, all4}
 use Rattle.field_groups.specs.declared.General.{General}
 use Rattle.regions.specs.declared.Role.the-variants as role
-use Rattle.regions.specs.Regions.{widthCode, horizontalCode, strideOf, between, sourceRegionGood, destinationRegionGood, regionGood, firstElement, sourceElement, elementOf}
+use Rattle.regions.specs.Regions.{widthCode, horizontalCode, strideOf, between, sourceRegionGood, destinationRegionGood, regionAllowed, firstElement, sourceElement, elementOf}
 use Rattle.regions.specs.Reach.{lowest, highest, twoRegisters, reachGood}
 use Rattle.regions.specs.Positions.{elementByte}
 use Rattle.regions.proofs.ReachLaws.{lowest-each, highest-each}
@@ -67,8 +67,8 @@ apart-plain start first stride size j k s h =
     omega (arith, mul-le-mul-right size b)
 
 -- no element of a good destination touches another's bytes
-pub destination-apart : (g : General) (lanes start size j k : ℕ) → regionGood role.Destination (g .region) lanes ≡ true → j < k
+pub destination-apart : (g : General) (lanes start size j k : ℕ) → regionAllowed role.Destination (g .region) lanes ≡ true → j < k
     → elementByte start size (elementOf role.Destination g size) j + size ≤ elementByte start size (elementOf role.Destination g size) k
-unfolding regionGood elementByte elementOf
+unfolding regionAllowed elementByte elementOf
 destination-apart g lanes start size j k good l =
     apart-plain start (firstElement g size) (strideOf (horizontalCode (g .region))) size j k (destination-stride (g .region) good) l

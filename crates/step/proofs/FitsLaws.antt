@@ -25,7 +25,7 @@ use Rattle.plan.proofs.InstructionLaws.{plan-keeps}
 use Rattle.shl.proofs.SoundLaws as shl
 use Rattle.gather.proofs.SoundLaws as gather
 use Rattle.scatter.proofs.SoundLaws as scatter
-use Rattle.step.specs.Fits.{fitsFor, Fits}
+use Rattle.step.specs.mirror.Fits.{fitsFor, Fits}
 
 -- the codes of 8 and 16 lanes
 sixteen-lanes : (exec : ℕ) → EightOrSixteen exec → execSize exec ≤ 16

@@ -45,7 +45,7 @@ module _ (x : Setup) (s : State) where
   acted-writes operation.Shl p = shl-writes p _ (s .registers)
   acted-writes operation.Gather p = gather-writes p _ (s .registers) (s .surfaces)
   acted-writes operation.Scatter p = scatter-writes _ p _ (s .registers)
-  acted-writes operation.Send p = refused-writes 9
+  acted-writes operation.Refused p = refused-writes 9
 
   plan-writes : (p : Plan) → WritesOnlyWhenDone (planEffect (x .constants) p s)
   unfolding planEffect

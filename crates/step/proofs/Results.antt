@@ -54,7 +54,7 @@ module _ (x : Setup) (s : State) (good : tablesGood (lengthsOf x s) (x .tables) 
       (gather.gather-results (length (s .registers .bytes)) (length (s .surfaces .bytes)) (x .constants .mask) p few sound (s .registers) (s .surfaces) refl (limited (lengthsOf x s) (x .tables) good .registers-taint), unwritten _ (s .memory) (gather-spares-memory p _ (s .registers) (s .surfaces)))
   acted-results operation.Scatter p few sound done =
       (scatter.scatter-results _ (x .constants .mask) p (s .registers) (s .memory) refl (limited (lengthsOf x s) (x .tables) good .memory-taint) done, unwritten _ (s .registers) (scatter-spares-registers _ p _ (s .registers)))
-  acted-results operation.Send p few sound done = absurd sound
+  acted-results operation.Refused p few sound done = absurd sound
 
   -- a plan that is not refused has number 0, and its effect is that of its operation
   accepted : (p : Plan) → planEffect (x .constants) p s .number ≡ 0 → p .number ≡ 0

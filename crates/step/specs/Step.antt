@@ -17,13 +17,13 @@ use Rattle.scatter.specs.Scatter.{scatterEffect}
 use Rattle.step.specs.declared.Constants.{Constants}
 use Rattle.step.specs.State.{Setup, State}
 
--- no memory byte is read: memory enters by its length alone
+-- No memory byte is read: memory enters by its length alone. No accepted plan is without an operation; 9 would be its number.
 unfoldable pub acted : Constants → Operation → Plan → State → Effect
 acted c operation.Shl p s = shlEffect p (lanesOn (c .mask) p) (s .registers)
 acted c operation.Gather p s = gatherEffect p (lanesOn (c .mask) p) (s .registers) (s .surfaces)
 acted c operation.Scatter p s =
     scatterEffect (record { base = c .base; length = length (s .memory .bytes) }) p (lanesOn (c .mask) p) (s .registers)
-acted c operation.Send p s = refused 9
+acted c operation.Refused p s = refused 9
 
 -- the tests that look at no data come first
 unfoldable pub planEffect : Constants → Plan → State → Effect

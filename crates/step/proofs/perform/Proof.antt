@@ -2,7 +2,7 @@
 use borrow.Author.Needs.{needs}
 use Rattle.step.proofs.perform.Statement.{statement}
 use Rattle.step.proofs.perform.Tie as tie
-use Rattle.step.proofs.PerformLaws.{refusal-performs, shl-performs, gather-performs, scatter-performs, send-performs}
+use Rattle.step.proofs.PerformLaws.{refusal-performs, shl-performs, gather-performs, scatter-performs, none-performs}
 
 -- the function's start, from where the plan is known to be accepted
 abbrev start : tie.Else1 → tie.Start
@@ -30,7 +30,7 @@ returns-4 c =
     scatter-performs _ _ _ (start (m .before .before) .pre) (m .before .before .if1 .left) _ _ (m .enum-told3 .given .1) (a .scatter .ensures)
 
 returns-5 : tie.Need-returns-5
-returns-5 c = send-performs _ _ _ (start (c .before .before) .pre) (c .before .before .if1 .left) (c .enum-told4 .given .1)
+returns-5 c = none-performs _ _ _ (start (c .before .before) .pre) (c .before .before .if1 .left) (c .enum-told4 .given .1)
 
 pub perform-spec : {M : Type 1} → statement M
 perform-spec =
