@@ -67,8 +67,8 @@ module _ (x : Setup) (registers surfaces memory : List ℕ) where
       told true e = absurd (true≢false (sym long ∙ good-short (lengthsOf x start) (x .tables) e))
 
   -- the run over zeros, of which the taint is dropped
-  pub zeros-answer : (a b c : List ℕ) (r : Answer) (s : State) → a ≡ replicate (length registers) 0 → b ≡ replicate (length surfaces) 0 → c ≡ replicate (length memory) 0
-      → outcome r s ≡ run x (state registers a surfaces b memory c) → plainOutcome r (s .registers .bytes) (s .memory .bytes) ≡ withoutMarks (plainRun x registers surfaces memory)
-  zeros-answer a b c r s za zb zc ran =
+  pub zeros-answer : (a b c : List ℕ) (r : Answer) (s : State) → outcome r s ≡ run x (state registers a surfaces b memory c)
+      → a ≡ replicate (length registers) 0 → b ≡ replicate (length surfaces) 0 → c ≡ replicate (length memory) 0 → plainOutcome r (s .registers .bytes) (s .memory .bytes) ≡ withoutMarks (plainRun x registers surfaces memory)
+  zeros-answer a b c r s ran za zb zc =
       ap withoutMarks
       (ran ∙ (λ i. run x (state registers (za i) surfaces (zb i) memory (zc i))) ∙ sym (plain-run-is x registers surfaces memory))
