@@ -1,10 +1,10 @@
--- The lowest and the highest element: a lane more, bounds of every lane, and what the test of the highest says of all.
+-- The lowest and the highest element: a lane more, a bound of every lane, and what the test of the highest says of all.
 use mathlib.Core.Path.{_≡_, refl, sym, _∙_}
 use mathlib.Core.Bool.{Bool, true, false, cond, _||_}
 use Prim.Native.Nat.{ℕ, zero, suc, _+_, _≤_, _<_, min, max}
-use native.Mathlib.Omega.{arith, min-cases, max-cases}
+use native.Mathlib.Omega.{arith, max-cases}
 use native.Mathlib.Numerals.{add-one}
-use native.Mathlib.Nat.{not-suc-le-zero, min-le-left, min-le-right, le-max-left, le-max-right}
+use native.Mathlib.Nat.{not-suc-le-zero, le-max-left, le-max-right}
 use lib.Dec.{ltb, eqb}
 use borrow.Author.Tests.{ltb-true, ltb-false, lt-ltb, le-ltb, ne-eqb}
 use borrow.Author.Count.{below-more}
@@ -27,14 +27,7 @@ pub highest-next : (f : ℕ → ℕ) (n high element result : ℕ) → high ≡ 
 unfolding highest
 highest-next f n high element result e h r = rw (add-one n, ← e, ← h) r
 
--- no lane is below the lowest, none above the highest
-pub lowest-each : (f : ℕ → ℕ) (n k : ℕ) → k < n → lowest f n ≤ f k
-unfolding lowest
-lowest-each f zero k h = absurd (not-suc-le-zero h)
-lowest-each f (suc n) k h =
-    below-more (λ (j : ℕ). min (lowest f n) (f n) ≤ f j) n (λ j l. omega (arith, lowest-each f n j l, min-le-left (lowest f n) (f n)))
-    (min-le-right (lowest f n) (f n)) k (rw (add-one n) h)
-
+-- no lane is above the highest
 pub highest-each : (f : ℕ → ℕ) (n k : ℕ) → k < n → f k ≤ highest f n
 unfolding highest
 highest-each f zero k h = absurd (not-suc-le-zero h)
@@ -60,13 +53,6 @@ highest-some f zero = here f 0 (max (f 0) (f 0)) (omega arith)
 highest-some f (suc n) =
     max-cases (highest f (suc n)) (f (suc n)) (LaneOf f (suc (suc n)) (highest f (suc (suc n))))
     (λ _ e. here f (suc n) _ e) (λ _ e. later f (suc n) (highest f (suc n)) _ e (highest-some f n))
-
-pub lowest-some : (f : ℕ → ℕ) (n : ℕ) → LaneOf f (suc n) (lowest f (suc n))
-unfolding lowest
-lowest-some f zero = here f 0 (min (f 0) (f 0)) (omega arith)
-lowest-some f (suc n) =
-    min-cases (lowest f (suc n)) (f (suc n)) (LaneOf f (suc (suc n)) (lowest f (suc (suc n))))
-    (λ _ e. later f (suc n) (lowest f (suc n)) _ e (lowest-some f n)) (λ _ e. here f (suc n) _ e)
 
 every-all : (good : ℕ → Bool) (n : ℕ) → ((k : ℕ) → k < n → good k ≡ true) → everyBelow n good ≡ true
 every-all good zero h = every-none good
