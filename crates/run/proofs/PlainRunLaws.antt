@@ -17,12 +17,12 @@ use Rattle.run.specs.Run.{outcome, run}
 use Rattle.run.specs.PlainRun.{plainRun, plainOutcome, withoutMarks, tooLong}
 use Rattle.run.proofs.Whole.{tables-refused, plain-run-is}
 
-pub zeros : (n m : ℕ) → n ≤ m → take {A = ℕ} n (replicate m 0) ≡ replicate n 0
-zeros zero m h = refl
-zeros (suc n) zero h = absurd (omega arith)
-zeros (suc n) (suc m) h = rw (zeros n m (omega arith))
+-- the first of equal elements, whatever they are
+pub equal-taken : {A : Type 0} (a : A) (n m : ℕ) → n ≤ m → take n (replicate m a) ≡ replicate n a
+equal-taken a zero m h = refl
+equal-taken a (suc n) zero h = absurd (omega arith)
+equal-taken a (suc n) (suc m) h = rw (equal-taken a n m (omega arith))
 
--- whatever the elements are
 pub length-taken : (a n m : ℕ) → n ≤ m → n ≡ length (take n (replicate m a))
 length-taken a n m h = sym (length-take-le n (replicate m a) (rw (length-replicate m a) h))
 

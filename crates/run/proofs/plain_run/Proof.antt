@@ -1,7 +1,7 @@
 -- `run::plain_run` meets its contract: it is the run over zeros.
 use mathlib.Core.Path.{sym, _∙_}
 use borrow.Author.Needs.{needs}
-use Rattle.run.proofs.PlainRunLaws.{zeros, length-taken, short-told, too-long-answers, zeros-answer}
+use Rattle.run.proofs.PlainRunLaws.{equal-taken, length-taken, short-told, too-long-answers, zeros-answer}
 use Rattle.run.proofs.plain_run.Statement.{statement}
 use Rattle.run.proofs.plain_run.Tie as tie
 
@@ -47,7 +47,7 @@ returns-2 c =
     let ran : tie.After-run = search c in
     let e : tie.Else1 = search ran in
     let short = short-told _ _ _ (sym (asked e .too-long .ensures) ∙ e .if1 .left) in
-    zeros-answer _ _ _ _ _ _ _ _ _ (ran .run .ensures) (zeros _ 4096 (short .registers-short)) (zeros _ 8192 (short .surfaces-short)) (zeros _ 4096 (short .memory-short))
+    zeros-answer _ _ _ _ _ _ _ _ _ (ran .run .ensures) (equal-taken _ _ 4096 (short .registers-short)) (equal-taken _ _ 8192 (short .surfaces-short)) (equal-taken _ _ 4096 (short .memory-short))
 
 pub plain-run-spec : {M : Type 1} → statement M
 plain-run-spec =
