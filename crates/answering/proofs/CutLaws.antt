@@ -51,7 +51,7 @@ length-taint size kind c taint t h e = ap (λ (l : List ℕ). length l) e ∙ to
 pub setup-cut : (c : Case) (kernel types starts counts predicates surfaces lengths k t s n p l : List ℕ) (bytes variables words numbers : ℕ) →
     bytes ≡ lengthOf 7 c → variables ≡ metOf 2 c → numbers ≡ metOf 3 c → words ≡ metOf 4 c →
     k ≡ take bytes kernel → t ≡ take variables types → s ≡ take variables starts → n ≡ take variables counts → p ≡ take numbers predicates → l ≡ take words lengths →
-    setup k (whole.tables t s n p l) (c .base) (c .mask) ≡ setupOf c kernel (tables types starts counts predicates surfaces lengths)
+    setup k (whole.tables (record { types = t; starts = s; counts = n }) (record { bits = p }) (record { lengths = l })) (record { base = c .base; mask = c .mask }) ≡ setupOf c kernel (tables types starts counts predicates surfaces lengths)
 unfolding setupOf
 setup-cut c kernel types starts counts predicates surfaces lengths k t s n p l bytes variables words numbers a b d e f g h i j m =
     rw (f, g, h, i, j, m, a, b, d, e)

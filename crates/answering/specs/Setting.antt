@@ -4,6 +4,9 @@ use mathlib.Core.Bool.{cond}
 use mathlib.Core.List.{List}
 use lib.Dec.{ltb}
 use lib.ListN.{take, replicate}
+use Rattle.tables.specs.Variables.{variables}
+use Rattle.tables.specs.Predicates.{predicates}
+use Rattle.tables.specs.Surfaces.{surfaces}
 use Rattle.tables.specs.Tables.{tables}
 use Rattle.frames.specs.declared.Case.{Case}
 use Rattle.frames.specs.Reading.{Contents, Tables}
@@ -16,9 +19,8 @@ unfoldable pub setupOf : Case → List ℕ → Tables → Setup
 setupOf c kernel t =
     setup
     (take (lengthOf 7 c) kernel)
-    (tables (take (metOf 2 c) (t .types)) (take (metOf 2 c) (t .starts)) (take (metOf 2 c) (t .counts)) (take (metOf 3 c) (t .predicates)) (take (metOf 4 c) (t .lengths)))
-    (c .base)
-    (c .mask)
+    (tables (variables (take (metOf 2 c) (t .types)) (take (metOf 2 c) (t .starts)) (take (metOf 2 c) (t .counts))) (predicates (take (metOf 3 c) (t .predicates))) (surfaces (take (metOf 4 c) (t .lengths))))
+    (record { base = c .base; mask = c .mask })
 
 -- "absent means .. marks all 0"; the buffer has this size
 unfoldable pub taintOf : ℕ → ℕ → Case → List ℕ → List ℕ

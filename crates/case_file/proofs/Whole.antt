@@ -23,7 +23,7 @@ use Rattle.output.specs.Output.{answerLine, outputBytes}
 use Rattle.output.specs.Page.{page, written}
 use Rattle.run.specs.Run.{run}
 use Rattle.run.proofs.Whole.{tables-refused}
-use Rattle.run.proofs.PlainRunLaws.{zeros}
+use Rattle.run.proofs.PlainRunLaws.{equal-taken}
 use Rattle.answering.specs.Setting as loader
 use Rattle.answering.specs.Setting.{taintOf}
 use Rattle.answering.proofs.BenchLaws.{begun, blocks-answered}
@@ -43,7 +43,7 @@ use Rattle.case_file.proofs.Lines.{After, Told, lines-told, position-po
 marks-taken : (size : ℕ) (cs : List (List ℕ)) (z bytes : List ℕ) → length bytes ≤ size →
     take (cond (ltb 0 (length cs)) (length (firstOf cs)) (length bytes)) (cond (ltb 0 (length cs)) (padded z (firstOf cs)) (replicate size 0)) ≡ marksOf cs bytes
 unfolding firstOf marksOf
-marks-taken size [] z bytes h = zeros (length bytes) size h
+marks-taken size [] z bytes h = equal-taken 0 (length bytes) size h
 marks-taken size (c ∷ cs) z bytes h = rw (lt-ltb 0 (suc (length cs)) (omega arith)) (take-padded z c)
 
 -- what the loader holds, cut to what was read, is the case

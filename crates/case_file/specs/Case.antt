@@ -35,14 +35,15 @@ caseSetup frames =
     record {
       kernel = onlyOf 0x07 frames;
       tables = record {
-        types = map typeOf (ofKind 0x02 frames);
-        starts = map startOf (ofKind 0x02 frames);
-        counts = map countOf (ofKind 0x02 frames);
-        predicates = map dwordOf (ofKind 0x03 frames);
-        surfaces = map length (ofKind 0x04 frames);
+        variables = record {
+          types = map typeOf (ofKind 0x02 frames);
+          starts = map startOf (ofKind 0x02 frames);
+          counts = map countOf (ofKind 0x02 frames);
+        };
+        predicates = record { bits = map dwordOf (ofKind 0x03 frames) };
+        surfaces = record { lengths = map length (ofKind 0x04 frames) };
       };
-      base = baseOf (onlyOf 0x05 frames);
-      mask = dwordOf (onlyOf 0x06 frames);
+      constants = record { base = baseOf (onlyOf 0x05 frames); mask = dwordOf (onlyOf 0x06 frames) };
     }
 
 -- "absent means .. marks all 0": as many as there are bytes to mark

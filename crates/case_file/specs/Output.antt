@@ -11,7 +11,7 @@ use Rattle.case_file.specs.Case.{caseSetup, caseState}
 
 -- the run of the case; where sizes are broken the run itself answers 13, "position 0"
 unfoldable pub framesOutput : List (List ℕ) → List ℕ
-framesOutput frames = outcomeOutput (caseSetup frames .base) (run (caseSetup frames) (caseState frames))
+framesOutput frames = outcomeOutput (caseSetup frames .constants .base) (run (caseSetup frames) (caseState frames))
 
 -- "position ud": a line number past the largest ud is told as that (docs/DECISIONS.md, Line numbers)
 unfoldable pub positionOf : ℕ → ℕ

@@ -13,7 +13,7 @@ use Rattle.operands.specs.declared.TypeRule.{TypeRule}
 use Rattle.operands.specs.declared.TypeRule.the-variants as rule
 use Rattle.operands.specs.declared.Located.{Located}
 use Rattle.operands.specs.Allowed.{shiftType, dwordType, typeAllowed}
-use Rattle.operands.specs.Elements.{registerElements, refusal}
+use Rattle.operands.specs.Elements.{registerElements, refusedOperand}
 use Rattle.operands.specs.Operands.{generalOf, rawGood, rawOf}
 
 number-of : (b : Bool) (x y : Located) → cond b x y .number ≡ cond b (x .number) (y .number)
@@ -22,7 +22,7 @@ number-of false x y = refl
 
 -- past the test of its type, a General operand has the number of its region
 general-number : (o : Role) (r : TypeRule) (lanes : ℕ) (g : General) (v : Variable) → typeAllowed r (v .code) ≡ true → generalOf o r lanes g v .number ≡ regionNumber o lanes g v
-unfolding generalOf registerElements refusal
+unfolding generalOf registerElements refusedOperand
 general-number o r lanes g v allowed = rw (number-of, number-of, number-of, allowed)
 
 words-allowed : typeAllowed rule.Shift UW ≡ true
@@ -38,7 +38,7 @@ general-at-edges =
 raw-number : (r : TypeRule) (bytes offset : ℕ) (v : Variable) (size : ℕ) → sizeOf (v .code) ≡ size
     → rawOf r bytes offset v .number
     ≡ cond (not (typeAllowed r (v .code))) 4 (cond (not (eqb (offset % size) 0 && leb (offset + bytes) (v .count * size))) 7 0)
-unfolding rawOf rawGood registerElements refusal
+unfolding rawOf rawGood registerElements refusedOperand
 raw-number r bytes offset v size e = rw (number-of, number-of, e)
 
 -- the number for eight elements of this type

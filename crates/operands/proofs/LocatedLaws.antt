@@ -19,7 +19,7 @@ use Rattle.field_groups.specs.declared.Operand.the-variants as operand
 use Rattle.regions.specs.declared.Role.{Role}
 use Rattle.regions.specs.declared.Role.the-variants as role
 use Rattle.regions.specs.declared.Variable.{Variable}
-use Rattle.regions.specs.Regions.{regionGood, elementOf}
+use Rattle.regions.specs.Regions.{regionAllowed, elementOf}
 use Rattle.regions.specs.Reach.{elementsGood}
 use Rattle.regions.specs.Positions.{elementByte}
 use Rattle.regions.proofs.ReachLaws.{cond-either, elements-inside}
@@ -29,9 +29,10 @@ use Rattle.operands.specs.declared.TypeRule.{TypeRule}
 use Rattle.operands.specs.declared.Elements.{Elements}
 use Rattle.operands.specs.declared.Located.{Located}
 use Rattle.operands.specs.Allowed.{typeAllowed}
-use Rattle.operands.specs.Variables.{Variables, inTable, variableAt}
-use Rattle.operands.specs.Elements.{registerElements, immediateElement, refusal}
-use Rattle.operands.specs.Operands.{generalOf, generalAt, immediateOf, immediateAt, vectorAt, rawGood, rawOf, rawAt}
+use Rattle.tables.specs.Variables.{Variables}
+use Rattle.operands.specs.Variables.{inTable, variableAt}
+use Rattle.operands.specs.Elements.{registerElements, immediateElement, refusedOperand}
+use Rattle.operands.specs.Operands.{generalOf, locatedGeneral, immediateOf, locatedImmediate, locatedVector, rawGood, rawOf, locatedRaw}
 use Rattle.operands.proofs.AllowedLaws.{RuleSize, rule-size}
 use Rattle.operands.proofs.SizeLaws.{vector-sized, raw-sized}
 
@@ -77,31 +78,31 @@ module _ (registers : ℕ) where
 
   general-fine : (o : Role) (r : TypeRule) (lanes : ℕ) (g : General) (v : Variable) → lanes ≤ 32 → Placed registers (v .code) (v .start) (v .count)
       → Fine lanes (generalOf o r lanes g v)
-  unfolding generalOf refusal
+  unfolding generalOf refusedOperand
   general-fine o r lanes g v few p =
       let f = elementOf o g (sizeOf (v .code)) in
       cond-either (Fine lanes) (not (typeAllowed r (v .code))) (λ _ z. absurd (omega (arith, z)))
-      (λ _. cond-either (Fine lanes) (not (regionGood o (g .region) lanes)) (λ _ z. absurd (omega (arith, z)))
+      (λ _. cond-either (Fine lanes) (not (regionAllowed o (g .region) lanes)) (λ _ z. absurd (omega (arith, z)))
       (λ _. cond-either (Fine lanes) (not (elementsGood v f lanes)) (λ _ z. absurd (omega (arith, z)))
       (λ e _. register-inside lanes (v .code) (elementByte (v .start) (sizeOf (v .code)) f) few
       (λ k l. rw (byte-of (v .start) (sizeOf (v .code)) f k) (element-inside registers (v .code) (v .start) (v .count) (f k) p (elements-inside v f lanes (not-false _ e) k l))))))
 
   -- an immediate has no place in the registers
   immediate-fine : (lanes : ℕ) (r : TypeRule) (i : Immediate) → Fine lanes (immediateOf r i)
-  unfolding immediateOf immediateElement refusal
+  unfolding immediateOf immediateElement refusedOperand
   immediate-fine lanes r i =
       cond-either (Fine lanes) (not (typeAllowed r (i .code))) (λ _ z. absurd (omega (arith, z)))
       (λ _ _ e. absurd (true≢false e))
 
-  immediate-in-fine : (o : Role) (lanes : ℕ) (r : TypeRule) (i : Immediate) → Fine lanes (immediateAt o r i)
-  unfolding immediateAt refusal
+  immediate-in-fine : (o : Role) (lanes : ℕ) (r : TypeRule) (i : Immediate) → Fine lanes (locatedImmediate o r i)
+  unfolding locatedImmediate refusedOperand
   immediate-in-fine role.Source lanes r i = immediate-fine lanes r i
   immediate-in-fine role.Scalar lanes r i = immediate-fine lanes r i
   immediate-in-fine role.Destination lanes r i = λ z. absurd (omega (arith, z))
 
   raw-fine : (r : TypeRule) (lanes bytes offset : ℕ) (v : Variable) → lanes ≤ 32 → ((size : ℕ) → RuleSize r size → lanes * size ≤ bytes)
       → Placed registers (v .code) (v .start) (v .count) → Fine lanes (rawOf r bytes offset v)
-  unfolding rawOf refusal rawGood
+  unfolding rawOf refusedOperand rawGood
   raw-fine r lanes bytes offset v few room p =
       let size = sizeOf (v .code) in
       cond-either (Fine lanes) (not (typeAllowed r (v .code))) (λ _ z. absurd (omega (arith, z)))
@@ -120,7 +121,7 @@ module _ (registers : ℕ) where
 
   raw-consecutive : (r : TypeRule) (bytes offset : ℕ) (v : Variable) → Placed registers (v .code) (v .start) (v .count)
       → rawOf r bytes offset v .number ≡ 0 → Consecutive registers bytes (rawOf r bytes offset v .elements)
-  unfolding rawOf refusal rawGood registerElements
+  unfolding rawOf refusedOperand rawGood registerElements
   raw-consecutive r bytes offset v p =
       let size = sizeOf (v .code) in
       let P : Located → Type 0 = λ l. l .number ≡ 0 → Consecutive registers bytes (l .elements) in
@@ -134,30 +135,30 @@ module _ (registers : ℕ) where
       }))
 
   module _ (t : Variables) (all : AllPlaced registers t) where
-    vector-fine : (o : Role) (r : TypeRule) (exec : ℕ) (x : Operand) → execSize exec ≤ 32 → Fine (execSize exec) (vectorAt t o r exec x)
-    unfolding vectorAt generalAt inTable variableAt refusal
+    vector-fine : (o : Role) (r : TypeRule) (exec : ℕ) (x : Operand) → execSize exec ≤ 32 → Fine (execSize exec) (locatedVector t o r exec x)
+    unfolding locatedVector locatedGeneral inTable variableAt refusedOperand
     vector-fine o r exec (operand.General g) few =
         cond-either (Fine (execSize exec)) (not (ltb (g .index) (length (t .types)))) (λ _ z. absurd (omega (arith, z)))
         (λ e. general-fine o r (execSize exec) g (variableAt t (g .index)) few (all (g .index) (ltb-true _ _ (not-false _ e))))
     vector-fine o r exec (operand.Immediate i) few = immediate-in-fine o (execSize exec) r i
 
-    pub vector-accepted : (o : Role) (r : TypeRule) (exec : ℕ) (x : Operand) → execSize exec ≤ 32 → vectorAt t o r exec x .number ≡ 0
-        → Accepted registers (execSize exec) r (vectorAt t o r exec x .elements)
+    pub vector-accepted : (o : Role) (r : TypeRule) (exec : ℕ) (x : Operand) → execSize exec ≤ 32 → locatedVector t o r exec x .number ≡ 0
+        → Accepted registers (execSize exec) r (locatedVector t o r exec x .elements)
     vector-accepted o r exec x few z = record { size = vector-sized r t o exec x z; inside = vector-fine o r exec x few z }
 
     raw-in-fine : (r : TypeRule) (lanes bytes : ℕ) (x : Raw) → lanes ≤ 32 → ((size : ℕ) → RuleSize r size → lanes * size ≤ bytes)
-        → Fine lanes (rawAt t r bytes x)
-    unfolding rawAt inTable variableAt refusal
+        → Fine lanes (locatedRaw t r bytes x)
+    unfolding locatedRaw inTable variableAt refusedOperand
     raw-in-fine r lanes bytes x few room =
         cond-either (Fine lanes) (not (ltb (x .index) (length (t .types)))) (λ _ z. absurd (omega (arith, z)))
         (λ e. raw-fine r lanes bytes (x .offset) (variableAt t (x .index)) few room (all (x .index) (ltb-true _ _ (not-false _ e))))
 
     pub raw-accepted : (r : TypeRule) (lanes bytes : ℕ) (x : Raw) → lanes ≤ 32 → ((size : ℕ) → RuleSize r size → lanes * size ≤ bytes)
-        → rawAt t r bytes x .number ≡ 0 → Accepted registers lanes r (rawAt t r bytes x .elements)
+        → locatedRaw t r bytes x .number ≡ 0 → Accepted registers lanes r (locatedRaw t r bytes x .elements)
     raw-accepted r lanes bytes x few room z = record { size = raw-sized r t bytes x z; inside = raw-in-fine r lanes bytes x few room z }
 
-    pub raw-whole : (r : TypeRule) (bytes : ℕ) (x : Raw) → rawAt t r bytes x .number ≡ 0 → Consecutive registers bytes (rawAt t r bytes x .elements)
-    unfolding rawAt inTable variableAt refusal
+    pub raw-whole : (r : TypeRule) (bytes : ℕ) (x : Raw) → locatedRaw t r bytes x .number ≡ 0 → Consecutive registers bytes (locatedRaw t r bytes x .elements)
+    unfolding locatedRaw inTable variableAt refusedOperand
     raw-whole r bytes x =
         cond-either (λ (l : Located). l .number ≡ 0 → Consecutive registers bytes (l .elements)) (not (ltb (x .index) (length (t .types))))
         (λ _ z. absurd (omega (arith, z)))
@@ -165,23 +166,23 @@ module _ (registers : ℕ) where
 
 general-apart : (r : TypeRule) (lanes : ℕ) (g : General) (v : Variable) → generalOf role.Destination r lanes g v .number ≡ 0
     → Apart (generalOf role.Destination r lanes g v .elements)
-unfolding generalOf refusal registerElements
+unfolding generalOf refusedOperand registerElements
 general-apart r lanes g v =
     let P : Located → Type 0 = λ l. l .number ≡ 0 → Apart (l .elements) in
     let size = sizeOf (v .code) in
     let f = elementOf role.Destination g size in
     let at = position-of (elementByte (v .start) size f) in
     cond-either P (not (typeAllowed r (v .code))) (λ _ z. absurd (omega (arith, z)))
-    (λ _. cond-either P (not (regionGood role.Destination (g .region) lanes)) (λ _ z. absurd (omega (arith, z)))
+    (λ _. cond-either P (not (regionAllowed role.Destination (g .region) lanes)) (λ _ z. absurd (omega (arith, z)))
     (λ e. cond-either P (not (elementsGood v f lanes)) (λ _ z. absurd (omega (arith, z)))
     (λ _ _. record {
       in-registers = refl;
       each = λ j k l m. rw (at j (omega arith), at k m) (regions.destination-apart g lanes (v .start) size j k (not-false _ e) l);
     })))
 
-pub destination-apart : (t : Variables) (r : TypeRule) (exec : ℕ) (x : Operand) → vectorAt t role.Destination r exec x .number ≡ 0
-    → Apart (vectorAt t role.Destination r exec x .elements)
-unfolding vectorAt generalAt immediateAt refusal
+pub destination-apart : (t : Variables) (r : TypeRule) (exec : ℕ) (x : Operand) → locatedVector t role.Destination r exec x .number ≡ 0
+    → Apart (locatedVector t role.Destination r exec x .elements)
+unfolding locatedVector locatedGeneral locatedImmediate refusedOperand
 destination-apart t r exec (operand.General g) =
     cond-either (λ (l : Located). l .number ≡ 0 → Apart (l .elements)) (not (inTable t (g .index))) (λ _ z. absurd (omega (arith, z)))
     (λ _. general-apart r (execSize exec) g (variableAt t (g .index)))

@@ -14,15 +14,16 @@ use Rattle.field_groups.specs.declared.Operand.the-variants as operand
 use Rattle.regions.specs.declared.Role.{Role}
 use Rattle.regions.specs.declared.Role.the-variants as role
 use Rattle.regions.specs.declared.Variable.{Variable}
-use Rattle.regions.specs.Regions.{regionGood, elementOf}
+use Rattle.regions.specs.Regions.{regionAllowed, elementOf}
 use Rattle.regions.specs.Reach.{elementsGood}
 use Rattle.regions.proofs.ReachLaws.{cond-either}
 use Rattle.operands.specs.declared.TypeRule.{TypeRule}
 use Rattle.operands.specs.declared.Located.{Located}
 use Rattle.operands.specs.Allowed.{typeAllowed}
-use Rattle.operands.specs.Variables.{Variables, inTable, variableAt}
-use Rattle.operands.specs.Elements.{registerElements, immediateElement, refusal}
-use Rattle.operands.specs.Operands.{generalOf, generalAt, immediateOf, immediateAt, vectorAt, rawGood, rawOf, rawAt}
+use Rattle.tables.specs.Variables.{Variables}
+use Rattle.operands.specs.Variables.{inTable, variableAt}
+use Rattle.operands.specs.Elements.{registerElements, immediateElement, refusedOperand}
+use Rattle.operands.specs.Operands.{generalOf, locatedGeneral, immediateOf, locatedImmediate, locatedVector, rawGood, rawOf, locatedRaw}
 use Rattle.operands.proofs.AllowedLaws.{RuleSize, rule-size}
 
 module _ (r : TypeRule) where
@@ -30,30 +31,30 @@ module _ (r : TypeRule) where
   Sized l = l .number ≡ 0 → RuleSize r (l .elements .size)
 
   -- a refusal has another number than 0
-  refusal-sized : (n : ℕ) → 0 < n → Sized (refusal n)
-  unfolding refusal
+  refusal-sized : (n : ℕ) → 0 < n → Sized (refusedOperand n)
+  unfolding refusedOperand
   refusal-sized n some z = absurd (omega (arith, some, z))
 
-  past : (q : Bool) (n : ℕ) (l : Located) → 0 < n → Sized l → Sized (cond q (refusal n) l)
+  past : (q : Bool) (n : ℕ) (l : Located) → 0 < n → Sized l → Sized (cond q (refusedOperand n) l)
   past q n l some sized = cond-either Sized q (λ _. refusal-sized n some) (λ _. sized)
 
   -- past the test of a type, elements of this type have its size
-  typed : (code : ℕ) (l : Located) → (RuleSize r (sizeOf code) → Sized l) → Sized (cond (not (typeAllowed r code)) (refusal 4) l)
+  typed : (code : ℕ) (l : Located) → (RuleSize r (sizeOf code) → Sized l) → Sized (cond (not (typeAllowed r code)) (refusedOperand 4) l)
   typed code l sized = cond-either Sized (not (typeAllowed r code)) (λ _. refusal-sized 4 (omega arith)) (λ a. sized (rule-size code r (not-false _ a)))
 
   general-sized : (o : Role) (lanes : ℕ) (g : General) (v : Variable) → Sized (generalOf o r lanes g v)
   unfolding generalOf registerElements
   general-sized o lanes g v =
       typed (v .code) _ (λ size.
-      past (not (regionGood o (g .region) lanes)) 6 _ (omega arith)
+      past (not (regionAllowed o (g .region) lanes)) 6 _ (omega arith)
       (past (not (elementsGood v (elementOf o g (sizeOf (v .code))) lanes)) 7 _ (omega arith) (λ _. size)))
 
   immediate-sized : (i : Immediate) → Sized (immediateOf r i)
   unfolding immediateOf immediateElement
   immediate-sized i = typed (i .code) _ (λ size _. size)
 
-  immediate-in-sized : (o : Role) (i : Immediate) → Sized (immediateAt o r i)
-  unfolding immediateAt
+  immediate-in-sized : (o : Role) (i : Immediate) → Sized (locatedImmediate o r i)
+  unfolding locatedImmediate
   immediate-in-sized role.Source i = immediate-sized i
   immediate-in-sized role.Scalar i = immediate-sized i
   immediate-in-sized role.Destination i = refusal-sized 4 (omega arith)
@@ -62,11 +63,11 @@ module _ (r : TypeRule) where
   unfolding rawOf registerElements
   raw-of-sized bytes offset v = typed (v .code) _ (λ size. past (not (rawGood v offset bytes)) 7 _ (omega arith) (λ _. size))
 
-  pub vector-sized : (t : Variables) (o : Role) (exec : ℕ) (x : Operand) → Sized (vectorAt t o r exec x)
-  unfolding vectorAt generalAt
+  pub vector-sized : (t : Variables) (o : Role) (exec : ℕ) (x : Operand) → Sized (locatedVector t o r exec x)
+  unfolding locatedVector locatedGeneral
   vector-sized t o exec (operand.General g) = past (not (inTable t (g .index))) 5 _ (omega arith) (general-sized o (execSize exec) g (variableAt t (g .index)))
   vector-sized t o exec (operand.Immediate i) = immediate-in-sized o i
 
-  pub raw-sized : (t : Variables) (bytes : ℕ) (x : Raw) → Sized (rawAt t r bytes x)
-  unfolding rawAt
+  pub raw-sized : (t : Variables) (bytes : ℕ) (x : Raw) → Sized (locatedRaw t r bytes x)
+  unfolding locatedRaw
   raw-sized t bytes x = past (not (inTable t (x .index))) 5 _ (omega arith) (raw-of-sized bytes (x .offset) (variableAt t (x .index)))

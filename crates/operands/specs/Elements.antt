@@ -26,8 +26,8 @@ immediateElement code value =
     }
 
 -- a refusal's number, and no elements
-unfoldable pub refusal : ℕ → Located
-refusal n =
+unfoldable pub refusedOperand : ℕ → Located
+refusedOperand n =
     record {
       number = n;
       elements = record { size = 0; signed = false; immediate = false; value = 0; at = replicate 32 0 };

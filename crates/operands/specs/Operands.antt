@@ -13,45 +13,46 @@ use Rattle.field_groups.specs.declared.Operand.the-variants as operand
 use Rattle.regions.specs.declared.Role.{Role}
 use Rattle.regions.specs.declared.Role.the-variants as role
 use Rattle.regions.specs.declared.Variable.{Variable}
-use Rattle.regions.specs.Regions.{regionGood, elementOf}
+use Rattle.regions.specs.Regions.{regionAllowed, elementOf}
 use Rattle.regions.specs.Reach.{elementsGood}
 use Rattle.regions.specs.Positions.{elementByte}
 use Rattle.operands.specs.declared.TypeRule.{TypeRule}
 use Rattle.operands.specs.declared.Located.{Located}
 use Rattle.operands.specs.Allowed.{typeAllowed}
-use Rattle.operands.specs.Variables.{Variables, inTable, variableAt}
-use Rattle.operands.specs.Elements.{registerElements, immediateElement, refusal}
+use Rattle.tables.specs.Variables.{Variables}
+use Rattle.operands.specs.Variables.{inTable, variableAt}
+use Rattle.operands.specs.Elements.{registerElements, immediateElement, refusedOperand}
 
 -- a General operand of a variable in the table: 4, 6, 7
 unfoldable pub generalOf : Role → TypeRule → ℕ → General → Variable → Located
 generalOf role rule lanes g v =
-    cond (not (typeAllowed rule (v .code))) (refusal 4)
-    (cond (not (regionGood role (g .region) lanes)) (refusal 6)
-    (cond (not (elementsGood v (elementOf role g (sizeOf (v .code))) lanes)) (refusal 7)
+    cond (not (typeAllowed rule (v .code))) (refusedOperand 4)
+    (cond (not (regionAllowed role (g .region) lanes)) (refusedOperand 6)
+    (cond (not (elementsGood v (elementOf role g (sizeOf (v .code))) lanes)) (refusedOperand 7)
     (registerElements (v .code) (elementByte (v .start) (sizeOf (v .code)) (elementOf role g (sizeOf (v .code)))))))
 
 -- 5, then the others
-unfoldable pub generalAt : Variables → Role → TypeRule → ℕ → General → Located
-generalAt t role rule exec g =
-    cond (not (inTable t (g .index))) (refusal 5)
+unfoldable pub locatedGeneral : Variables → Role → TypeRule → ℕ → General → Located
+locatedGeneral t role rule exec g =
+    cond (not (inTable t (g .index))) (refusedOperand 5)
     (generalOf role rule (execSize exec) g (variableAt t (g .index)))
 
 -- an Immediate source: 4
 unfoldable pub immediateOf : TypeRule → Immediate → Located
 immediateOf rule i =
-    cond (not (typeAllowed rule (i .code))) (refusal 4)
+    cond (not (typeAllowed rule (i .code))) (refusedOperand 4)
     (immediateElement (i .code) (i .low + 2 ^ 32 * i .high))
 
 -- "any class but General, or Immediate on a source, is 4"
-unfoldable pub immediateAt : Role → TypeRule → Immediate → Located
-immediateAt role.Source rule i = immediateOf rule i
-immediateAt role.Scalar rule i = immediateOf rule i
-immediateAt role.Destination rule i = refusal 4
+unfoldable pub locatedImmediate : Role → TypeRule → Immediate → Located
+locatedImmediate role.Source rule i = immediateOf rule i
+locatedImmediate role.Scalar rule i = immediateOf rule i
+locatedImmediate role.Destination rule i = refusedOperand 4
 
 -- a vector operand or a scalar
-unfoldable pub vectorAt : Variables → Role → TypeRule → ℕ → Operand → Located
-vectorAt t role rule exec (operand.General g) = generalAt t role rule exec g
-vectorAt t role rule exec (operand.Immediate i) = immediateAt role rule i
+unfoldable pub locatedVector : Variables → Role → TypeRule → ℕ → Operand → Located
+locatedVector t role rule exec (operand.General g) = locatedGeneral t role rule exec g
+locatedVector t role rule exec (operand.Immediate i) = locatedImmediate role rule i
 
 -- "it lies in its variable and its offset is a multiple of the element size"
 unfoldable pub rawGood : Variable → ℕ → ℕ → Bool
@@ -60,12 +61,12 @@ rawGood v offset bytes = eqb (offset % sizeOf (v .code)) 0 && leb (offset + byte
 -- a raw operand of a variable in the table: 4, 7; its elements follow one another from the offset on
 unfoldable pub rawOf : TypeRule → ℕ → ℕ → Variable → Located
 rawOf rule bytes offset v =
-    cond (not (typeAllowed rule (v .code))) (refusal 4)
-    (cond (not (rawGood v offset bytes)) (refusal 7)
+    cond (not (typeAllowed rule (v .code))) (refusedOperand 4)
+    (cond (not (rawGood v offset bytes)) (refusedOperand 7)
     (registerElements (v .code) (elementByte (v .start + offset) (sizeOf (v .code)) (λ k. k))))
 
 -- a raw operand of which so many bytes are needed: 5, then the others
-unfoldable pub rawAt : Variables → TypeRule → ℕ → Raw → Located
-rawAt t rule bytes r =
-    cond (not (inTable t (r .index))) (refusal 5)
+unfoldable pub locatedRaw : Variables → TypeRule → ℕ → Raw → Located
+locatedRaw t rule bytes r =
+    cond (not (inTable t (r .index))) (refusedOperand 5)
     (rawOf rule bytes (r .offset) (variableAt t (r .index)))

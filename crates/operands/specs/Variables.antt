@@ -1,18 +1,10 @@
--- The table of variables, and one of them.
+-- One variable of the table.
 use Prim.Native.Nat.{ℕ}
 use mathlib.Core.Bool.{Bool}
-use mathlib.Core.List.{List}
 use lib.Dec.{ltb}
 use lib.ListN.{length, getD}
+use Rattle.tables.specs.Variables.{Variables}
 use Rattle.regions.specs.declared.Variable.{Variable}
-
-pub record Variables : Type 0 where
-  pub types : List ℕ
-  pub starts : List ℕ
-  pub counts : List ℕ
-
-abbrev pub variables : List ℕ → List ℕ → List ℕ → Variables
-variables types starts counts = record { types = types; starts = starts; counts = counts }
 
 -- refusal 5 where this is false: "variable .. not in its table"
 unfoldable pub inTable : Variables → ℕ → Bool

@@ -10,9 +10,10 @@ ghost use Prim.Native.Nat.{_<_};
 ghost use lib.ListN.{getD};
 ghost use Rattle.element_types.specs.Types.{sizeOf};
 ghost use Rattle.operands.specs.Allowed.{shiftType, dwordType, typeAllowed};
-ghost use Rattle.operands.specs.Variables.{variables, variableAt};
-ghost use Rattle.operands.specs.Elements.{lowBytes, refusal};
-ghost use Rattle.operands.specs.Operands.{generalOf, generalAt, immediateOf, immediateAt, vectorAt, rawGood, rawOf, rawAt};
+ghost use Rattle.tables.specs.Borrowed.{variableTable};
+ghost use Rattle.operands.specs.Variables.{variableAt};
+ghost use Rattle.operands.specs.Elements.{lowBytes, refusedOperand};
+ghost use Rattle.operands.specs.Operands.{generalOf, locatedGeneral, immediateOf, locatedImmediate, locatedVector, rawGood, rawOf, locatedRaw};
 
 // Which element types an operand may have.
 pub enum TypeRule {
@@ -68,7 +69,7 @@ fn type_allowed(rule: TypeRule, code: u8) -> bool
 }
 
 fn refused(number: u8) -> Located
-    ensures { λ r. ⌜ r ≡ refusal number ⌝ }
+    ensures { λ r. ⌜ r ≡ refusedOperand number ⌝ }
 {
     let elements = Elements {
         size: 0,
@@ -90,7 +91,7 @@ fn entry(table: &[u16], index: u16) -> u16
 
 // Past the end of a slice its part is 0.
 fn variable_at(types: &[u8], starts: &[u16], counts: &[u16], index: u16) -> Variable
-    ensures { λ r. ⌜ r ≡ variableAt (variables (now (types .entry)) (now (starts .entry)) (now (counts .entry))) index ⌝ }
+    ensures { λ r. ⌜ r ≡ variableAt (variableTable types starts counts) index ⌝ }
 {
     let i = index as usize;
     let start = entry(starts, index);
@@ -123,7 +124,7 @@ fn locate_general(
     if !type_allowed(rule, code) {
         return refused(4);
     }
-    if !regions::region_good(role, general.region, lanes) {
+    if !regions::region_allowed(role, general.region, lanes) {
         return refused(6);
     }
     if !regions::elements_good(role, general, variable, lanes) {
@@ -178,7 +179,7 @@ fn locate_immediate(rule: TypeRule, immediate: Immediate) -> Located
 }
 
 fn immediate_in(role: Role, rule: TypeRule, immediate: Immediate) -> Located
-    ensures { λ r. ⌜ r ≡ immediateAt role rule immediate ⌝ }
+    ensures { λ r. ⌜ r ≡ locatedImmediate role rule immediate ⌝ }
 {
     match role {
         Role::Source => locate_immediate(rule, immediate),
@@ -196,7 +197,7 @@ fn general_in(
     exec: u8,
     general: General,
 ) -> Located
-    ensures { λ r. ⌜ r ≡ generalAt (variables (now (types .entry)) (now (starts .entry)) (now (counts .entry))) role rule exec general ⌝ }
+    ensures { λ r. ⌜ r ≡ locatedGeneral (variableTable types starts counts) role rule exec general ⌝ }
 {
     if !((general.index as usize) < types.len()) {
         return refused(5);
@@ -216,7 +217,7 @@ pub fn locate_vector(
     exec: u8,
     operand: Operand,
 ) -> Located
-    ensures { λ r. ⌜ r ≡ vectorAt (variables (now (types .entry)) (now (starts .entry)) (now (counts .entry))) role rule exec operand ⌝ }
+    ensures { λ r. ⌜ r ≡ locatedVector (variableTable types starts counts) role rule exec operand ⌝ }
 {
     match operand {
         Operand::General(general) => general_in(types, starts, counts, role, rule, exec, general),
@@ -266,7 +267,7 @@ pub fn locate_raw(
     bytes: u32,
     raw: Raw,
 ) -> Located
-    ensures { λ r. ⌜ r ≡ rawAt (variables (now (types .entry)) (now (starts .entry)) (now (counts .entry))) rule bytes raw ⌝ }
+    ensures { λ r. ⌜ r ≡ locatedRaw (variableTable types starts counts) rule bytes raw ⌝ }
 {
     if !((raw.index as usize) < types.len()) {
         return refused(5);

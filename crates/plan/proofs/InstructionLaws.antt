@@ -20,7 +20,7 @@ use Rattle.regions.specs.declared.Role.the-variants as role
 use Rattle.regions.proofs.ReachLaws.{cond-either}
 use Rattle.operands.specs.declared.TypeRule.{TypeRule}
 use Rattle.operands.specs.declared.TypeRule.the-variants as rule
-use Rattle.operands.specs.Variables.{Variables}
+use Rattle.tables.specs.Variables.{Variables}
 use Rattle.operands.proofs.AllowedLaws.{RuleSize}
 use Rattle.operands.proofs.SizeLaws.{vector-sized, raw-sized}
 use Rattle.plan.specs.declared.Operation.{Operation}
@@ -30,7 +30,7 @@ use Rattle.plan.specs.declared.Plan.{Plan}
 use Rattle.plan.specs.Control.{controlOf, controlRefusal}
 use Rattle.plan.specs.Needed.{elementsNeeded, scatterNeeded}
 use Rattle.plan.specs.Plans.{tested, shlPlan, gatherPlan, scatterPlan}
-use Rattle.plan.specs.Checked.{shlDst, shlSrc0, shlSrc1, checkedShl, gatherOffset, gatherElementOffset, gatherDst, checkedGather, surfacePart, checkedSurface, scatterAddress, scatterElementOffset, scatterSrc, checkedScatter, checkedSend, checkedOperands, checked}
+use Rattle.plan.specs.Checked.{shlDst, shlSrc0, shlSrc1, checkedShl, gatherOffset, gatherElementOffset, gatherDst, checkedGatherOperands, surfacePart, checkedGather, scatterAddress, scatterElementOffset, scatterSrc, checkedScatter, checkedSend, checkedOperands, checked}
 use Rattle.plan.proofs.TestLaws.{refusal-number, accepted-then, lanes-fit}
 
 -- an operation, its control, and the types of its two sources and of its payload
@@ -42,7 +42,7 @@ pub record Keeps (o : Operation) (c : Control) (sources payloads : TypeRule) (p 
   pub right : RuleSize sources (p .right .size)
   pub payload : RuleSize payloads (p .payload .size)
 
--- no RAW_SEND is accepted
+-- no refused plan is accepted
 abbrev pub KeepsFor : Instruction → Plan → Type 0
 KeepsFor (instruction.Shl i) = Keeps operation.Shl (i .control) rule.Shift rule.Shift
 KeepsFor (instruction.Gather i) = Keeps operation.Gather (i .control) rule.Offset rule.Dword
@@ -67,8 +67,8 @@ module _ (t : Variables) (bits : ℕ) where
         payload = vector-sized rule.Shift t role.Destination (i .control .exec) (i .destination) dst;
       })
 
-  gather-keeps : (part : Part) (i : Gather) → execSize (i .control .exec) ≤ 32 → checkedGather t bits part i .number ≡ 0 → KeepsFor (instruction.Gather i) (checkedGather t bits part i)
-  unfolding checkedGather gatherOffset gatherElementOffset gatherDst gatherPlan
+  gather-keeps : (part : Part) (i : Gather) → execSize (i .control .exec) ≤ 32 → checkedGatherOperands t bits part i .number ≡ 0 → KeepsFor (instruction.Gather i) (checkedGatherOperands t bits part i)
+  unfolding checkedGatherOperands gatherOffset gatherElementOffset gatherDst gatherPlan
   gather-keeps part i few =
       past-three (KeepsFor (instruction.Gather i)) (gatherOffset t i .number) (gatherElementOffset t i .number) (gatherDst t i .number) _ (λ offset element dst _.
       record {
@@ -99,10 +99,10 @@ module _ (t : Variables) (bits : ℕ) where
 
 module _ (t : Tables) where
   operands-keep : (bits : ℕ) (i : Instruction) → execSize (controlOf i .exec) ≤ 32 → checkedOperands t bits i .number ≡ 0 → KeepsFor i (checkedOperands t bits i)
-  unfolding checkedOperands checkedSurface controlOf
+  unfolding checkedOperands checkedGather controlOf
   operands-keep bits (instruction.Shl i) few = shl-keeps _ bits i few
   operands-keep bits (instruction.Gather i) few =
-      cond-either (λ (p : Plan). p .number ≡ 0 → KeepsFor (instruction.Gather i) p) (not (ltb (i .access .surface) (length (t .surfaces))))
+      cond-either (λ (p : Plan). p .number ≡ 0 → KeepsFor (instruction.Gather i) p) (not (ltb (i .access .surface) (length (t .surfaces .lengths))))
       (λ _ z. absurd (omega (arith, refusal-number 5, z)))
       (λ _. gather-keeps _ bits (surfacePart (t .surfaces) (i .access .surface)) i few)
   operands-keep bits (instruction.Scatter i) few = scatter-keeps _ bits i few

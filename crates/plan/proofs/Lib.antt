@@ -1,5 +1,4 @@
 pub mod TestLaws
-pub mod ScatterLaws
 pub mod PlanLaws
 pub mod Edges
 pub mod ChannelLaws

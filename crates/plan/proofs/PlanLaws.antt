@@ -21,7 +21,7 @@ use Rattle.decoder.specs.declared.Instruction.{Instruction}
 use Rattle.decoder.specs.declared.Instruction.the-variants as instruction
 use Rattle.regions.specs.declared.Role.the-variants as role
 use Rattle.operands.specs.declared.TypeRule.the-variants as rule
-use Rattle.operands.specs.Variables.{Variables}
+use Rattle.tables.specs.Variables.{Variables}
 use Rattle.regions.proofs.ReachLaws.{cond-either}
 use Rattle.operands.proofs.LocatedLaws.{AllPlaced, Accepted, Consecutive, Apart, vector-accepted, raw-accepted, raw-whole, destination-apart}
 use Rattle.plan.specs.declared.Operation.{Operation}
@@ -31,7 +31,7 @@ use Rattle.plan.specs.declared.Plan.{Plan}
 use Rattle.plan.specs.Control.{controlOf, controlRefusal, predicateBits}
 use Rattle.plan.specs.Needed.{elementsNeeded, scatterNeeded}
 use Rattle.plan.specs.Plans.{shlPlan, gatherPlan, scatterPlan}
-use Rattle.plan.specs.Checked.{shlDst, shlSrc0, shlSrc1, checkedShl, gatherOffset, gatherElementOffset, gatherDst, checkedGather, surfacePart, checkedSurface, scatterAddress, scatterElementOffset, scatterSrc, checkedScatter, sendDesc, sendSrc, sendDst, checkedSend, variablesOf, checkedOperands, checked}
+use Rattle.plan.specs.Checked.{shlDst, shlSrc0, shlSrc1, checkedShl, gatherOffset, gatherElementOffset, gatherDst, checkedGatherOperands, surfacePart, checkedGather, scatterAddress, scatterElementOffset, scatterSrc, checkedScatter, sendDesc, sendSrc, sendDst, checkedSend, checkedOperands, checked}
 use Rattle.plan.proofs.TestLaws.{refusal-number, accepted-then, lanes-fit}
 
 -- the lanes of a plan
@@ -59,12 +59,12 @@ pub record ScatterSound (registers : ℕ) (p : Plan) : Type 0 where
   pub offsets : Consecutive registers (elementsNeeded (p .control .exec) UQ) (p .right)
   pub dwords : Consecutive registers (scatterNeeded (p .control .exec) (p .channels)) (p .payload)
 
--- no RAW_SEND is accepted
+-- no refused plan is accepted
 abbrev pub SoundFor : Operation → ℕ → ℕ → Plan → Type 0
 SoundFor operation.Shl registers surfaces p = ShlSound registers p
 SoundFor operation.Gather registers surfaces p = GatherSound registers surfaces p
 SoundFor operation.Scatter registers surfaces p = ScatterSound registers p
-SoundFor operation.Send registers surfaces p = ⊥
+SoundFor operation.Refused registers surfaces p = ⊥
 
 pub record Sound (registers surfaces : ℕ) (p : Plan) : Type 0 where
   pub lanes : execOffset (p .control .exec) + execSize (p .control .exec) ≤ 32
@@ -105,10 +105,10 @@ module _ (registers surfaces : ℕ) (t : Variables) (all : AllPlaced registers t
         };
       })))
 
-  gather-sound : (bits : ℕ) (part : Part) (i : Gather) → execOffset (i .control .exec) + execSize (i .control .exec) ≤ 32 → part .start + part .length ≤ surfaces
-      → checkedGather t bits part i .number ≡ 0 → Fine (checkedGather t bits part i)
-  unfolding checkedGather gatherOffset gatherElementOffset gatherDst gatherPlan
-  gather-sound bits part i fit surface =
+  gather-operands-sound : (bits : ℕ) (part : Part) (i : Gather) → execOffset (i .control .exec) + execSize (i .control .exec) ≤ 32 → part .start + part .length ≤ surfaces
+      → checkedGatherOperands t bits part i .number ≡ 0 → Fine (checkedGatherOperands t bits part i)
+  unfolding checkedGatherOperands gatherOffset gatherElementOffset gatherDst gatherPlan
+  gather-operands-sound bits part i fit surface =
       let exec = i .control .exec in
       let few : execSize exec ≤ 32 = omega arith in
       let needed = elementsNeeded exec UD in
@@ -156,23 +156,23 @@ module _ (registers surfaces : ℕ) (t : Variables) (all : AllPlaced registers t
       absurd (omega (arith, refusal-number 9, z)))))
 
 module _ (l : Lengths) (t : Tables) (good : tablesGood l t ≡ true) where
-  surface-sound : (bits : ℕ) (i : Gather) → execOffset (i .control .exec) + execSize (i .control .exec) ≤ 32
-      → checkedSurface (variablesOf t) (t .surfaces) bits i .number ≡ 0 → Sound (l .registers) (l .surfaces) (checkedSurface (variablesOf t) (t .surfaces) bits i)
-  unfolding checkedSurface surfacePart
-  surface-sound bits i fit =
+  gather-sound : (bits : ℕ) (i : Gather) → execOffset (i .control .exec) + execSize (i .control .exec) ≤ 32
+      → checkedGather (t .variables) (t .surfaces) bits i .number ≡ 0 → Sound (l .registers) (l .surfaces) (checkedGather (t .variables) (t .surfaces) bits i)
+  unfolding checkedGather surfacePart
+  gather-sound bits i fit =
       let index = i .access .surface in
-      cond-either (λ (p : Plan). p .number ≡ 0 → Sound (l .registers) (l .surfaces) p) (not (ltb index (length (t .surfaces))))
+      cond-either (λ (p : Plan). p .number ≡ 0 → Sound (l .registers) (l .surfaces) p) (not (ltb index (length (t .surfaces .lengths))))
       (λ _ z. absurd (omega (arith, refusal-number 5, z)))
-      (λ e. gather-sound (l .registers) (l .surfaces) (variablesOf t) (placed l t good) bits (surfacePart (t .surfaces) index) i fit
+      (λ e. gather-operands-sound (l .registers) (l .surfaces) (t .variables) (placed l t good) bits (surfacePart (t .surfaces) index) i fit
       (surface-inside l t good index (ltb-true _ _ (not-false _ e))))
 
   operands-sound : (bits : ℕ) (i : Instruction) → execOffset (controlOf i .exec) + execSize (controlOf i .exec) ≤ 32
       → checkedOperands t bits i .number ≡ 0 → Sound (l .registers) (l .surfaces) (checkedOperands t bits i)
   unfolding checkedOperands controlOf
-  operands-sound bits (instruction.Shl i) fit = shl-sound (l .registers) (l .surfaces) (variablesOf t) (placed l t good) bits i fit
-  operands-sound bits (instruction.Gather i) fit = surface-sound bits i fit
-  operands-sound bits (instruction.Scatter i) fit = scatter-sound (l .registers) (l .surfaces) (variablesOf t) (placed l t good) bits i fit
-  operands-sound bits (instruction.RawSend i) fit = send-never (l .registers) (l .surfaces) (variablesOf t) (placed l t good) i
+  operands-sound bits (instruction.Shl i) fit = shl-sound (l .registers) (l .surfaces) (t .variables) (placed l t good) bits i fit
+  operands-sound bits (instruction.Gather i) fit = gather-sound bits i fit
+  operands-sound bits (instruction.Scatter i) fit = scatter-sound (l .registers) (l .surfaces) (t .variables) (placed l t good) bits i fit
+  operands-sound bits (instruction.RawSend i) fit = send-never (l .registers) (l .surfaces) (t .variables) (placed l t good) i
 
   pub plan-sound : (i : Instruction) → checked t i .number ≡ 0 → Sound (l .registers) (l .surfaces) (checked t i)
   unfolding checked

@@ -1,19 +1,19 @@
 -- What a passed test says: the plan is what comes after it, and the lanes of a passed control lie within the mask.
 use mathlib.Core.Path.{_≡_, refl}
-use mathlib.Core.List.{List}
 use Prim.Native.Nat.{ℕ, _+_, _≤_}
 use native.Mathlib.Omega.{arith}
 use lib.Dec.{ltb}
 use borrow.Author.Tests.{ltb-true, ltb-false}
+use Rattle.tables.specs.Predicates.{Predicates}
 use Rattle.channels.specs.Exec.{execSize, execOffset}
 use Rattle.field_groups.specs.declared.Control.{Control}
 use Rattle.regions.proofs.ReachLaws.{cond-either}
 use Rattle.plan.specs.declared.Plan.{Plan}
 use Rattle.plan.specs.Control.{controlRefusal}
-use Rattle.plan.specs.Plans.{refusal, tested}
+use Rattle.plan.specs.Plans.{refusedPlan, tested}
 
-pub refusal-number : (n : ℕ) → refusal n .number ≡ n
-unfolding refusal
+pub refusal-number : (n : ℕ) → refusedPlan n .number ≡ n
+unfolding refusedPlan
 refusal-number n = refl
 
 -- what is shown of accepted plans alone is shown past each test
@@ -24,9 +24,9 @@ accepted-then P n next h =
     (λ e z. absurd (omega (arith, refusal-number n, ltb-true 0 n e, z)))
     (λ e. h (omega (arith, ltb-false 0 n e)))
 
-pub lanes-fit : (predicates : List ℕ) (c : Control) → controlRefusal predicates c ≡ 0 → execOffset (c .exec) + execSize (c .exec) ≤ 32
+pub lanes-fit : (t : Predicates) (c : Control) → controlRefusal t c ≡ 0 → execOffset (c .exec) + execSize (c .exec) ≤ 32
 unfolding controlRefusal
-lanes-fit predicates c =
+lanes-fit t c =
     let P : ℕ → Type 0 = λ n. n ≡ 0 → execOffset (c .exec) + execSize (c .exec) ≤ 32 in
     cond-either P (ltb 32 (execOffset (c .exec) + execSize (c .exec))) (λ _ z. absurd (omega (arith, z)))
     (λ e _. ltb-false 32 (execOffset (c .exec) + execSize (c .exec)) e)

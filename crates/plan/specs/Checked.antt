@@ -3,12 +3,11 @@
 -- `Operands`; here is their order. No data, execution mask or taint is asked for.
 use Prim.Native.Nat.{ℕ}
 use mathlib.Core.Bool.{cond, not}
-use mathlib.Core.List.{List}
 use lib.Dec.{ltb}
 use lib.ListN.{length}
 use Rattle.element_types.specs.Types.{UD, UQ}
 use Rattle.tables.specs.Tables.{Tables}
-use Rattle.tables.specs.Surfaces.{surfaceLength, surfaceStart}
+use Rattle.tables.specs.Surfaces.{Surfaces, surfaceLength, surfaceStart}
 use Rattle.decoder.specs.declared.Shl.{Shl}
 use Rattle.decoder.specs.declared.Gather.{Gather}
 use Rattle.decoder.specs.declared.Scatter.{Scatter}
@@ -18,23 +17,23 @@ use Rattle.decoder.specs.declared.Instruction.the-variants as instruction
 use Rattle.operands.specs.declared.Located.{Located}
 use Rattle.regions.specs.declared.Role.the-variants as role
 use Rattle.operands.specs.declared.TypeRule.the-variants as rule
-use Rattle.operands.specs.Variables.{Variables, variables}
-use Rattle.operands.specs.Operands.{vectorAt, rawAt}
+use Rattle.tables.specs.Variables.{Variables}
+use Rattle.operands.specs.Operands.{locatedVector, locatedRaw}
 use Rattle.plan.specs.declared.Part.{Part}
 use Rattle.plan.specs.declared.Plan.{Plan}
 use Rattle.plan.specs.Control.{controlOf, controlRefusal, predicateBits}
 use Rattle.plan.specs.Needed.{elementsNeeded, scatterNeeded, registersNeeded, blockBytes}
-use Rattle.plan.specs.Plans.{refusal, tested, shlPlan, gatherPlan, scatterPlan}
+use Rattle.plan.specs.Plans.{refusedPlan, tested, shlPlan, gatherPlan, scatterPlan}
 
 -- SHL: Dst, Src0, Src1
 unfoldable pub shlDst : Variables → Shl → Located
-shlDst t i = vectorAt t role.Destination rule.Shift (i .control .exec) (i .destination)
+shlDst t i = locatedVector t role.Destination rule.Shift (i .control .exec) (i .destination)
 
 unfoldable pub shlSrc0 : Variables → Shl → Located
-shlSrc0 t i = vectorAt t role.Source rule.Shift (i .control .exec) (i .source)
+shlSrc0 t i = locatedVector t role.Source rule.Shift (i .control .exec) (i .source)
 
 unfoldable pub shlSrc1 : Variables → Shl → Located
-shlSrc1 t i = vectorAt t role.Source rule.Shift (i .control .exec) (i .count)
+shlSrc1 t i = locatedVector t role.Source rule.Shift (i .control .exec) (i .count)
 
 unfoldable pub checkedShl : Variables → ℕ → Shl → Plan
 checkedShl t bits i =
@@ -43,18 +42,18 @@ checkedShl t bits i =
     (tested (shlSrc1 t i .number)
     (shlPlan (i .control) bits (shlSrc0 t i .elements) (shlSrc1 t i .elements) (shlDst t i .elements))))
 
--- GATHER_SCALED: Offset, Element_offset, Dst
+-- GATHER_SCALED: the surface, then Offset, Element_offset, Dst
 unfoldable pub gatherOffset : Variables → Gather → Located
-gatherOffset t i = vectorAt t role.Scalar rule.Offset (i .control .exec) (i .offset)
+gatherOffset t i = locatedVector t role.Scalar rule.Offset (i .control .exec) (i .offset)
 
 unfoldable pub gatherElementOffset : Variables → Gather → Located
-gatherElementOffset t i = rawAt t rule.Offset (elementsNeeded (i .control .exec) UD) (i .«element_offset»)
+gatherElementOffset t i = locatedRaw t rule.Offset (elementsNeeded (i .control .exec) UD) (i .«element_offset»)
 
 unfoldable pub gatherDst : Variables → Gather → Located
-gatherDst t i = rawAt t rule.Dword (elementsNeeded (i .control .exec) UD) (i .destination)
+gatherDst t i = locatedRaw t rule.Dword (elementsNeeded (i .control .exec) UD) (i .destination)
 
-unfoldable pub checkedGather : Variables → ℕ → Part → Gather → Plan
-checkedGather t bits part i =
+unfoldable pub checkedGatherOperands : Variables → ℕ → Part → Gather → Plan
+checkedGatherOperands t bits part i =
     tested (gatherOffset t i .number)
     (tested (gatherElementOffset t i .number)
     (tested (gatherDst t i .number)
@@ -62,24 +61,24 @@ checkedGather t bits part i =
     (blockBytes (i .access .«num_blocks»)) part)))
 
 -- the part of the surface buffer that is this surface's
-unfoldable pub surfacePart : List ℕ → ℕ → Part
-surfacePart surfaces index = record { start = surfaceStart surfaces index; length = surfaceLength surfaces index }
+unfoldable pub surfacePart : Surfaces → ℕ → Part
+surfacePart t index = record { start = surfaceStart t index; length = surfaceLength t index }
 
 -- 5: "surface not in its table", before the operands
-unfoldable pub checkedSurface : Variables → List ℕ → ℕ → Gather → Plan
-checkedSurface t surfaces bits i =
-    cond (not (ltb (i .access .surface) (length surfaces))) (refusal 5)
-    (checkedGather t bits (surfacePart surfaces (i .access .surface)) i)
+unfoldable pub checkedGather : Variables → Surfaces → ℕ → Gather → Plan
+checkedGather t surfaces bits i =
+    cond (not (ltb (i .access .surface) (length (surfaces .lengths)))) (refusedPlan 5)
+    (checkedGatherOperands t bits (surfacePart surfaces (i .access .surface)) i)
 
 -- SVM SCATTER4_SCALED: Address, Element_offset, Src
 unfoldable pub scatterAddress : Variables → Scatter → Located
-scatterAddress t i = vectorAt t role.Scalar rule.Address (i .control .exec) (i .address)
+scatterAddress t i = locatedVector t role.Scalar rule.Address (i .control .exec) (i .address)
 
 unfoldable pub scatterElementOffset : Variables → Scatter → Located
-scatterElementOffset t i = rawAt t rule.Address (elementsNeeded (i .control .exec) UQ) (i .«element_offset»)
+scatterElementOffset t i = locatedRaw t rule.Address (elementsNeeded (i .control .exec) UQ) (i .«element_offset»)
 
 unfoldable pub scatterSrc : Variables → Scatter → Located
-scatterSrc t i = rawAt t rule.Dword (scatterNeeded (i .control .exec) (i .channels)) (i .source)
+scatterSrc t i = locatedRaw t rule.Dword (scatterNeeded (i .control .exec) (i .channels)) (i .source)
 
 unfoldable pub checkedScatter : Variables → ℕ → Scatter → Plan
 checkedScatter t bits i =
@@ -91,30 +90,27 @@ checkedScatter t bits i =
 
 -- RAW_SEND: Desc, Src, Dst; and 9: "RAW_SEND, otherwise good"
 unfoldable pub sendDesc : Variables → RawSend → Located
-sendDesc t i = vectorAt t role.Scalar rule.Offset (i .control .exec) (i .descriptor)
+sendDesc t i = locatedVector t role.Scalar rule.Offset (i .control .exec) (i .descriptor)
 
 unfoldable pub sendSrc : Variables → RawSend → Located
-sendSrc t i = rawAt t rule.Any (registersNeeded (i .message .«num_src»)) (i .source)
+sendSrc t i = locatedRaw t rule.Any (registersNeeded (i .message .«num_src»)) (i .source)
 
 unfoldable pub sendDst : Variables → RawSend → Located
-sendDst t i = rawAt t rule.Any (registersNeeded (i .message .«num_dst»)) (i .destination)
+sendDst t i = locatedRaw t rule.Any (registersNeeded (i .message .«num_dst»)) (i .destination)
 
 unfoldable pub checkedSend : Variables → RawSend → Plan
 checkedSend t i =
     tested (sendDesc t i .number)
     (tested (sendSrc t i .number)
     (tested (sendDst t i .number)
-    (refusal 9)))
-
-abbrev pub variablesOf : Tables → Variables
-variablesOf t = variables (t .types) (t .starts) (t .counts)
+    (refusedPlan 9)))
 
 -- surface 5 for a gather, the operands in field order, 9 for RAW_SEND
 unfoldable pub checkedOperands : Tables → ℕ → Instruction → Plan
-checkedOperands t bits (instruction.Shl i) = checkedShl (variablesOf t) bits i
-checkedOperands t bits (instruction.Gather i) = checkedSurface (variablesOf t) (t .surfaces) bits i
-checkedOperands t bits (instruction.Scatter i) = checkedScatter (variablesOf t) bits i
-checkedOperands t bits (instruction.RawSend i) = checkedSend (variablesOf t) i
+checkedOperands t bits (instruction.Shl i) = checkedShl (t .variables) bits i
+checkedOperands t bits (instruction.Gather i) = checkedGather (t .variables) (t .surfaces) bits i
+checkedOperands t bits (instruction.Scatter i) = checkedScatter (t .variables) bits i
+checkedOperands t bits (instruction.RawSend i) = checkedSend (t .variables) i
 
 -- 8 and predicate 5 come first
 unfoldable pub checked : Tables → Instruction → Plan

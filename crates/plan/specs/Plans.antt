@@ -1,4 +1,5 @@
--- What a run needs of an accepted instruction, and what stands for a refused one.
+-- What a run needs of an accepted instruction, and what stands for a refused one. A plan has two sources, left and right, and a payload:
+-- SHL's Src0, Src1 and Dst; a gather's Offset, Element_offset and Dst; a scatter's Address, Element_offset and Src.
 use Prim.Native.Nat.{ℕ}
 use mathlib.Core.Bool.{cond, false}
 use lib.Dec.{ltb}
@@ -12,12 +13,12 @@ use Rattle.plan.specs.declared.Operation.the-variants as operation
 abbrev pub noElements : Elements
 noElements = record { size = 0; signed = false; immediate = false; value = 0; at = replicate 32 0 }
 
--- a refusal's number, and nothing else
-unfoldable pub refusal : ℕ → Plan
-refusal n =
+-- a refusal's number, and nothing to run
+unfoldable pub refusedPlan : ℕ → Plan
+refusedPlan n =
     record {
       number = n;
-      operation = operation.Send;
+      operation = operation.Refused;
       control = record { exec = 0; pred = 0 };
       bits = 0;
       left = noElements;
@@ -31,7 +32,7 @@ refusal n =
 
 -- a test's refusal, or what comes after the test
 unfoldable pub tested : ℕ → Plan → Plan
-tested n next = cond (ltb 0 n) (refusal n) next
+tested n next = cond (ltb 0 n) (refusedPlan n) next
 
 unfoldable pub shlPlan : Control → ℕ → Elements → Elements → Elements → Plan
 shlPlan control bits left right payload =

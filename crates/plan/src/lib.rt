@@ -10,18 +10,18 @@ use operands::TypeRule;
 use regions::Role;
 ghost use mathlib.Core.Path.{_≡_};
 ghost use Rattle.tables.specs.Tables.{tables};
-ghost use Rattle.operands.specs.Variables.{variables};
+ghost use Rattle.tables.specs.Borrowed.{variableTable, predicateTable, surfaceTable};
 ghost use Rattle.plan.specs.Control.{controlOf, controlRefusal, predicateBits};
 ghost use Rattle.plan.specs.Needed.{elementsNeeded, enabledBelow, channelStride, scatterNeeded, registersNeeded, blockBytes};
-ghost use Rattle.plan.specs.Plans.{refusal, shlPlan, gatherPlan, scatterPlan};
-ghost use Rattle.plan.specs.Checked.{checkedShl, checkedGather, surfacePart, checkedSurface, checkedScatter, checkedSend, checked};
+ghost use Rattle.plan.specs.Plans.{refusedPlan, shlPlan, gatherPlan, scatterPlan};
+ghost use Rattle.plan.specs.Checked.{checkedShl, checkedGatherOperands, surfacePart, checkedGather, checkedScatter, checkedSend, checked};
 
-// Send stands in refusals only: no RAW_SEND is run.
+// What is left to run; nothing, of a refused instruction.
 pub enum Operation {
     Shl,
     Gather,
     Scatter,
-    Send,
+    Refused,
 }
 
 // The bytes of the surface buffer from start on that are one surface.
@@ -51,7 +51,7 @@ pub struct Plan {
 }
 
 fn refused(number: u8) -> Plan
-    ensures { λ r. ⌜ r ≡ refusal number ⌝ }
+    ensures { λ r. ⌜ r ≡ refusedPlan number ⌝ }
 {
     let none = Elements {
         size: 0,
@@ -63,7 +63,7 @@ fn refused(number: u8) -> Plan
     let control = Control { exec: 0, pred: 0 };
     Plan {
         number,
-        operation: Operation::Send,
+        operation: Operation::Refused,
         control,
         bits: 0,
         left: none,
@@ -89,7 +89,7 @@ fn control_of(instruction: Instruction) -> Control
 
 // 8, then the predicate's 5.
 fn control_refusal(predicates: &[u32], control: Control) -> u8
-    ensures { λ r. ⌜ r ≡ controlRefusal (now (predicates .entry)) control ⌝ }
+    ensures { λ r. ⌜ r ≡ controlRefusal (predicateTable predicates) control ⌝ }
 {
     let exec = channels::split(control.exec);
     if 32 < (exec.offset as u16) + (exec.size as u16) {
@@ -103,7 +103,7 @@ fn control_refusal(predicates: &[u32], control: Control) -> u8
 }
 
 fn predicate_bits(predicates: &[u32], pred: u16) -> u32
-    ensures { λ r. ⌜ r ≡ predicateBits (now (predicates .entry)) pred ⌝ }
+    ensures { λ r. ⌜ r ≡ predicateBits (predicateTable predicates) pred ⌝ }
 {
     let id = channels::predicate_id(pred) as usize;
     if channels::has_predicate(pred) {
@@ -164,7 +164,7 @@ fn block_bytes(code: u8) -> u8
 }
 
 fn surface_part(surfaces: &[u16], index: u8) -> Part
-    ensures { λ r. ⌜ r ≡ surfacePart (now (surfaces .entry)) index ⌝ }
+    ensures { λ r. ⌜ r ≡ surfacePart (surfaceTable surfaces) index ⌝ }
 {
     Part {
         start: tables::surface_start(surfaces, index) as u32,
@@ -242,7 +242,7 @@ fn scatter_plan(
 }
 
 fn check_shl(types: &[u8], starts: &[u16], counts: &[u16], bits: u32, instruction: Shl) -> Plan
-    ensures { λ r. ⌜ r ≡ checkedShl (variables (now (types .entry)) (now (starts .entry)) (now (counts .entry))) bits instruction ⌝ }
+    ensures { λ r. ⌜ r ≡ checkedShl (variableTable types starts counts) bits instruction ⌝ }
 {
     let control = instruction.control;
     let exec = control.exec;
@@ -291,7 +291,7 @@ fn check_shl(types: &[u8], starts: &[u16], counts: &[u16], bits: u32, instructio
     shl_plan(control, bits, left, right, payload)
 }
 
-fn check_gather(
+fn check_gather_operands(
     types: &[u8],
     starts: &[u16],
     counts: &[u16],
@@ -299,7 +299,7 @@ fn check_gather(
     part: Part,
     instruction: Gather,
 ) -> Plan
-    ensures { λ r. ⌜ r ≡ checkedGather (variables (now (types .entry)) (now (starts .entry)) (now (counts .entry))) bits part instruction ⌝ }
+    ensures { λ r. ⌜ r ≡ checkedGatherOperands (variableTable types starts counts) bits part instruction ⌝ }
 {
     let control = instruction.control;
     let exec = control.exec;
@@ -346,8 +346,8 @@ fn check_gather(
     gather_plan(control, bits, left, right, payload, bytes, part)
 }
 
-// The surface's 5, then the operands.
-fn check_surface(
+// A gather: the surface's 5, then the operands.
+fn check_gather(
     types: &[u8],
     starts: &[u16],
     counts: &[u16],
@@ -355,14 +355,14 @@ fn check_surface(
     bits: u32,
     instruction: Gather,
 ) -> Plan
-    ensures { λ r. ⌜ r ≡ checkedSurface (variables (now (types .entry)) (now (starts .entry)) (now (counts .entry))) (now (surfaces .entry)) bits instruction ⌝ }
+    ensures { λ r. ⌜ r ≡ checkedGather (variableTable types starts counts) (surfaceTable surfaces) bits instruction ⌝ }
 {
     let surface = instruction.access.surface;
     if !((surface as usize) < surfaces.len()) {
         return refused(5);
     }
     let part = surface_part(surfaces, surface);
-    check_gather(types, starts, counts, bits, part, instruction)
+    check_gather_operands(types, starts, counts, bits, part, instruction)
 }
 
 fn check_scatter(
@@ -372,7 +372,7 @@ fn check_scatter(
     bits: u32,
     instruction: Scatter,
 ) -> Plan
-    ensures { λ r. ⌜ r ≡ checkedScatter (variables (now (types .entry)) (now (starts .entry)) (now (counts .entry))) bits instruction ⌝ }
+    ensures { λ r. ⌜ r ≡ checkedScatter (variableTable types starts counts) bits instruction ⌝ }
 {
     let control = instruction.control;
     let exec = control.exec;
@@ -421,7 +421,7 @@ fn check_scatter(
 
 // The operands of a RAW_SEND, then 9.
 fn check_send(types: &[u8], starts: &[u16], counts: &[u16], instruction: RawSend) -> Plan
-    ensures { λ r. ⌜ r ≡ checkedSend (variables (now (types .entry)) (now (starts .entry)) (now (counts .entry))) instruction ⌝ }
+    ensures { λ r. ⌜ r ≡ checkedSend (variableTable types starts counts) instruction ⌝ }
 {
     let exec = instruction.control.exec;
     let descriptor = instruction.descriptor;
@@ -473,7 +473,7 @@ pub fn check(
     surfaces: &[u16],
     instruction: Instruction,
 ) -> Plan
-    ensures { λ r. ⌜ r ≡ checked (tables (now (types .entry)) (now (starts .entry)) (now (counts .entry)) (now (predicates .entry)) (now (surfaces .entry))) instruction ⌝ }
+    ensures { λ r. ⌜ r ≡ checked (tables (variableTable types starts counts) (predicateTable predicates) (surfaceTable surfaces)) instruction ⌝ }
 {
     let control = control_of(instruction);
     let number = control_refusal(predicates, control);
@@ -483,7 +483,7 @@ pub fn check(
     let bits = predicate_bits(predicates, control.pred);
     match instruction {
         Instruction::Shl(i) => check_shl(types, starts, counts, bits, i),
-        Instruction::Gather(i) => check_surface(types, starts, counts, surfaces, bits, i),
+        Instruction::Gather(i) => check_gather(types, starts, counts, surfaces, bits, i),
         Instruction::Scatter(i) => check_scatter(types, starts, counts, bits, i),
         Instruction::RawSend(i) => check_send(types, starts, counts, i),
     }

@@ -9,13 +9,13 @@ use Rattle.field_groups.specs.declared.General.{General}
 use Rattle.regions.specs.declared.Role.{Role}
 use Rattle.regions.specs.declared.Role.the-variants as role
 use Rattle.regions.specs.declared.Variable.{Variable}
-use Rattle.regions.specs.Regions.{verticalCode, widthCode, horizontalCode, strideOf, between, sourceRegionGood, scalarRegionGood, destinationRegionGood, regionGood, firstElement, sourceElement, elementOf}
-use Rattle.regions.specs.Reach.{smaller, larger, lowest, highest, twoRegisters, reachGood, elementsGood}
+use Rattle.regions.specs.Regions.{verticalCode, widthCode, horizontalCode, strideOf, between, sourceRegionGood, scalarRegionGood, destinationRegionGood, regionAllowed, firstElement, sourceElement, elementOf}
+use Rattle.regions.specs.Reach.{lowest, highest, twoRegisters, reachGood, elementsGood}
 use Rattle.regions.proofs.ReachLaws.{inside-highest}
 
 -- 6, 7 or 0, by the tests of a region
 abbrev pub regionNumber : Role → ℕ → General → Variable → ℕ
-regionNumber o lanes g v = cond (not (regionGood o (g .region) lanes)) 6 (cond (not (elementsGood v (elementOf o g (sizeOf (v .code))) lanes)) 7 0)
+regionNumber o lanes g v = cond (not (regionAllowed o (g .region) lanes)) 6 (cond (not (elementsGood v (elementOf o g (sizeOf (v .code))) lanes)) 7 0)
 
 -- <V;W,H> by codes, from row and column 0
 abbrev pub region : ℕ → ℕ → ℕ → General
@@ -47,14 +47,14 @@ Edges number =
 computed : Role → ℕ → General → ℕ → ℕ
 computed o lanes g count =
     let f = elementOf o g 2 in
-    cond (not (regionGood o (g .region) lanes)) 6 (cond (not ((eqb lanes 0 || ltb (highest f lanes) count) && reachGood f lanes 0 2)) 7 0)
+    cond (not (regionAllowed o (g .region) lanes)) 6 (cond (not ((eqb lanes 0 || ltb (highest f lanes) count) && reachGood f lanes 0 2)) 7 0)
 
 number-is : (o : Role) (lanes : ℕ) (g : General) (count : ℕ) → regionNumber o lanes g (words count) ≡ computed o lanes g count
 unfolding computed elementsGood
 number-is o lanes g count = rw (sizes .uw, ← inside-highest (elementOf o g 2) count lanes)
 
 pub regions-at-edges : Edges (λ o lanes g count. regionNumber o lanes g (words count))
-unfolding computed verticalCode widthCode horizontalCode strideOf between sourceRegionGood scalarRegionGood destinationRegionGood regionGood firstElement sourceElement elementOf smaller larger lowest highest twoRegisters reachGood
+unfolding computed verticalCode widthCode horizontalCode strideOf between sourceRegionGood scalarRegionGood destinationRegionGood regionAllowed firstElement sourceElement elementOf lowest highest twoRegisters reachGood
 regions-at-edges = (
   number-is role.Source 16 (region 6 5 3) 31,
   number-is role.Source 16 (region 6 5 3) 30,

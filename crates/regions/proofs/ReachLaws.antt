@@ -1,58 +1,39 @@
--- The lowest and the highest element: a lane more, bounds of every lane, and what the test of the highest says of all.
-use mathlib.Core.Path.{_≡_, refl, sym}
+-- The lowest and the highest element: a lane more, a bound of every lane, and what the test of the highest says of all.
+use mathlib.Core.Path.{_≡_, refl, sym, _∙_}
 use mathlib.Core.Bool.{Bool, true, false, cond, _||_}
-use Prim.Native.Nat.{ℕ, zero, suc, _+_, _≤_, _<_}
-use native.Mathlib.Omega.{arith}
+use Prim.Native.Nat.{ℕ, zero, suc, _+_, _≤_, _<_, min, max}
+use native.Mathlib.Omega.{arith, max-cases}
 use native.Mathlib.Numerals.{add-one}
-use native.Mathlib.Nat.{not-suc-le-zero}
+use native.Mathlib.Nat.{not-suc-le-zero, le-max-left, le-max-right}
 use lib.Dec.{ltb, eqb}
 use borrow.Author.Tests.{ltb-true, ltb-false, lt-ltb, le-ltb, ne-eqb}
 use borrow.Author.Count.{below-more}
-use Rattle.tables.specs.Every.{every}
+use Rattle.channels.specs.Below.{everyBelow}
 use Rattle.tables.proofs.All.{left}
 use Rattle.tables.proofs.Every.{every-none, every-next, every-each, every-fails}
 use Rattle.regions.specs.declared.Variable.{Variable}
-use Rattle.regions.specs.Reach.{smaller, larger, lowest, highest, insideVariable, elementsGood}
+use Rattle.regions.specs.Reach.{lowest, highest, insideVariable, elementsGood}
 
 -- what holds of both cases of a test holds of the choice
 pub cond-either : {X : Type 0} (P : X → Type 0) (b : Bool) {x y : X} → (b ≡ true → P x) → (b ≡ false → P y) → P (cond b x y)
 cond-either P true p q = p refl
 cond-either P false p q = q refl
 
-pub lowest-next : (f : ℕ → ℕ) (n low element result : ℕ) → low ≡ lowest f n → element ≡ f n → result ≡ smaller low element → result ≡ lowest f (n + 1)
+pub lowest-next : (f : ℕ → ℕ) (n low element result : ℕ) → low ≡ lowest f n → element ≡ f n → result ≡ min low element → result ≡ lowest f (n + 1)
 unfolding lowest
 lowest-next f n low element result e h r = rw (add-one n, ← e, ← h) r
 
-pub highest-next : (f : ℕ → ℕ) (n high element result : ℕ) → high ≡ highest f n → element ≡ f n → result ≡ larger high element → result ≡ highest f (n + 1)
+pub highest-next : (f : ℕ → ℕ) (n high element result : ℕ) → high ≡ highest f n → element ≡ f n → result ≡ max high element → result ≡ highest f (n + 1)
 unfolding highest
 highest-next f n high element result e h r = rw (add-one n, ← e, ← h) r
 
-smaller-bounds : (a b : ℕ) → (smaller a b ≤ a) × (smaller a b ≤ b)
-unfolding smaller
-smaller-bounds a b =
-    cond-either (λ (n : ℕ). (n ≤ a) × (n ≤ b)) (ltb b a)
-    (λ h. (omega (arith, ltb-true b a h), omega arith)) (λ h. (omega arith, ltb-false b a h))
-
-larger-bounds : (a b : ℕ) → (a ≤ larger a b) × (b ≤ larger a b)
-unfolding larger
-larger-bounds a b =
-    cond-either (λ (n : ℕ). (a ≤ n) × (b ≤ n)) (ltb a b)
-    (λ h. (omega (arith, ltb-true a b h), omega arith)) (λ h. (omega arith, ltb-false a b h))
-
--- no lane is below the lowest, none above the highest
-pub lowest-each : (f : ℕ → ℕ) (n k : ℕ) → k < n → lowest f n ≤ f k
-unfolding lowest
-lowest-each f zero k h = absurd (not-suc-le-zero h)
-lowest-each f (suc n) k h =
-    let b = smaller-bounds (lowest f n) (f n) in
-    below-more (λ (j : ℕ). smaller (lowest f n) (f n) ≤ f j) n (λ j l. omega (arith, lowest-each f n j l, b .0)) (b .1) k (rw (add-one n) h)
-
+-- no lane is above the highest
 pub highest-each : (f : ℕ → ℕ) (n k : ℕ) → k < n → f k ≤ highest f n
 unfolding highest
 highest-each f zero k h = absurd (not-suc-le-zero h)
 highest-each f (suc n) k h =
-    let b = larger-bounds (highest f n) (f n) in
-    below-more (λ (j : ℕ). f j ≤ larger (highest f n) (f n)) n (λ j l. omega (arith, highest-each f n j l, b .0)) (b .1) k (rw (add-one n) h)
+    below-more (λ (j : ℕ). f j ≤ max (highest f n) (f n)) n (λ j l. omega (arith, highest-each f n j l, le-max-left (highest f n) (f n)))
+    (le-max-right (highest f n) (f n)) k (rw (add-one n) h)
 
 -- the highest is some lane's
 pub record LaneOf (f : ℕ → ℕ) (n value : ℕ) : Type 0 where
@@ -60,27 +41,20 @@ pub record LaneOf (f : ℕ → ℕ) (n value : ℕ) : Type 0 where
   pub below : lane < n
   pub same : value ≡ f lane
 
-here : (f : ℕ → ℕ) (n : ℕ) → LaneOf f (suc n) (f n)
-here f n = record { lane = n; below = omega arith; same = refl }
+here : (f : ℕ → ℕ) (n value : ℕ) → value ≡ f n → LaneOf f (suc n) value
+here f n value e = record { lane = n; below = omega arith; same = e }
 
-later : (f : ℕ → ℕ) (n value : ℕ) → LaneOf f n value → LaneOf f (suc n) value
-later f n value a = record { lane = a .lane; below = omega (arith, a .below); same = a .same }
+later : (f : ℕ → ℕ) (n low value : ℕ) → value ≡ low → LaneOf f n low → LaneOf f (suc n) value
+later f n low value e a = record { lane = a .lane; below = omega (arith, a .below); same = e ∙ a .same }
 
 pub highest-some : (f : ℕ → ℕ) (n : ℕ) → LaneOf f (suc n) (highest f (suc n))
-unfolding highest larger
-highest-some f zero = cond-either (LaneOf f 1) (ltb (f 0) (f 0)) (λ _. here f 0) (λ _. here f 0)
+unfolding highest
+highest-some f zero = here f 0 (max (f 0) (f 0)) (omega arith)
 highest-some f (suc n) =
-    cond-either (LaneOf f (suc (suc n))) (ltb (highest f (suc n)) (f (suc n)))
-    (λ _. here f (suc n)) (λ _. later f (suc n) _ (highest-some f n))
+    max-cases (highest f (suc n)) (f (suc n)) (LaneOf f (suc (suc n)) (highest f (suc (suc n))))
+    (λ _ e. here f (suc n) _ e) (λ _ e. later f (suc n) (highest f (suc n)) _ e (highest-some f n))
 
-pub lowest-some : (f : ℕ → ℕ) (n : ℕ) → LaneOf f (suc n) (lowest f (suc n))
-unfolding lowest smaller
-lowest-some f zero = cond-either (LaneOf f 1) (ltb (f 0) (f 0)) (λ _. here f 0) (λ _. here f 0)
-lowest-some f (suc n) =
-    cond-either (LaneOf f (suc (suc n))) (ltb (f (suc n)) (lowest f (suc n)))
-    (λ _. here f (suc n)) (λ _. later f (suc n) _ (lowest-some f n))
-
-every-all : (good : ℕ → Bool) (n : ℕ) → ((k : ℕ) → k < n → good k ≡ true) → every good n ≡ true
+every-all : (good : ℕ → Bool) (n : ℕ) → ((k : ℕ) → k < n → good k ≡ true) → everyBelow n good ≡ true
 every-all good zero h = every-none good
 every-all good (suc n) h =
     rw (← add-one n) (every-next good n (every-all good n (λ k l. h k (omega arith))) (h n (omega arith)))

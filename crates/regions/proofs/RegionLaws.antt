@@ -1,4 +1,4 @@
--- A source's lanes are rows of Width, a destination's elements are apart, and a good reach is one of two adjacent registers for every two lanes.
+-- A source's lanes are rows of Width, and a destination's elements are apart.
 use mathlib.Core.Path.{_≡_, refl, ap, _∙_}
 use mathlib.Core.Bool.{true, _&&_}
 use Prim.Native.Nat.{ℕ, _+_, _*_, _-_, _/_, _%_, _≤_, _<_}
@@ -12,10 +12,8 @@ use Rattle.tables.specs.Lengths.{registerSize}
 use Rattle.tables.proofs.All.{left, right, all3, all4}
 use Rattle.field_groups.specs.declared.General.{General}
 use Rattle.regions.specs.declared.Role.the-variants as role
-use Rattle.regions.specs.Regions.{widthCode, horizontalCode, strideOf, between, sourceRegionGood, destinationRegionGood, regionGood, firstElement, sourceElement, elementOf}
-use Rattle.regions.specs.Reach.{lowest, highest, twoRegisters, reachGood}
+use Rattle.regions.specs.Regions.{widthCode, horizontalCode, strideOf, between, sourceRegionGood, destinationRegionGood, regionAllowed, firstElement, sourceElement, elementOf}
 use Rattle.regions.specs.Positions.{elementByte}
-use Rattle.regions.proofs.ReachLaws.{lowest-each, highest-each}
 use Rattle.regions.proofs.GridLaws.{stride-some}
 
 -- element (i, j) is that of lane i * Width + j
@@ -36,18 +34,6 @@ width-some region lanes h =
     let a = all4 (leb 2 code && leb code 6) (leb (strideOf code) lanes) _ _ h .first in
     stride-some code (leb-true 2 code (left (leb 2 code) (leb code 6) a)) (leb-true code 6 (right (leb 2 code) (leb code 6) a))
 
--- from the first byte of any lane's element to the last byte of any other's are at most two registers
-pub reach-each : (f : ℕ → ℕ) (lanes start size : ℕ) → reachGood f lanes start size ≡ true → (j k : ℕ) → j < lanes → k < lanes
-    → (start + f j * size + size - 1) / registerSize ≤ (start + f k * size) / registerSize + 1
-unfolding reachGood twoRegisters
-reach-each f lanes start size h j k p q =
-    omega (
-      arith,
-      leb-true ((start + highest f lanes * size + size - 1) / registerSize) ((start + lowest f lanes * size) / registerSize + 1) h,
-      mul-le-mul-right size (highest-each f lanes j p),
-      mul-le-mul-right size (lowest-each f lanes k q),
-    )
-
 -- "32/size" is exact: a row of elements is a register
 pub row-whole : (code : ℕ) → isListed code ≡ true → registerSize / sizeOf code * sizeOf code ≡ registerSize
 row-whole = register-whole registerSize refl
@@ -67,8 +53,8 @@ apart-plain start first stride size j k s h =
     omega (arith, mul-le-mul-right size b)
 
 -- no element of a good destination touches another's bytes
-pub destination-apart : (g : General) (lanes start size j k : ℕ) → regionGood role.Destination (g .region) lanes ≡ true → j < k
+pub destination-apart : (g : General) (lanes start size j k : ℕ) → regionAllowed role.Destination (g .region) lanes ≡ true → j < k
     → elementByte start size (elementOf role.Destination g size) j + size ≤ elementByte start size (elementOf role.Destination g size) k
-unfolding regionGood elementByte elementOf
+unfolding regionAllowed elementByte elementOf
 destination-apart g lanes start size j k good l =
     apart-plain start (firstElement g size) (strideOf (horizontalCode (g .region))) size j k (destination-stride (g .region) good) l

@@ -1,31 +1,25 @@
 -- How far the elements of an operand reach (refusal 7). Document 01, "Regions": "All ExecSize elements, enabled or not, lie in the variable
 -- and touch at most two adjacent registers, lowest byte to highest."
-use Prim.Native.Nat.{ℕ, zero, suc, _+_, _*_, _-_, _/_}
-use mathlib.Core.Bool.{Bool, cond, _&&_}
+use Prim.Native.Nat.{ℕ, zero, suc, _+_, _*_, _-_, _/_, min, max}
+use mathlib.Core.Bool.{Bool, _&&_}
 use lib.Dec.{ltb, leb}
 use Rattle.element_types.specs.Types.{sizeOf}
 use Rattle.tables.specs.Lengths.{registerSize}
-use Rattle.tables.specs.Every.{every}
+use Rattle.channels.specs.Below.{everyBelow}
 use Rattle.regions.specs.declared.Variable.{Variable}
-
-unfoldable pub smaller : ℕ → ℕ → ℕ
-smaller a b = cond (ltb b a) b a
-
-unfoldable pub larger : ℕ → ℕ → ℕ
-larger a b = cond (ltb a b) b a
 
 -- the lowest and the highest of element 0, 1, .., lanes - 1
 unfoldable pub lowest : (ℕ → ℕ) → ℕ → ℕ
 lowest element zero = element 0
-lowest element (suc n) = smaller (lowest element n) (element n)
+lowest element (suc n) = min (lowest element n) (element n)
 
 unfoldable pub highest : (ℕ → ℕ) → ℕ → ℕ
 highest element zero = element 0
-highest element (suc n) = larger (highest element n) (element n)
+highest element (suc n) = max (highest element n) (element n)
 
 -- "All ExecSize elements, enabled or not, lie in the variable"
 unfoldable pub insideVariable : (ℕ → ℕ) → ℕ → ℕ → Bool
-insideVariable element lanes count = every (λ k. ltb (element k) count) lanes
+insideVariable element lanes count = everyBelow lanes (λ k. ltb (element k) count)
 
 -- "at most two adjacent registers": the register of the last byte is at most the one after that of the first
 unfoldable pub twoRegisters : ℕ → ℕ → Bool

@@ -48,10 +48,11 @@ scalarRegionGood region = eqb region (1 + 16 * 2 + 256 * 1)
 unfoldable pub destinationRegionGood : ℕ → Bool
 destinationRegionGood region = between 2 4 (horizontalCode region) && eqb (verticalCode region) 0 && eqb (widthCode region) 0
 
-unfoldable pub regionGood : Role → ℕ → ℕ → Bool
-regionGood role.Source region lanes = sourceRegionGood region lanes
-regionGood role.Scalar region lanes = scalarRegionGood region
-regionGood role.Destination region lanes = destinationRegionGood region
+-- the rules of a role; 6 where this is false
+unfoldable pub regionAllowed : Role → ℕ → ℕ → Bool
+regionAllowed role.Source region lanes = sourceRegionGood region lanes
+regionAllowed role.Scalar region lanes = scalarRegionGood region
+regionAllowed role.Destination region lanes = destinationRegionGood region
 
 -- "R·(32/size)+C"
 unfoldable pub firstElement : General → ℕ → ℕ

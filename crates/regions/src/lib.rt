@@ -1,15 +1,15 @@
 // Regions: which region words are good, which element of its variable each lane takes, and where that is.
 use field_groups::General;
 ghost use mathlib.Core.Path.{_≡_};
-ghost use Prim.Native.Nat.{_+_, _-_, _/_, _%_, _<_};
+ghost use Prim.Native.Nat.{_+_, _-_, _/_, _%_, _<_, min, max};
 ghost use Rattle.element_types.specs.Types.{sizeOf};
-ghost use Rattle.regions.specs.Regions.{strideOf, sourceRegionGood, destinationRegionGood, regionGood, firstElement, elementOf};
-ghost use Rattle.regions.specs.Reach.{smaller, larger, lowest, highest, twoRegisters, elementsGood};
+ghost use Rattle.regions.specs.Regions.{strideOf, sourceRegionGood, destinationRegionGood, regionAllowed, firstElement, elementOf};
+ghost use Rattle.regions.specs.Reach.{lowest, highest, twoRegisters, elementsGood};
 ghost use Rattle.regions.specs.mirror.Grid.{gridElement, gridOf};
 ghost use Rattle.regions.specs.Positions.{lanePositions, elementByte};
 
-// <0;1,0>
-const SCALAR_REGION: u16 = 289;
+// <0;1,0>: vertical code 1, width code 2, horizontal code 1.
+const SCALAR_REGION: u16 = 0x0121;
 
 // What a vector operand or a scalar is for.
 pub enum Role {
@@ -83,9 +83,9 @@ fn destination_region_good(region: u16) -> bool
     (2 <= horizontal) & (horizontal <= 4) & (vertical == 0) & (width == 0)
 }
 
-// Whether a region word is good for an operand of so many lanes.
-pub fn region_good(role: Role, region: u16, lanes: u8) -> bool
-    ensures { λ r. ⌜ r ≡ regionGood role region lanes ⌝ }
+// Whether an operand of this role and so many lanes may have a region word.
+pub fn region_allowed(role: Role, region: u16, lanes: u8) -> bool
+    ensures { λ r. ⌜ r ≡ regionAllowed role region lanes ⌝ }
 {
     match role {
         Role::Source => source_region_good(region, lanes),
@@ -155,13 +155,13 @@ fn element_of(grid: Grid, lane: u8) -> u32
 }
 
 fn smaller_of(a: u32, b: u32) -> u32
-    ensures { λ r. ⌜ r ≡ smaller a b ⌝ }
+    ensures { λ r. ⌜ r ≡ min a b ⌝ }
 {
     if b < a { b } else { a }
 }
 
 fn larger_of(a: u32, b: u32) -> u32
-    ensures { λ r. ⌜ r ≡ larger a b ⌝ }
+    ensures { λ r. ⌜ r ≡ max a b ⌝ }
 {
     if a < b { b } else { a }
 }

@@ -15,7 +15,7 @@ use Rattle.tables.specs.Tables.{tablesGood}
 use Rattle.step.specs.State.{Setup, State, lengthsOf}
 use Rattle.step.specs.Step.{Stepped, stepAt, after}
 use Rattle.step.proofs.Kept.{after-lengths}
-use Rattle.run.specs.Run.{Outcome, stopped, runFrom, run}
+use Rattle.run.specs.Run.{Outcome, stopped, runFrom, runThrough, run}
 use Rattle.run.specs.Ran.{Ran, ended, refusedAt, went, registersWritten, memoryWritten}
 use Rattle.run.proofs.Simulation.{run-keeps}
 use Rattle.run.proofs.Whole.{run-is}
@@ -27,7 +27,7 @@ use Rattle.run.proofs.Fuel.{run-ran}
 pub whole-keeps : (P : State → Type 0) (x : Setup) (s : State) → ((at : ℕ) (u : State) → P u → P (after (stepAt x at u .effect) u)) → P s → P (run x s .state)
 whole-keeps P x s steps h = rw (run-is x s) (told (tablesGood (lengthsOf x s) (x .tables)))
   where
-    told : (q : Bool) → P (cond q (runFrom (stepAt x) (length (x .kernel)) (length (x .kernel)) 0 0 s) (stopped 13 0 0 s) .state)
+    told : (q : Bool) → P (cond q (runThrough x s) (stopped 13 0 0 s) .state)
     told true = run-keeps P (stepAt x) steps (length (x .kernel)) (length (x .kernel)) 0 0 s h
     told false = h
 

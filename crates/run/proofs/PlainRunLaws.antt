@@ -17,12 +17,12 @@ use Rattle.run.specs.Run.{outcome, run}
 use Rattle.run.specs.PlainRun.{plainRun, plainOutcome, withoutMarks, tooLong}
 use Rattle.run.proofs.Whole.{tables-refused, plain-run-is}
 
-pub zeros : (n m : ℕ) → n ≤ m → take {A = ℕ} n (replicate m 0) ≡ replicate n 0
-zeros zero m h = refl
-zeros (suc n) zero h = absurd (omega arith)
-zeros (suc n) (suc m) h = rw (zeros n m (omega arith))
+-- the first of equal elements, whatever they are
+pub equal-taken : {A : Type 0} (a : A) (n m : ℕ) → n ≤ m → take n (replicate m a) ≡ replicate n a
+equal-taken a zero m h = refl
+equal-taken a (suc n) zero h = absurd (omega arith)
+equal-taken a (suc n) (suc m) h = rw (equal-taken a n m (omega arith))
 
--- whatever the elements are
 pub length-taken : (a n m : ℕ) → n ≤ m → n ≡ length (take n (replicate m a))
 length-taken a n m h = sym (length-take-le n (replicate m a) (rw (length-replicate m a) h))
 
@@ -67,8 +67,8 @@ module _ (x : Setup) (registers surfaces memory : List ℕ) where
       told true e = absurd (true≢false (sym long ∙ good-short (lengthsOf x start) (x .tables) e))
 
   -- the run over zeros, of which the taint is dropped
-  pub zeros-answer : (a b c : List ℕ) (r : Answer) (s : State) → a ≡ replicate (length registers) 0 → b ≡ replicate (length surfaces) 0 → c ≡ replicate (length memory) 0
-      → outcome r s ≡ run x (state registers a surfaces b memory c) → plainOutcome r (s .registers .bytes) (s .memory .bytes) ≡ withoutMarks (plainRun x registers surfaces memory)
-  zeros-answer a b c r s za zb zc ran =
+  pub zeros-answer : (a b c : List ℕ) (r : Answer) (s : State) → outcome r s ≡ run x (state registers a surfaces b memory c)
+      → a ≡ replicate (length registers) 0 → b ≡ replicate (length surfaces) 0 → c ≡ replicate (length memory) 0 → plainOutcome r (s .registers .bytes) (s .memory .bytes) ≡ withoutMarks (plainRun x registers surfaces memory)
+  zeros-answer a b c r s ran za zb zc =
       ap withoutMarks
       (ran ∙ (λ i. run x (state registers (za i) surfaces (zb i) memory (zc i))) ∙ sym (plain-run-is x registers surfaces memory))

@@ -1,22 +1,18 @@
 -- How far a run has come, and how a step takes it on: the loop of `run` in plain words.
 use mathlib.Core.Path.{_≡_, refl, sym, ap, _∙_}
-use mathlib.Core.Bool.{true}
 use Prim.Native.Nat.{ℕ, zero, suc, _+_, _≤_, _<_}
 use native.Mathlib.Omega.{arith}
 use native.Mathlib.Numerals.{add-one}
 use lib.ListN.{length}
 use borrow.Author.Tests.{lt-ltb, le-ltb}
 use Rattle.little_endian.specs.LittleEndian.{Bytes}
-use Rattle.tables.specs.Tables.{tablesGood}
 use Rattle.step.specs.declared.Progress.{Progress}
 use Rattle.step.specs.State.{Setup, State, lengthsOf}
 use Rattle.step.specs.Step.{stepAt}
-use Rattle.step.specs.Performed.{advanced, stepAdvanced}
-use Rattle.step.proofs.StepLaws.{Advances, step-advances}
+use Rattle.step.proofs.StepLaws.{Takes}
 use Rattle.step.proofs.Forward.{Forward, step-forward}
 use Rattle.step.proofs.Kept.{after-lengths, refused-step-keeps}
-use Rattle.run.specs.Run.{stopped, runFrom, run}
-use Rattle.run.proofs.Whole.{run-is}
+use Rattle.run.specs.Run.{stopped, runFrom, runThrough}
 use Rattle.run.proofs.Kept.{refused-stops}
 
 -- after so many instructions the rest of the run, from here and this state, comes to what the whole run comes to
@@ -27,11 +23,11 @@ pub record Reached (x : Setup) (start : State) (completed at : ℕ) (s : State) 
   pub inside : at ≤ length (x .kernel)
   pub few : completed ≤ at
   pub lengths : lengthsOf x s ≡ lengthsOf x start
-  pub same : runFrom (stepAt x) (length (x .kernel)) fuel completed at s ≡ run x start
+  pub same : runFrom (stepAt x) (length (x .kernel)) fuel completed at s ≡ runThrough x start
 
 module _ (x : Setup) (start : State) where
-  pub begins : Bytes (x .kernel) → tablesGood (lengthsOf x start) (x .tables) ≡ true → Reached x start 0 0 start
-  begins bytes good =
+  pub begins : Bytes (x .kernel) → Reached x start 0 0 start
+  begins bytes =
       record {
         bytes = bytes;
         fuel = length (x .kernel);
@@ -39,7 +35,7 @@ module _ (x : Setup) (start : State) where
         inside = omega arith;
         few = omega arith;
         lengths = refl;
-        same = sym (rw (run-is x start, good));
+        same = refl;
       }
 
   module _ (completed at : ℕ) (s : State) (r : Reached x start completed at s) where
@@ -48,43 +44,43 @@ module _ (x : Setup) (start : State) where
     at-end over zero = refl
     at-end over (suc fuel) = rw (le-ltb at (length (x .kernel)) over)
 
-    pub ends : length (x .kernel) ≤ at → stopped 0 completed at s ≡ run x start
+    pub ends : length (x .kernel) ≤ at → stopped 0 completed at s ≡ runThrough x start
     ends over = at-end over (r .fuel) ∙ r .same
 
-    module _ (before : at < length (x .kernel)) (p : Progress) (u : State) (told : advanced p u ≡ stepAdvanced x at s) where
-      advances : Advances x at s p u
-      advances = step-advances x at s p u told
+    module _ (before : at < length (x .kernel)) (p : Progress) (u : State) (told : Takes s (stepAt x at s) p u) where
+      pub keeps : lengthsOf x u ≡ lengthsOf x start
+      keeps = ap (lengthsOf x) (told .2) ∙ (after-lengths x (stepAt x at s .effect) s ∙ r .lengths)
 
       -- a refusal ends the run, with the state as it was
-      pub stops : 0 < p .number → stopped (p .number) completed at u ≡ run x start
+      pub stops : 0 < p .number → stopped (p .number) completed at u ≡ runThrough x start
       stops h = ended (r .fuel) (r .enough) (r .same)
         where
-          number : (n : ℕ) → p .number ≡ n → 0 < n → (fuel : ℕ) → runFrom (stepAt x) (length (x .kernel)) (suc fuel) completed at s ≡ run x start → stopped n completed at s ≡ run x start
+          number : (n : ℕ) → p .number ≡ n → 0 < n → (fuel : ℕ) → runFrom (stepAt x) (length (x .kernel)) (suc fuel) completed at s ≡ runThrough x start → stopped n completed at s ≡ runThrough x start
           number zero e h fuel same = absurd (omega (arith, h))
-          number (suc n) e h fuel same = sym (refused-stops (stepAt x) (length (x .kernel)) fuel completed at n s before (sym (advances .number) ∙ e)) ∙ same
+          number (suc n) e h fuel same = sym (refused-stops (stepAt x) (length (x .kernel)) fuel completed at n s before (sym (told .0) ∙ e)) ∙ same
 
           kept : u ≡ s
-          kept = advances .state ∙ refused-step-keeps x at s (λ z. absurd (omega (arith, advances .number, z, h)))
+          kept = told .2 ∙ refused-step-keeps x at s (λ z. absurd (omega (arith, told .0, z, h)))
 
-          ended : (fuel : ℕ) → length (x .kernel) ≤ fuel + at → runFrom (stepAt x) (length (x .kernel)) fuel completed at s ≡ run x start → stopped (p .number) completed at u ≡ run x start
+          ended : (fuel : ℕ) → length (x .kernel) ≤ fuel + at → runFrom (stepAt x) (length (x .kernel)) fuel completed at s ≡ runThrough x start → stopped (p .number) completed at u ≡ runThrough x start
           ended zero enough same = absurd (omega (arith, before, enough))
           ended (suc fuel) enough same = ap (λ (v : State). stopped (p .number) completed at v) kept ∙ number (p .number) refl h fuel same
 
       module _ (left : p .number ≤ 0) where
         done : stepAt x at s .effect .number ≡ 0
-        done = omega (arith, advances .number, left)
+        done = omega (arith, told .0, left)
 
         pub onward : Forward (length (x .kernel)) at (p .next)
-        onward = let f = step-forward x (r .bytes) at s done in (omega (arith, f .0, advances .next), omega (arith, f .1, advances .next))
+        onward = let f = step-forward x (r .bytes) at s done in (omega (arith, f .0, told .1), omega (arith, f .1, told .1))
 
         turn : (fuel : ℕ) → runFrom (stepAt x) (length (x .kernel)) (suc fuel) completed at s ≡ runFrom (stepAt x) (length (x .kernel)) fuel (completed + 1) (p .next) u
         unfolding runFrom
-        turn fuel = rw (lt-ltb at (length (x .kernel)) before, done, add-one completed, advances .next, advances .state)
+        turn fuel = rw (lt-ltb at (length (x .kernel)) before, done, add-one completed, told .1, told .2)
 
         pub goes : Reached x start (completed + 1) (p .next) u
         goes = gone (r .fuel) (r .enough) (r .same)
           where
-            gone : (fuel : ℕ) → length (x .kernel) ≤ fuel + at → runFrom (stepAt x) (length (x .kernel)) fuel completed at s ≡ run x start → Reached x start (completed + 1) (p .next) u
+            gone : (fuel : ℕ) → length (x .kernel) ≤ fuel + at → runFrom (stepAt x) (length (x .kernel)) fuel completed at s ≡ runThrough x start → Reached x start (completed + 1) (p .next) u
             gone zero enough same = absurd (omega (arith, before, enough))
             gone (suc fuel) enough same =
                 record {
@@ -93,6 +89,6 @@ module _ (x : Setup) (start : State) where
                   enough = omega (arith, onward .0, enough);
                   inside = onward .1;
                   few = omega (arith, onward .0, r .few);
-                  lengths = ap (lengthsOf x) (advances .state) ∙ (after-lengths x (stepAt x at s .effect) s ∙ r .lengths);
+                  lengths = keeps;
                   same = sym (turn fuel) ∙ same;
                 }

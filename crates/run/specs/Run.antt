@@ -32,9 +32,10 @@ runFrom step end (suc fuel) completed at s =
     (settled (λ c a u. runFrom step end fuel c a u) completed at (step at s) s (step at s .effect .number))
     (stopped 0 completed at s)
 
+-- the kernel's instructions, from its start on
+abbrev pub runThrough : Setup → State → Outcome
+runThrough x s = runFrom (stepAt x) (length (x .kernel)) (length (x .kernel)) 0 0 s
+
 -- "13 comes first."
 unfoldable pub run : Setup → State → Outcome
-run x s =
-    cond (tablesGood (lengthsOf x s) (x .tables))
-    (runFrom (stepAt x) (length (x .kernel)) (length (x .kernel)) 0 0 s)
-    (stopped 13 0 0 s)
+run x s = cond (tablesGood (lengthsOf x s) (x .tables)) (runThrough x s) (stopped 13 0 0 s)

@@ -3,10 +3,11 @@ use step::Constants;
 use tables::Lengths;
 use tables::TaintLengths;
 ghost use mathlib.Core.Path.{_≡_};
-ghost use mathlib.Core.Bool.{true};
-ghost use Rattle.tables.specs.Tables.{tables, tablesGood};
-ghost use Rattle.step.specs.State.{setup, state, lengthsOf};
-ghost use Rattle.run.specs.Run.{outcome, run};
+ghost use Rattle.tables.specs.Tables.{tables};
+ghost use Rattle.tables.specs.Borrowed.{variableTable, predicateTable, surfaceTable};
+ghost use Rattle.step.specs.State.{setup};
+ghost use Rattle.step.specs.Borrowed.{lent};
+ghost use Rattle.run.specs.Run.{outcome, runThrough, run};
 ghost use Rattle.run.specs.PlainRun.{plainRun, plainOutcome, withoutMarks, tooLong};
 
 // What a run gives back: the number, how many instructions were completed, and the byte position of the refused one or of the end.
@@ -32,8 +33,7 @@ fn run_kernel(
     memory: &mut [u8],
     memory_taint: &mut [u8],
 ) -> Answer
-    requires { ⌜ tablesGood (lengthsOf (setup (now kernel) (tables (now types) (now starts) (now counts) (now predicates) (now «surface_lengths»)) (constants .base) (constants .mask)) (state (now registers) (now «register_taint») (now surfaces) (now «surface_taint») (now memory) (now «memory_taint»))) (tables (now types) (now starts) (now counts) (now predicates) (now «surface_lengths»)) ≡ true ⌝ }
-    ensures { λ r. ⌜ outcome r (state (now (registers .exit)) (now («register_taint» .exit)) (now (surfaces .entry)) (now («surface_taint» .entry)) (now (memory .exit)) (now («memory_taint» .exit))) ≡ run (setup (now (kernel .entry)) (tables (now (types .entry)) (now (starts .entry)) (now (counts .entry)) (now (predicates .entry)) (now («surface_lengths» .entry))) (constants .base) (constants .mask)) (state (now (registers .entry)) (now («register_taint» .entry)) (now (surfaces .entry)) (now («surface_taint» .entry)) (now (memory .entry)) (now («memory_taint» .entry))) ⌝ }
+    ensures { λ r. let s = lent registers «register_taint» surfaces «surface_taint» memory «memory_taint» in ⌜ outcome r (s .exit) ≡ runThrough (setup (now (kernel .entry)) (tables (variableTable types starts counts) (predicateTable predicates) (surfaceTable «surface_lengths»)) constants) (s .entry) ⌝ }
 {
     let mut completed: usize = 0;
     let mut at: usize = 0;
@@ -87,7 +87,7 @@ pub fn run(
     memory: &mut [u8],
     memory_taint: &mut [u8],
 ) -> Answer
-    ensures { λ r. ⌜ outcome r (state (now (registers .exit)) (now («register_taint» .exit)) (now (surfaces .entry)) (now («surface_taint» .entry)) (now (memory .exit)) (now («memory_taint» .exit))) ≡ run (setup (now (kernel .entry)) (tables (now (types .entry)) (now (starts .entry)) (now (counts .entry)) (now (predicates .entry)) (now («surface_lengths» .entry))) (constants .base) (constants .mask)) (state (now (registers .entry)) (now («register_taint» .entry)) (now (surfaces .entry)) (now («surface_taint» .entry)) (now (memory .entry)) (now («memory_taint» .entry))) ⌝ }
+    ensures { λ r. let s = lent registers «register_taint» surfaces «surface_taint» memory «memory_taint» in ⌜ outcome r (s .exit) ≡ run (setup (now (kernel .entry)) (tables (variableTable types starts counts) (predicateTable predicates) (surfaceTable «surface_lengths»)) constants) (s .entry) ⌝ }
 {
     let taint = TaintLengths {
         registers: register_taint.len(),
@@ -146,7 +146,7 @@ pub fn plain_run(
     registers: &mut [u8],
     memory: &mut [u8],
 ) -> Answer
-    ensures { λ r. ⌜ plainOutcome r (now (registers .exit)) (now (memory .exit)) ≡ withoutMarks (plainRun (setup (now (kernel .entry)) (tables (now (types .entry)) (now (starts .entry)) (now (counts .entry)) (now (predicates .entry)) (now («surface_lengths» .entry))) (constants .base) (constants .mask)) (now (registers .entry)) (now (surfaces .entry)) (now (memory .entry))) ⌝ }
+    ensures { λ r. ⌜ plainOutcome r (now (registers .exit)) (now (memory .exit)) ≡ withoutMarks (plainRun (setup (now (kernel .entry)) (tables (variableTable types starts counts) (predicateTable predicates) (surfaceTable «surface_lengths»)) constants) (now (registers .entry)) (now (surfaces .entry)) (now (memory .entry))) ⌝ }
 {
     let register_count = registers.len();
     let surface_count = surfaces.len();

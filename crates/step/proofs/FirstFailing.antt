@@ -15,7 +15,7 @@ use Rattle.plan.proofs.InstructionLaws.{plan-keeps}
 use Rattle.shl.proofs.Refusal.{shl-number}
 use Rattle.gather.proofs.Refusal.{gather-number}
 use Rattle.scatter.proofs.FirstTest.{scatter-number}
-use Rattle.step.specs.State.{Setup, constantsOf, State}
+use Rattle.step.specs.State.{Setup, State}
 use Rattle.step.specs.Step.{acted, planEffect, stepAt}
 use Rattle.step.specs.FirstFailing.{firstOf, someDoubtful, somePair, dataTests, firstFailing}
 use Rattle.step.proofs.StepOf.{stepOf}
@@ -26,22 +26,22 @@ module _ (x : Setup) (s : State) where
   abbrev planned : Instruction → Plan
   planned i = checked (x .tables) i
 
-  acted-as : (o : Operation) (p : Plan) → p .operation ≡ o → acted (constantsOf x) (p .operation) p s .number ≡ acted (constantsOf x) o p s .number
-  acted-as o p = ap (λ (q : Operation). acted (constantsOf x) q p s .number)
+  acted-as : (o : Operation) (p : Plan) → p .operation ≡ o → acted (x .constants) (p .operation) p s .number ≡ acted (x .constants) o p s .number
+  acted-as o p = ap (λ (q : Operation). acted (x .constants) q p s .number)
 
   -- an accepted plan acts as its instruction
-  acted-number : (i : Instruction) → planned i .number ≡ 0 → acted (constantsOf x) (planned i .operation) (planned i) s .number ≡ dataTests x i (planned i) s
+  acted-number : (i : Instruction) → planned i .number ≡ 0 → acted (x .constants) (planned i .operation) (planned i) s .number ≡ dataTests x i (planned i) s
   unfolding acted dataTests someDoubtful somePair
   acted-number (instruction.Shl i) z = acted-as _ _ (plan-keeps (x .tables) (instruction.Shl i) z .operation) ∙ shl-number _ _ _
   acted-number (instruction.Gather i) z = acted-as _ _ (plan-keeps (x .tables) (instruction.Gather i) z .operation) ∙ gather-number _ _ _ _
   acted-number (instruction.Scatter i) z = acted-as _ _ (plan-keeps (x .tables) (instruction.Scatter i) z .operation) ∙ scatter-number _ _ _ _
   acted-number (instruction.RawSend i) z = absurd (plan-keeps (x .tables) (instruction.RawSend i) z)
 
-  plan-number : (i : Instruction) → planEffect (constantsOf x) (planned i) s .number ≡ firstOf (planned i .number) (dataTests x i (planned i) s)
+  plan-number : (i : Instruction) → planEffect (x .constants) (planned i) s .number ≡ firstOf (planned i .number) (dataTests x i (planned i) s)
   unfolding planEffect
   plan-number i = told (planned i .number) refl
     where
-      told : (n : ℕ) → planned i .number ≡ n → planEffect (constantsOf x) (planned i) s .number ≡ firstOf n (dataTests x i (planned i) s)
+      told : (n : ℕ) → planned i .number ≡ n → planEffect (x .constants) (planned i) s .number ≡ firstOf n (dataTests x i (planned i) s)
       told zero e = ap (λ (f : Effect). f .number) (plan-passes (planned i) _ e) ∙ acted-number i e
       told (suc n) e = ap (λ (f : Effect). f .number) (plan-refuses (planned i) _ (omega (arith, e))) ∙ e
 
@@ -49,7 +49,7 @@ module _ (x : Setup) (s : State) where
   unfolding stepAt firstFailing
   step-number at = told (instructionAt (x .kernel) at)
     where
-      told : (d : Answer (Read Instruction)) → stepOf x (λ (p : Plan). planEffect (constantsOf x) p s) at d .effect .number
+      told : (d : Answer (Read Instruction)) → stepOf x (λ (p : Plan). planEffect (x .constants) p s) at d .effect .number
           ≡ onAnswer d (λ n. n) (λ i. firstOf (planned (i .value) .number) (dataTests x (i .value) (planned (i .value)) s))
       told (answer.refused n) = refl
       told (answer.done i) = plan-number (i .value)

@@ -25,7 +25,7 @@ use Rattle.plan.proofs.InstructionLaws.{plan-keeps}
 use Rattle.shl.proofs.SoundLaws as shl
 use Rattle.gather.proofs.SoundLaws as gather
 use Rattle.scatter.proofs.SoundLaws as scatter
-use Rattle.step.specs.Fits.{fitsFor, Fits}
+use Rattle.step.specs.mirror.Fits.{fitsFor, Fits}
 
 at-most-sixteen : (lanes : ℕ) → EightOrSixteen lanes → lanes ≤ 16
 at-most-sixteen lanes = ⊎-elim (λ e. rw e (omega arith)) (λ e. rw e (omega arith))

@@ -10,7 +10,7 @@ use Rattle.decoder.specs.Decoding.{instructionAt}
 use Rattle.decoder.proofs.DecodeEncode.{refusal-not-zero}
 use Rattle.decoder.proofs.Laws.{accepted-within}
 use Rattle.plan.specs.declared.Plan.{Plan}
-use Rattle.step.specs.State.{Setup, constantsOf, State}
+use Rattle.step.specs.State.{Setup, State}
 use Rattle.step.specs.Step.{planEffect, Stepped, stepAt}
 use Rattle.step.proofs.StepOf.{stepOf}
 
@@ -23,7 +23,7 @@ unfolding stepAt
 step-forward x b at s e = told (instructionAt (x .kernel) at) refl e
   where
     stepped : Answer (Read Instruction) → Stepped
-    stepped = stepOf x (λ (p : Plan). planEffect (constantsOf x) p s) at
+    stepped = stepOf x (λ (p : Plan). planEffect (x .constants) p s) at
 
     told : (d : Answer (Read Instruction)) → instructionAt (x .kernel) at ≡ d → stepped d .effect .number ≡ 0 → Forward (length (x .kernel)) at (stepped d .next)
     told (answer.refused n) q z = absurd (refusal-not-zero (x .kernel) at n b q z)

@@ -19,7 +19,7 @@ use Rattle.plan.specs.Checked.{checked}
 use Rattle.shl.proofs.Refusal.{shl-writes}
 use Rattle.gather.proofs.Refusal.{gather-writes}
 use Rattle.scatter.proofs.Refusal.{scatter-writes}
-use Rattle.step.specs.State.{Setup, constantsOf, State, lengthsOf}
+use Rattle.step.specs.State.{Setup, State, lengthsOf}
 use Rattle.step.specs.Step.{acted, planEffect, stepAt, after}
 use Rattle.step.proofs.StepOf.{stepOf}
 use Rattle.step.proofs.Unwritten.{unwritten}
@@ -32,7 +32,7 @@ after-lengths x e s =
       registers = bytes-kept (e .registers) (s .registers) i;
       surfaces = length (s .surfaces .bytes);
       memory = bytes-kept (e .memory) (s .memory) i;
-      base = x .base;
+      base = x .constants .base;
       taint = record {
         registers = taint-kept (e .registers) (s .registers) i;
         surfaces = length (s .surfaces .taint);
@@ -41,18 +41,18 @@ after-lengths x e s =
     }
 
 module _ (x : Setup) (s : State) where
-  acted-writes : (o : Operation) (p : Plan) → WritesOnlyWhenDone (acted (constantsOf x) o p s)
+  acted-writes : (o : Operation) (p : Plan) → WritesOnlyWhenDone (acted (x .constants) o p s)
   unfolding acted
   acted-writes operation.Shl p = shl-writes p _ (s .registers)
   acted-writes operation.Gather p = gather-writes p _ (s .registers) (s .surfaces)
   acted-writes operation.Scatter p = scatter-writes _ p _ (s .registers)
-  acted-writes operation.Send p = refused-writes 9
+  acted-writes operation.Refused p = refused-writes 9
 
-  plan-writes : (p : Plan) → WritesOnlyWhenDone (planEffect (constantsOf x) p s)
+  plan-writes : (p : Plan) → WritesOnlyWhenDone (planEffect (x .constants) p s)
   unfolding planEffect
   plan-writes p = unless-writes (not (eqb (p .number) 0)) (p .number) _ (acted-writes (p .operation) p)
 
-  decoded-writes : (at : ℕ) (d : Answer (Read Instruction)) → WritesOnlyWhenDone (stepOf x (λ (p : Plan). planEffect (constantsOf x) p s) at d .effect)
+  decoded-writes : (at : ℕ) (d : Answer (Read Instruction)) → WritesOnlyWhenDone (stepOf x (λ (p : Plan). planEffect (x .constants) p s) at d .effect)
   decoded-writes at (answer.refused n) = refused-writes n
   decoded-writes at (answer.done i) = plan-writes (checked (x .tables) (i .value))
 

@@ -25,25 +25,26 @@ use Rattle.scatter.proofs.Refusal.{scatter-spares-registers}
 use Rattle.step.specs.declared.Constants.{Constants}
 use Rattle.step.specs.State.{State}
 use Rattle.step.specs.Step.{acted, planEffect, after}
-use Rattle.step.specs.Fits.{fitsFor, Fits}
-use Rattle.step.specs.Performed.{performed, planPerformed}
+use Rattle.step.specs.mirror.Fits.{fitsFor, Fits}
 use Rattle.step.proofs.Unwritten.{unwritten}
 use Rattle.step.proofs.AcceptedLaws.{plan-refuses, plan-passes}
 
 module _ (k : Constants) (p : Plan) (s : State) where
+  -- a number and a state that are those of the plan's effect
+  abbrev Performs : ℕ → State → Type 0
+  Performs n u = (n ≡ planEffect k p s .number) × (u ≡ after (planEffect k p s) s)
+
   -- a number and two buffers that are those of an effect, which is the plan's
   performs : (e : Effect) (n : ℕ) (b m : Buffer) → e ≡ planEffect k p s → n ≡ e .number → b ≡ writtenAll (e .registers) (s .registers) → m ≡ writtenAll (e .memory) (s .memory)
-      → performed n (record { registers = b; surfaces = s .surfaces; memory = m }) ≡ planPerformed k p s
-  unfolding planPerformed
+      → Performs n (record { registers = b; surfaces = s .surfaces; memory = m })
   performs e n b m is number registers memory =
-      (λ i. performed (number i) (record { registers = registers i; surfaces = s .surfaces; memory = memory i }))
-      ∙ ap (λ (x : Effect). performed (x .number) (after x s)) is
+      (number ∙ ap (λ (x : Effect). x .number) is, (λ i. record { registers = registers i; surfaces = s .surfaces; memory = memory i }) ∙ ap (λ (x : Effect). after x s) is)
 
   -- a refusal writes nothing
-  refusal : (n : ℕ) → planEffect k p s ≡ refused n → performed n s ≡ planPerformed k p s
+  refusal : (n : ℕ) → planEffect k p s ≡ refused n → Performs n s
   refusal n is = performs (refused n) n (s .registers) (s .memory) (sym is) refl (sym (unwritten [] _ refl)) (sym (unwritten [] _ refl))
 
-  pub refusal-performs : 0 < p .number → performed (p .number) s ≡ planPerformed k p s
+  pub refusal-performs : 0 < p .number → Performs (p .number) s
   unfolding planEffect
   refusal-performs h = refusal (p .number) (plan-refuses p _ h)
 
@@ -57,7 +58,7 @@ module _ (k : Constants) (p : Plan) (s : State) where
     fit o is = subst (λ (q : Operation). fitsFor q p ≡ true) is (fits .when-accepted (omega arith))
 
     pub shl-performs : (n : ℕ) (b : Buffer) → p .operation ≡ operation.Shl → (n ≡ shlGuarded (k .mask) p (s .registers) .number) × (b ≡ writtenAll (shlGuarded (k .mask) p (s .registers) .registers) (s .registers))
-        → performed n (record { registers = b; surfaces = s .surfaces; memory = s .memory }) ≡ planPerformed k p s
+        → Performs n (record { registers = b; surfaces = s .surfaces; memory = s .memory })
     unfolding acted fitsFor
     shl-performs n b is made =
         let g = shl.guard-passes (k .mask) p (s .registers) (fit _ is) in
@@ -65,7 +66,7 @@ module _ (k : Constants) (p : Plan) (s : State) where
         (sym (unwritten _ _ (ap (λ (e : Effect). e .memory) g ∙ shl-spares-memory p (lanesOn (k .mask) p) (s .registers))))
 
     pub gather-performs : (n : ℕ) (b : Buffer) → p .operation ≡ operation.Gather → (n ≡ gatherGuarded (k .mask) p (s .registers) (s .surfaces) .number) × (b ≡ writtenAll (gatherGuarded (k .mask) p (s .registers) (s .surfaces) .registers) (s .registers))
-        → performed n (record { registers = b; surfaces = s .surfaces; memory = s .memory }) ≡ planPerformed k p s
+        → Performs n (record { registers = b; surfaces = s .surfaces; memory = s .memory })
     unfolding acted fitsFor
     gather-performs n b is made =
         let g = gather.guard-passes (k .mask) p (s .registers) (s .surfaces) (fit _ is) in
@@ -76,7 +77,7 @@ module _ (k : Constants) (p : Plan) (s : State) where
     window = record { base = k .base; length = length (s .memory .bytes) }
 
     pub scatter-performs : (n : ℕ) (m : Buffer) → p .operation ≡ operation.Scatter → (n ≡ scatterGuarded window (k .mask) p (s .registers) .number) × (m ≡ writtenAll (scatterGuarded window (k .mask) p (s .registers) .memory) (s .memory))
-        → performed n (record { registers = s .registers; surfaces = s .surfaces; memory = m }) ≡ planPerformed k p s
+        → Performs n (record { registers = s .registers; surfaces = s .surfaces; memory = m })
     unfolding acted fitsFor
     scatter-performs n m is made =
         let g = scatter.guard-passes window (k .mask) p (s .registers) (fit _ is) in
@@ -84,6 +85,6 @@ module _ (k : Constants) (p : Plan) (s : State) where
         (sym (unwritten _ _ (ap (λ (e : Effect). e .registers) g ∙ scatter-spares-registers window p (lanesOn (k .mask) p) (s .registers))))
         (made .1)
 
-    pub send-performs : p .operation ≡ operation.Send → performed 9 s ≡ planPerformed k p s
+    pub none-performs : p .operation ≡ operation.Refused → Performs 9 s
     unfolding acted
-    send-performs is = refusal 9 (acts _ is)
+    none-performs is = refusal 9 (acts _ is)

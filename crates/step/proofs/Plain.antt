@@ -21,7 +21,7 @@ use Rattle.shl.proofs.Plain.{shl-plain}
 use Rattle.gather.proofs.Plain.{gather-plain}
 use Rattle.scatter.specs.Scatter.{scatterEffect}
 use Rattle.scatter.proofs.Plain.{scatter-plain}
-use Rattle.step.specs.State.{Setup, constantsOf, State}
+use Rattle.step.specs.State.{Setup, State}
 use Rattle.step.specs.Step.{acted, planEffect, Stepped, stepAt}
 use Rattle.step.proofs.StepOf.{stepOf}
 use Rattle.step.proofs.SameStep.{SameStep, RelatedStates, alike-steps, refused-steps}
@@ -30,22 +30,22 @@ abbrev pub PlainStates : State → State → Type 0
 PlainStates = RelatedStates SameBytes
 
 module _ (x : Setup) (s u : State) (r : PlainStates s u) where
-  scattered : (p : Plan) (n m : ℕ) → m ≡ n → scatterEffect (record { base = x .base; length = n }) p (lanesOn (x .mask) p) (s .registers) .number ≢ 10 → PlainEffects (scatterEffect (record { base = x .base; length = n }) p (lanesOn (x .mask) p) (s .registers)) (scatterEffect (record { base = x .base; length = m }) p (lanesOn (x .mask) p) (u .registers))
-  scattered p n m e sure = rw e (scatter-plain (s .registers) (u .registers) (r .registers) p (record { base = x .base; length = n }) (lanesOn (x .mask) p) sure)
+  scattered : (p : Plan) (n m : ℕ) → m ≡ n → scatterEffect (record { base = x .constants .base; length = n }) p (lanesOn (x .constants .mask) p) (s .registers) .number ≢ 10 → PlainEffects (scatterEffect (record { base = x .constants .base; length = n }) p (lanesOn (x .constants .mask) p) (s .registers)) (scatterEffect (record { base = x .constants .base; length = m }) p (lanesOn (x .constants .mask) p) (u .registers))
+  scattered p n m e sure = rw e (scatter-plain (s .registers) (u .registers) (r .registers) p (record { base = x .constants .base; length = n }) (lanesOn (x .constants .mask) p) sure)
 
-  acted-plain : (o : Operation) (p : Plan) → acted (constantsOf x) o p s .number ≢ 10 → PlainEffects (acted (constantsOf x) o p s) (acted (constantsOf x) o p u)
+  acted-plain : (o : Operation) (p : Plan) → acted (x .constants) o p s .number ≢ 10 → PlainEffects (acted (x .constants) o p s) (acted (x .constants) o p u)
   unfolding acted
-  acted-plain operation.Shl p sure = shl-plain p (lanesOn (x .mask) p) (s .registers) (u .registers) (r .registers)
-  acted-plain operation.Gather p sure = gather-plain (s .registers) (u .registers) (s .surfaces) (u .surfaces) (r .registers) (r .surfaces) p (lanesOn (x .mask) p)
+  acted-plain operation.Shl p sure = shl-plain p (lanesOn (x .constants .mask) p) (s .registers) (u .registers) (r .registers)
+  acted-plain operation.Gather p sure = gather-plain (s .registers) (u .registers) (s .surfaces) (u .surfaces) (r .registers) (r .surfaces) p (lanesOn (x .constants .mask) p)
   acted-plain operation.Scatter p sure = scattered p (length (s .memory .bytes)) (length (u .memory .bytes)) (r .memory .bytes′) sure
-  acted-plain operation.Send p sure = record { number = refl; registers = none; memory = none }
+  acted-plain operation.Refused p sure = record { number = refl; registers = none; memory = none }
 
-  plan-plain : (p : Plan) → planEffect (constantsOf x) p s .number ≢ 10 → PlainEffects (planEffect (constantsOf x) p s) (planEffect (constantsOf x) p u)
+  plan-plain : (p : Plan) → planEffect (x .constants) p s .number ≢ 10 → PlainEffects (planEffect (x .constants) p s) (planEffect (x .constants) p u)
   unfolding planEffect
   plan-plain p sure = plain-unless (not (eqb (p .number) 0)) (p .number) 10 _ _ (acted-plain (p .operation) p) sure
 
   abbrev stepped : State → ℕ → Answer (Read Instruction) → Stepped
-  stepped v at = stepOf x (λ (p : Plan). planEffect (constantsOf x) p v) at
+  stepped v at = stepOf x (λ (p : Plan). planEffect (x .constants) p v) at
 
   decoded-plain : (at : ℕ) (d : Answer (Read Instruction)) → stepped s at d .effect .number ≢ 10 → SameStep PlainStates (stepped s at d) (stepped u at d) s u
   decoded-plain at (answer.refused n) sure = refused-steps SameBytes s u r at n

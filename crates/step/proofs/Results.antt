@@ -27,7 +27,7 @@ use Rattle.gather.proofs.LaneResults as gather
 use Rattle.gather.proofs.Refusal.{gather-spares-memory}
 use Rattle.scatter.proofs.PairResults as scatter
 use Rattle.scatter.proofs.Refusal.{scatter-spares-registers}
-use Rattle.step.specs.State.{Setup, constantsOf, State, lengthsOf}
+use Rattle.step.specs.State.{Setup, State, lengthsOf}
 use Rattle.step.specs.Step.{acted, planEffect, Stepped, stepAt, after}
 use Rattle.step.specs.Leaves.{ResultsFor, Leaves}
 use Rattle.step.specs.Completes.{Completes}
@@ -39,44 +39,44 @@ use Rattle.step.proofs.AcceptedLaws.{plan-refuses, plan-passes}
 
 -- the step at an instruction
 step-is : (x : Setup) (s : State) (at : ℕ) (i : Instruction) (next : ℕ) → instructionAt (x .kernel) at ≡ got i next
-    → stepAt x at s ≡ record { next = next; effect = planEffect (constantsOf x) (checked (x .tables) i) s }
+    → stepAt x at s ≡ record { next = next; effect = planEffect (x .constants) (checked (x .tables) i) s }
 unfolding stepAt
-step-is x s at i next is = ap (stepOf x (λ (p : Plan). planEffect (constantsOf x) p s) at) is
+step-is x s at i next is = ap (stepOf x (λ (p : Plan). planEffect (x .constants) p s) at) is
 
 module _ (x : Setup) (s : State) (good : tablesGood (lengthsOf x s) (x .tables) ≡ true) where
   acted-results : (o : Operation) (p : Plan) → execSize (p .control .exec) ≤ 32 → SoundFor o (length (s .registers .bytes)) (length (s .surfaces .bytes)) p
-      → acted (constantsOf x) o p s .number ≡ 0 → ResultsFor o x p s (after (acted (constantsOf x) o p s) s)
+      → acted (x .constants) o p s .number ≡ 0 → ResultsFor o x p s (after (acted (x .constants) o p s) s)
   unfolding acted
   acted-results operation.Shl p few sound done =
-      (shl.shl-results (length (s .registers .bytes)) (x .mask) p few sound (s .registers) refl (limited (lengthsOf x s) (x .tables) good .registers-taint), unwritten _ (s .memory) (shl-spares-memory p _ (s .registers)))
+      (shl.shl-results (length (s .registers .bytes)) (x .constants .mask) p few sound (s .registers) refl (limited (lengthsOf x s) (x .tables) good .registers-taint), unwritten _ (s .memory) (shl-spares-memory p _ (s .registers)))
   acted-results operation.Gather p few sound done =
-      (gather.gather-results (length (s .registers .bytes)) (length (s .surfaces .bytes)) (x .mask) p few sound (s .registers) (s .surfaces) refl (limited (lengthsOf x s) (x .tables) good .registers-taint), unwritten _ (s .memory) (gather-spares-memory p _ (s .registers) (s .surfaces)))
+      (gather.gather-results (length (s .registers .bytes)) (length (s .surfaces .bytes)) (x .constants .mask) p few sound (s .registers) (s .surfaces) refl (limited (lengthsOf x s) (x .tables) good .registers-taint), unwritten _ (s .memory) (gather-spares-memory p _ (s .registers) (s .surfaces)))
   acted-results operation.Scatter p few sound done =
-      (scatter.scatter-results _ (x .mask) p (s .registers) (s .memory) refl (limited (lengthsOf x s) (x .tables) good .memory-taint) done, unwritten _ (s .registers) (scatter-spares-registers _ p _ (s .registers)))
-  acted-results operation.Send p few sound done = absurd sound
+      (scatter.scatter-results _ (x .constants .mask) p (s .registers) (s .memory) refl (limited (lengthsOf x s) (x .tables) good .memory-taint) done, unwritten _ (s .registers) (scatter-spares-registers _ p _ (s .registers)))
+  acted-results operation.Refused p few sound done = absurd sound
 
   -- a plan that is not refused has number 0, and its effect is that of its operation
-  accepted : (p : Plan) → planEffect (constantsOf x) p s .number ≡ 0 → p .number ≡ 0
+  accepted : (p : Plan) → planEffect (x .constants) p s .number ≡ 0 → p .number ≡ 0
   unfolding planEffect
   accepted p done = told (eqb (p .number) 0) refl
     where
       told : (q : Bool) → eqb (p .number) 0 ≡ q → p .number ≡ 0
       told true e = eqb-true (p .number) 0 e
-      told false e = sym (ap (λ (f : Effect). f .number) (plan-refuses p (acted (constantsOf x) (p .operation) p s) (omega (arith, eqb-false (p .number) 0 e)))) ∙ done
+      told false e = sym (ap (λ (f : Effect). f .number) (plan-refuses p (acted (x .constants) (p .operation) p s) (omega (arith, eqb-false (p .number) 0 e)))) ∙ done
 
-  acts : (p : Plan) → p .number ≡ 0 → planEffect (constantsOf x) p s ≡ acted (constantsOf x) (p .operation) p s
+  acts : (p : Plan) → p .number ≡ 0 → planEffect (x .constants) p s ≡ acted (x .constants) (p .operation) p s
   unfolding planEffect
   acts p zero = plan-passes p _ zero
 
-  plan-leaves : (p : Plan) → Sound (length (s .registers .bytes)) (length (s .surfaces .bytes)) p → p .number ≡ 0 → planEffect (constantsOf x) p s .number ≡ 0
-      → Leaves x p s (after (planEffect (constantsOf x) p s) s)
+  plan-leaves : (p : Plan) → Sound (length (s .registers .bytes)) (length (s .surfaces .bytes)) p → p .number ≡ 0 → planEffect (x .constants) p s .number ≡ 0
+      → Leaves x p s (after (planEffect (x .constants) p s) s)
   plan-leaves p sound zero done =
       let is = acts p zero in
       record {
         results = subst (λ (e : Effect). ResultsFor (p .operation) x p s (after e s)) (sym is)
             (acted-results (p .operation) p (omega (arith, sound .lanes)) (sound .operands) (sym (ap (λ (e : Effect). e .number) is) ∙ done));
         surfaces = refl;
-        lengths = after-lengths x (planEffect (constantsOf x) p s) s;
+        lengths = after-lengths x (planEffect (x .constants) p s) s;
       }
 
   -- the instruction at a position, decoded and not refused
@@ -84,8 +84,8 @@ module _ (x : Setup) (s : State) (good : tablesGood (lengthsOf x s) (x .tables) 
       → Leaves x (checked (x .tables) i) s (after (stepAt x at s .effect) s)
   step-leaves at i next is done =
       let p = checked (x .tables) i in
-      let effect : stepAt x at s .effect ≡ planEffect (constantsOf x) p s = ap (λ (t : Stepped). t .effect) (step-is x s at i next is) in
-      let done′ : planEffect (constantsOf x) p s .number ≡ 0 = sym (ap (λ (e : Effect). e .number) effect) ∙ done in
+      let effect : stepAt x at s .effect ≡ planEffect (x .constants) p s = ap (λ (t : Stepped). t .effect) (step-is x s at i next is) in
+      let done′ : planEffect (x .constants) p s .number ≡ 0 = sym (ap (λ (e : Effect). e .number) effect) ∙ done in
       let zero : p .number ≡ 0 = accepted p done′ in
       subst (λ (e : Effect). Leaves x p s (after e s)) (sym effect)
       (plan-leaves p (plan-sound (lengthsOf x s) (x .tables) good i zero) zero done′)
@@ -97,7 +97,7 @@ module _ (x : Setup) (s : State) (good : tablesGood (lengthsOf x s) (x .tables) 
     where
       told : (d : Answer (Read Instruction)) → instructionAt (x .kernel) at ≡ d → Completes x at s (stepAt x at s .next) (after (stepAt x at s .effect) s)
       told (answer.refused n) e =
-          absurd (refusal-not-zero (x .kernel) at n b e (sym (ap (λ (d : Answer (Read Instruction)). stepOf x (λ (p : Plan). planEffect (constantsOf x) p s) at d .effect .number) e) ∙ done))
+          absurd (refusal-not-zero (x .kernel) at n b e (sym (ap (λ (d : Answer (Read Instruction)). stepOf x (λ (p : Plan). planEffect (x .constants) p s) at d .effect .number) e) ∙ done))
       told (answer.done i) e =
           record {
             instruction = i .value;

@@ -1,5 +1,5 @@
 -- What one step leaves: the number, the next position and the state of the definition's step.
-use mathlib.Core.Path.{_≡_, refl, sym, ap, _∙_}
+use mathlib.Core.Path.{_≡_, refl, sym, ap, subst, _∙_}
 use mathlib.Core.List.{[]}
 use Prim.Native.Nat.{ℕ}
 use Rattle.cells.specs.Effect.{refused}
@@ -12,51 +12,33 @@ use Rattle.decoder.specs.Decoding.{instructionAt, decodedAnswer}
 use Rattle.plan.specs.declared.Plan.{Plan}
 use Rattle.plan.specs.Checked.{checked}
 use Rattle.step.specs.declared.Progress.{Progress}
-use Rattle.step.specs.State.{Setup, constantsOf, State}
+use Rattle.step.specs.State.{Setup, State}
 use Rattle.step.specs.Step.{planEffect, Stepped, stepAt, after}
-use Rattle.step.specs.Performed.{Performed, performed, planPerformed, Advanced, advanced, stepAdvanced}
 use Rattle.step.proofs.StepOf.{stepOf}
 use Rattle.step.proofs.Unwritten.{unwritten}
 
-module _ (x : Setup) (at : ℕ) (s : State) where
-  -- what a step of an effect comes to
-  abbrev made : Stepped → Advanced
-  made t = record { number = t .effect .number; next = t .next; state = after (t .effect) s }
+-- what the code gives of a step from this state, and the state that it leaves, are the step's
+abbrev pub Takes : State → Stepped → Progress → State → Type 0
+Takes s t p u = (p .number ≡ t .effect .number) × (p .next ≡ t .next) × (u ≡ after (t .effect) s)
 
+module _ (x : Setup) (at : ℕ) (s : State) where
   stepped : (d : Answer (Read Instruction)) → instructionAt (x .kernel) at ≡ d
-      → stepOf x (λ (p : Plan). planEffect (constantsOf x) p s) at d ≡ stepAt x at s
+      → stepOf x (λ (p : Plan). planEffect (x .constants) p s) at d ≡ stepAt x at s
   unfolding stepAt
-  stepped d e = ap (stepOf x (λ (p : Plan). planEffect (constantsOf x) p s) at) (sym e)
+  stepped d e = ap (stepOf x (λ (p : Plan). planEffect (x .constants) p s) at) (sym e)
 
   unchanged : (n : ℕ) → after (refused n) s ≡ s
   unchanged n = λ i. record { registers = unwritten [] (s .registers) refl i; surfaces = s .surfaces; memory = unwritten [] (s .memory) refl i }
 
   module _ (d : Decoded) (told : decodedAnswer d ≡ instructionAt (x .kernel) at) where
-    pub accepted-advances : (i : Instruction) (c : Cursor) (p : Plan) (n : ℕ) (u : State) → d ≡ decoded.Accepted i c → p ≡ checked (x .tables) i → performed n u ≡ planPerformed (constantsOf x) p s
-        → advanced (record { number = n; next = c .at }) u ≡ stepAdvanced x at s
-    unfolding stepAdvanced planPerformed
+    pub accepted-advances : (i : Instruction) (c : Cursor) (p : Plan) (n : ℕ) (u : State) → d ≡ decoded.Accepted i c → p ≡ checked (x .tables) i → (n ≡ planEffect (x .constants) p s .number) × (u ≡ after (planEffect (x .constants) p s) s)
+        → Takes s (stepAt x at s) (record { number = n; next = c .at }) u
     accepted-advances i c p n u is plan done =
-        ap (λ (q : Performed). advanced (record { number = q .number; next = c .at }) (q .state)) done
-        ∙ (ap (λ (p : Plan). made (record { next = c .at; effect = planEffect (constantsOf x) p s })) plan
-        ∙ ap made (stepped (decodedAnswer (decoded.Accepted i c)) (sym told ∙ ap decodedAnswer is)))
+        let taken : Takes s (record { next = c .at; effect = planEffect (x .constants) (checked (x .tables) i) s }) (record { number = n; next = c .at }) u =
+        (done .0 ∙ ap (λ (q : Plan). planEffect (x .constants) q s .number) plan, refl, done .1 ∙ ap (λ (q : Plan). after (planEffect (x .constants) q s) s) plan)
+        in
+        subst (λ (t : Stepped). Takes s t (record { number = n; next = c .at }) u) (stepped (decodedAnswer (decoded.Accepted i c)) (sym told ∙ ap decodedAnswer is)) taken
 
-    pub refusal-advances : (n : ℕ) → d ≡ decoded.Refused n → advanced (record { number = n; next = at }) s ≡ stepAdvanced x at s
-    unfolding stepAdvanced
+    pub refusal-advances : (n : ℕ) → d ≡ decoded.Refused n → Takes s (stepAt x at s) (record { number = n; next = at }) s
     refusal-advances n is =
-        ap (λ (u : State). advanced (record { number = n; next = at }) u) (sym (unchanged n))
-        ∙ ap made (stepped (decodedAnswer (decoded.Refused n)) (sym told ∙ ap decodedAnswer is))
-
--- the same, part by part
-pub record Advances (x : Setup) (at : ℕ) (s : State) (p : Progress) (u : State) : Type 0 where
-  pub number : p .number ≡ stepAt x at s .effect .number
-  pub next : p .next ≡ stepAt x at s .next
-  pub state : u ≡ after (stepAt x at s .effect) s
-
-pub step-advances : (x : Setup) (at : ℕ) (s : State) (p : Progress) (u : State) → advanced p u ≡ stepAdvanced x at s → Advances x at s p u
-unfolding stepAdvanced
-step-advances x at s p u told =
-    record {
-      number = ap (λ (a : Advanced). a .number) told;
-      next = ap (λ (a : Advanced). a .next) told;
-      state = ap (λ (a : Advanced). a .state) told;
-    }
+        subst (λ (t : Stepped). Takes s t (record { number = n; next = at }) s) (stepped (decodedAnswer (decoded.Refused n)) (sym told ∙ ap decodedAnswer is)) (refl, refl, sym (unchanged n))

@@ -19,7 +19,7 @@ use Rattle.shl.proofs.Untainted.{shl-alike}
 use Rattle.gather.proofs.Untainted.{gather-alike}
 use Rattle.scatter.specs.Scatter.{scatterEffect}
 use Rattle.scatter.proofs.Untainted.{scatter-alike}
-use Rattle.step.specs.State.{Setup, constantsOf, State}
+use Rattle.step.specs.State.{Setup, State}
 use Rattle.step.specs.Step.{acted, planEffect, Stepped, stepAt}
 use Rattle.step.proofs.StepOf.{stepOf}
 use Rattle.step.proofs.SameStep.{SameStep, RelatedStates, alike-steps, refused-steps}
@@ -28,22 +28,22 @@ abbrev pub AgreeingStates : State → State → Type 0
 AgreeingStates = RelatedStates SameUntainted
 
 module _ (x : Setup) (s u : State) (r : AgreeingStates s u) where
-  scattered : (p : Plan) (n m : ℕ) → m ≡ n → AlikeEffects (scatterEffect (record { base = x .base; length = n }) p (lanesOn (x .mask) p) (s .registers)) (scatterEffect (record { base = x .base; length = m }) p (lanesOn (x .mask) p) (u .registers))
-  scattered p n m e = rw e (scatter-alike (s .registers) (u .registers) (r .registers) p (record { base = x .base; length = n }) (lanesOn (x .mask) p))
+  scattered : (p : Plan) (n m : ℕ) → m ≡ n → AlikeEffects (scatterEffect (record { base = x .constants .base; length = n }) p (lanesOn (x .constants .mask) p) (s .registers)) (scatterEffect (record { base = x .constants .base; length = m }) p (lanesOn (x .constants .mask) p) (u .registers))
+  scattered p n m e = rw e (scatter-alike (s .registers) (u .registers) (r .registers) p (record { base = x .constants .base; length = n }) (lanesOn (x .constants .mask) p))
 
-  acted-alike : (o : Operation) (p : Plan) → AlikeEffects (acted (constantsOf x) o p s) (acted (constantsOf x) o p u)
+  acted-alike : (o : Operation) (p : Plan) → AlikeEffects (acted (x .constants) o p s) (acted (x .constants) o p u)
   unfolding acted
-  acted-alike operation.Shl p = shl-alike p (lanesOn (x .mask) p) (s .registers) (u .registers) (r .registers)
-  acted-alike operation.Gather p = gather-alike (s .registers) (u .registers) (s .surfaces) (u .surfaces) (r .registers) (r .surfaces) p (lanesOn (x .mask) p)
+  acted-alike operation.Shl p = shl-alike p (lanesOn (x .constants .mask) p) (s .registers) (u .registers) (r .registers)
+  acted-alike operation.Gather p = gather-alike (s .registers) (u .registers) (s .surfaces) (u .surfaces) (r .registers) (r .surfaces) p (lanesOn (x .constants .mask) p)
   acted-alike operation.Scatter p = scattered p (length (s .memory .bytes)) (length (u .memory .bytes)) (r .memory .bytes′)
-  acted-alike operation.Send p = record { number = refl; registers = none; memory = none }
+  acted-alike operation.Refused p = record { number = refl; registers = none; memory = none }
 
-  plan-alike : (p : Plan) → AlikeEffects (planEffect (constantsOf x) p s) (planEffect (constantsOf x) p u)
+  plan-alike : (p : Plan) → AlikeEffects (planEffect (x .constants) p s) (planEffect (x .constants) p u)
   unfolding planEffect
   plan-alike p = unless-alike (not (eqb (p .number) 0)) _ (p .number) _ _ refl (λ _. acted-alike (p .operation) p)
 
   abbrev stepped : State → ℕ → Answer (Read Instruction) → Stepped
-  stepped v at = stepOf x (λ (p : Plan). planEffect (constantsOf x) p v) at
+  stepped v at = stepOf x (λ (p : Plan). planEffect (x .constants) p v) at
 
   decoded-same : (at : ℕ) (d : Answer (Read Instruction)) → SameStep AgreeingStates (stepped s at d) (stepped u at d) s u
   decoded-same at (answer.refused n) = refused-steps SameUntainted s u r at n

@@ -23,13 +23,13 @@ firstOf (suc n) later = suc n
 
 -- 10, 11 and 12 of a scatter: an enabled lane, and an enabled pair of channel and lane, that fails
 unfoldable pub someDoubtful : Setup → Plan → State → Bool
-someDoubtful x p s = some (λ i. eitherTainted (s .registers .taint) (p .left) (p .right) i) (lanesOn (x .mask) p)
+someDoubtful x p s = some (λ i. eitherTainted (s .registers .taint) (p .left) (p .right) i) (lanesOn (x .constants .mask) p)
 
 unfoldable pub somePair : Setup → Plan → State → (ℕ → Bool) → Bool
-somePair x p s fails = some (λ c. some (λ i. fails (target (s .registers .bytes) p c i)) (lanesOn (x .mask) p)) (channelsOn p)
+somePair x p s fails = some (λ c. some (λ i. fails (target (s .registers .bytes) p c i)) (lanesOn (x .constants .mask) p)) (channelsOn p)
 
 abbrev pub window : Setup → State → Window
-window x s = record { base = x .base; length = length (s .memory .bytes) }
+window x s = record { base = x .constants .base; length = length (s .memory .bytes) }
 
 -- no other instruction has a test of its data
 unfoldable pub dataTests : Setup → Instruction → Plan → State → ℕ

@@ -10,13 +10,13 @@ use Rattle.gather.specs.Results as gather
 use Rattle.scatter.specs.Results as scatter
 use Rattle.step.specs.State.{Setup, State, lengthsOf}
 
--- no RAW_SEND is completed
+-- no refused plan is completed
 abbrev pub ResultsFor : Operation → Setup → Plan → State → State → Type 0
-ResultsFor operation.Shl x p s u = shl.LanesHold (x .mask) p (s .registers) (u .registers) × (u .memory ≡ s .memory)
-ResultsFor operation.Gather x p s u = gather.LanesHold (x .mask) p (s .surfaces) (s .registers) (u .registers) × (u .memory ≡ s .memory)
+ResultsFor operation.Shl x p s u = shl.LanesHold (x .constants .mask) p (s .registers) (u .registers) × (u .memory ≡ s .memory)
+ResultsFor operation.Gather x p s u = gather.LanesHold (x .constants .mask) p (s .surfaces) (s .registers) (u .registers) × (u .memory ≡ s .memory)
 ResultsFor operation.Scatter x p s u =
-    scatter.PairsHold (record { base = x .base; length = length (s .memory .bytes) }) (x .mask) p (s .registers) (s .memory) (u .memory) × (u .registers ≡ s .registers)
-ResultsFor operation.Send x p s u = ⊥
+    scatter.PairsHold (record { base = x .constants .base; length = length (s .memory .bytes) }) (x .constants .mask) p (s .registers) (s .memory) (u .memory) × (u .registers ≡ s .registers)
+ResultsFor operation.Refused x p s u = ⊥
 
 pub record Leaves (x : Setup) (p : Plan) (s u : State) : Type 0 where
   pub results : ResultsFor (p .operation) x p s u

@@ -1,7 +1,7 @@
 pub mod State
 pub mod Step
-pub mod Fits
-pub mod Performed
+pub mod Borrowed
+pub mod mirror
 pub mod Leaves
 pub mod FirstFailing
 pub mod Completes

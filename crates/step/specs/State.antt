@@ -8,16 +8,11 @@ use Rattle.tables.specs.declared.Lengths.{Lengths}
 use Rattle.tables.specs.Tables.{Tables}
 use Rattle.step.specs.declared.Constants.{Constants}
 
--- what stays the same; the mask is the paper's EM
+-- what stays the same; the mask of the constants is the paper's EM
 pub record Setup : Type 0 where
   pub kernel : List ℕ
   pub tables : Tables
-  pub base : ℕ
-  pub mask : ℕ
-
--- what an instruction may see of it
-abbrev pub constantsOf : Setup → Constants
-constantsOf x = record { base = x .base; mask = x .mask }
+  pub constants : Constants
 
 -- what instructions read and write
 pub record State : Type 0 where
@@ -25,8 +20,8 @@ pub record State : Type 0 where
   pub surfaces : Buffer
   pub memory : Buffer
 
-abbrev pub setup : List ℕ → Tables → ℕ → ℕ → Setup
-setup kernel tables base mask = record { kernel = kernel; tables = tables; base = base; mask = mask }
+abbrev pub setup : List ℕ → Tables → Constants → Setup
+setup kernel tables constants = record { kernel = kernel; tables = tables; constants = constants }
 
 abbrev pub state : List ℕ → List ℕ → List ℕ → List ℕ → List ℕ → List ℕ → State
 state registers registerTaint surfaces surfaceTaint memory memoryTaint =
@@ -40,7 +35,7 @@ lengthsOf x s =
       registers = length (s .registers .bytes);
       surfaces = length (s .surfaces .bytes);
       memory = length (s .memory .bytes);
-      base = x .base;
+      base = x .constants .base;
       taint = record {
         registers = length (s .registers .taint);
         surfaces = length (s .surfaces .taint);

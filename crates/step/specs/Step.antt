@@ -16,15 +16,15 @@ use Rattle.shl.specs.Shl.{shlEffect}
 use Rattle.gather.specs.Gather.{gatherEffect}
 use Rattle.scatter.specs.Scatter.{scatterEffect}
 use Rattle.step.specs.declared.Constants.{Constants}
-use Rattle.step.specs.State.{Setup, constantsOf, State}
+use Rattle.step.specs.State.{Setup, State}
 
--- no memory byte is read: memory enters by its length alone
+-- No memory byte is read: memory enters by its length alone. No accepted plan is without an operation; 9 would be its number.
 unfoldable pub acted : Constants → Operation → Plan → State → Effect
 acted c operation.Shl p s = shlEffect p (lanesOn (c .mask) p) (s .registers)
 acted c operation.Gather p s = gatherEffect p (lanesOn (c .mask) p) (s .registers) (s .surfaces)
 acted c operation.Scatter p s =
     scatterEffect (record { base = c .base; length = length (s .memory .bytes) }) p (lanesOn (c .mask) p) (s .registers)
-acted c operation.Send p s = refused 9
+acted c operation.Refused p s = refused 9
 
 -- the tests that look at no data come first
 unfoldable pub planEffect : Constants → Plan → State → Effect
@@ -39,7 +39,7 @@ unfoldable pub stepAt : Setup → ℕ → State → Stepped
 stepAt x at s =
     onAnswer (instructionAt (x .kernel) at)
     (λ n. record { next = at; effect = refused n })
-    (λ i. record { next = i .next; effect = planEffect (constantsOf x) (checked (x .tables) (i .value)) s })
+    (λ i. record { next = i .next; effect = planEffect (x .constants) (checked (x .tables) (i .value)) s })
 
 -- the state after an effect; surfaces are never written
 abbrev pub after : Effect → State → State

@@ -4,9 +4,11 @@ use plan::Operation;
 use plan::Plan;
 ghost use mathlib.Core.Path.{_≡_};
 ghost use Rattle.tables.specs.Tables.{tables};
-ghost use Rattle.step.specs.State.{setup, state};
-ghost use Rattle.step.specs.Fits.{Fits};
-ghost use Rattle.step.specs.Performed.{performed, planPerformed, advanced, stepAdvanced};
+ghost use Rattle.tables.specs.Borrowed.{variableTable, predicateTable, surfaceTable};
+ghost use Rattle.step.specs.State.{setup};
+ghost use Rattle.step.specs.Borrowed.{lent};
+ghost use Rattle.step.specs.Step.{planEffect, stepAt, after};
+ghost use Rattle.step.specs.mirror.Fits.{Fits};
 
 // What stays the same in a run beside the borrowed slices: the memory window's base, and the execution mask (EM).
 pub struct Constants {
@@ -33,7 +35,7 @@ fn perform(
     memory_taint: &mut [u8],
 ) -> u8
     requires { ⌜ Fits plan ⌝ }
-    ensures { λ r. ⌜ performed r (state (now (registers .exit)) (now («register_taint» .exit)) (now (surfaces .entry)) (now («surface_taint» .entry)) (now (memory .exit)) (now («memory_taint» .exit))) ≡ planPerformed constants plan (state (now (registers .entry)) (now («register_taint» .entry)) (now (surfaces .entry)) (now («surface_taint» .entry)) (now (memory .entry)) (now («memory_taint» .entry))) ⌝ }
+    ensures { λ r. let s = lent registers «register_taint» surfaces «surface_taint» memory «memory_taint» in let e = planEffect constants plan (s .entry) in ⌜ (r ≡ e .number) × (s .exit ≡ after e (s .entry)) ⌝ }
 {
     if 0 < plan.number {
         return plan.number;
@@ -58,7 +60,7 @@ fn perform(
             memory,
             memory_taint,
         ),
-        Operation::Send => 9,
+        Operation::Refused => 9,
     }
 }
 
@@ -79,7 +81,7 @@ pub fn step(
     memory: &mut [u8],
     memory_taint: &mut [u8],
 ) -> Progress
-    ensures { λ r. ⌜ advanced r (state (now (registers .exit)) (now («register_taint» .exit)) (now (surfaces .entry)) (now («surface_taint» .entry)) (now (memory .exit)) (now («memory_taint» .exit))) ≡ stepAdvanced (setup (now (kernel .entry)) (tables (now (types .entry)) (now (starts .entry)) (now (counts .entry)) (now (predicates .entry)) (now («surface_lengths» .entry))) (constants .base) (constants .mask)) at (state (now (registers .entry)) (now («register_taint» .entry)) (now (surfaces .entry)) (now («surface_taint» .entry)) (now (memory .entry)) (now («memory_taint» .entry))) ⌝ }
+    ensures { λ r. let s = lent registers «register_taint» surfaces «surface_taint» memory «memory_taint» in let t = stepAt (setup (now (kernel .entry)) (tables (variableTable types starts counts) (predicateTable predicates) (surfaceTable «surface_lengths»)) constants) at (s .entry) in ⌜ (r .number ≡ t .effect .number) × (r .next ≡ t .next) × (s .exit ≡ after (t .effect) (s .entry)) ⌝ }
 {
     match decoder::decode(kernel, at) {
         Decoded::Accepted(instruction, cursor) => {

@@ -9,23 +9,24 @@ use Rattle.element_types.specs.Types.{UD, UW, UB, F, UQ, sizeOf, isListed}
 use Rattle.element_types.proofs.Sizes.{sizes, size-listed, unlisted}
 use Rattle.tables.specs.declared.Lengths.{Lengths}
 use Rattle.tables.specs.Lengths.{registersGood, addressesGood, taintGood, lengthsGood}
-use Rattle.tables.specs.Every.{every}
-use Rattle.tables.specs.Variables.{lineGood, variableGood, variableGoodAt, variablesGood}
-use Rattle.tables.specs.Surfaces.{surfaceLength, surfaceStart, surfaceGoodAt, surfacesGood}
+use Rattle.channels.specs.Below.{everyBelow}
+use Rattle.tables.specs.Variables.{variables, lineGood, variableGood, variableGoodAt, variablesGood}
+use Rattle.tables.specs.Predicates.{predicates}
+use Rattle.tables.specs.Surfaces.{surfaces, surfaceLength, surfaceStart, surfaceGoodAt, surfacesGood}
 use Rattle.tables.specs.Tables.{Tables, tables, tablesGood}
 
 empty : Tables
-empty = tables [] [] [] [] []
+empty = tables (variables [] [] []) (predicates []) (surfaces [])
 
 lengths : ℕ → ℕ → ℕ → ℕ → ℕ → Lengths
-lengths kernel registers surfaces memory base =
+lengths kernel registers surfaceBytes memory base =
     record {
       kernel = kernel;
       registers = registers;
-      surfaces = surfaces;
+      surfaces = surfaceBytes;
       memory = memory;
       base = base;
-      taint = record { registers = registers; surfaces = surfaces; memory = memory };
+      taint = record { registers = registers; surfaces = surfaceBytes; memory = memory };
     }
 
 -- buffers alone
@@ -34,7 +35,7 @@ buffers kernel registers memory base = tablesGood (lengths kernel registers 0 me
 
 -- buffers of 32, 10 and 8 bytes with these taint lengths
 tainted : ℕ → ℕ → ℕ → Bool
-tainted registers surfaces memory =
+tainted registers surfaceBytes memory =
     tablesGood
     (record {
       kernel = 0;
@@ -42,24 +43,24 @@ tainted registers surfaces memory =
       surfaces = 10;
       memory = 8;
       base = 0;
-      taint = record { registers = registers; surfaces = surfaces; memory = memory };
+      taint = record { registers = registers; surfaces = surfaceBytes; memory = memory };
     })
-    (tables [] [] [] [] (10 ∷ []))
+    (tables (variables [] [] []) (predicates []) (surfaces (10 ∷ [])))
 
 -- one variable in a file of 64 bytes
 variable : ℕ → ℕ → ℕ → Bool
-variable code start count = tablesGood (lengths 0 64 0 0 0) (tables (code ∷ []) (start ∷ []) (count ∷ []) [] [])
+variable code start count = tablesGood (lengths 0 64 0 0 0) (tables (variables (code ∷ []) (start ∷ []) (count ∷ [])) (predicates []) (surfaces []))
 
 -- variables of one byte, as many as the three slices say
-variables : ℕ → ℕ → ℕ → Bool
-variables types starts counts =
-    tablesGood (lengths 0 64 0 0 0) (tables (replicate types UB) (replicate starts 0) (replicate counts 1) [] [])
+byteVariables : ℕ → ℕ → ℕ → Bool
+byteVariables types starts counts =
+    tablesGood (lengths 0 64 0 0 0) (tables (variables (replicate types UB) (replicate starts 0) (replicate counts 1)) (predicates []) (surfaces []))
 
-predicates : ℕ → Bool
-predicates n = tablesGood (lengths 0 0 0 0 0) (tables [] [] [] (replicate n 0) [])
+manyPredicates : ℕ → Bool
+manyPredicates n = tablesGood (lengths 0 0 0 0 0) (tables (variables [] [] []) (predicates (replicate n 0)) (surfaces []))
 
-surfaces : ℕ → List ℕ → Bool
-surfaces bytes table = tablesGood (lengths 0 0 bytes 0 0) (tables [] [] [] [] table)
+surfacesIn : ℕ → List ℕ → Bool
+surfacesIn bytes table = tablesGood (lengths 0 0 bytes 0 0) (tables (variables [] [] []) (predicates []) (surfaces table))
 
 listed : (code size : ℕ) → sizeOf code ≡ suc size → isListed code ≡ true
 listed code size e = size-listed code (omega arith)
@@ -78,7 +79,7 @@ lengths-at-edges : (buffers 0 0 0 0 ≡ true)
     × (tainted 31 10 8 ≡ false)
     × (tainted 32 11 8 ≡ false)
     × (tainted 32 10 0 ≡ false)
-unfolding empty lengths buffers tainted registersGood addressesGood taintGood lengthsGood every variablesGood surfaceLength surfaceStart surfaceGoodAt surfacesGood tablesGood
+unfolding empty lengths buffers tainted registersGood addressesGood taintGood lengthsGood everyBelow variablesGood surfaceLength surfaceStart surfaceGoodAt surfacesGood tablesGood
 lengths-at-edges = (refl, refl, refl, refl, refl, refl, refl, refl, refl, refl, refl, refl, refl, refl)
 
 variables-at-edges : (variable UD 32 8 ≡ true)
@@ -95,7 +96,7 @@ variables-at-edges : (variable UD 32 8 ≡ true)
     × (variable UQ 4 1 ≡ false)
     × (variable F 0 1 ≡ true)
     × (variable 6 0 1 ≡ false)
-unfolding lengths variable registersGood addressesGood taintGood lengthsGood every lineGood variableGood variableGoodAt variablesGood surfaceStart surfacesGood tablesGood
+unfolding lengths variable registersGood addressesGood taintGood lengthsGood everyBelow lineGood variableGood variableGoodAt variablesGood surfaceStart surfacesGood tablesGood
 variables-at-edges =
     simp (
       listed UD 3 (sizes .ud),
@@ -112,19 +113,19 @@ variables-at-edges =
     )
     (refl, refl, refl, refl, refl, refl, refl, refl, refl, refl, refl, refl, refl, refl)
 
-tables-at-edges : (variables 256 256 256 ≡ true)
-    × (variables 257 257 257 ≡ false)
-    × (variables 2 1 2 ≡ false)
-    × (variables 2 2 3 ≡ false)
-    × (predicates 64 ≡ true)
-    × (predicates 65 ≡ false)
-    × (surfaces 1024 (1024 ∷ []) ≡ true)
-    × (surfaces 1025 (1025 ∷ []) ≡ false)
-    × (surfaces 16 (10 ∷ 0 ∷ 6 ∷ []) ≡ true)
-    × (surfaces 15 (10 ∷ 0 ∷ 6 ∷ []) ≡ false)
-    × (surfaces 17 (10 ∷ 0 ∷ 6 ∷ []) ≡ false)
-    × (surfaces 8 (replicate 8 1) ≡ true)
-    × (surfaces 9 (replicate 9 1) ≡ false)
-unfolding lengths variables predicates surfaces registersGood addressesGood taintGood lengthsGood every lineGood variableGood variableGoodAt variablesGood surfaceLength surfaceStart surfaceGoodAt surfacesGood tablesGood
+tables-at-edges : (byteVariables 256 256 256 ≡ true)
+    × (byteVariables 257 257 257 ≡ false)
+    × (byteVariables 2 1 2 ≡ false)
+    × (byteVariables 2 2 3 ≡ false)
+    × (manyPredicates 64 ≡ true)
+    × (manyPredicates 65 ≡ false)
+    × (surfacesIn 1024 (1024 ∷ []) ≡ true)
+    × (surfacesIn 1025 (1025 ∷ []) ≡ false)
+    × (surfacesIn 16 (10 ∷ 0 ∷ 6 ∷ []) ≡ true)
+    × (surfacesIn 15 (10 ∷ 0 ∷ 6 ∷ []) ≡ false)
+    × (surfacesIn 17 (10 ∷ 0 ∷ 6 ∷ []) ≡ false)
+    × (surfacesIn 8 (replicate 8 1) ≡ true)
+    × (surfacesIn 9 (replicate 9 1) ≡ false)
+unfolding lengths byteVariables manyPredicates surfacesIn registersGood addressesGood taintGood lengthsGood everyBelow lineGood variableGood variableGoodAt variablesGood surfaceLength surfaceStart surfaceGoodAt surfacesGood tablesGood
 tables-at-edges =
     simp (listed UB 0 (sizes .ub), sizes .ub) (refl, refl, refl, refl, refl, refl, refl, refl, refl, refl, refl, refl, refl)

@@ -17,14 +17,14 @@ use Rattle.tables.proofs.Placement.{Placed}
 use Rattle.tables.proofs.SurfacePlaces as places
 
 pub record Counted (t : Tables) : Type 0 where
-  pub variables-few : length (t .types) ≤ 256
-  pub starts-length : length (t .starts) ≡ length (t .types)
-  pub counts-length : length (t .counts) ≡ length (t .types)
-  pub predicates-few : length (t .predicates) ≤ 64
-  pub surfaces-few : length (t .surfaces) ≤ 8
+  pub variables-few : length (t .variables .types) ≤ 256
+  pub starts-length : length (t .variables .starts) ≡ length (t .variables .types)
+  pub counts-length : length (t .variables .counts) ≡ length (t .variables .types)
+  pub predicates-few : length (t .predicates .bits) ≤ 64
+  pub surfaces-few : length (t .surfaces .lengths) ≤ 8
 
 module _ (l : Lengths) (t : Tables) (good : tablesGood l t ≡ true) where
-  tests : All4 (lengthsGood l) (variablesGood (l .registers) (t .types) (t .starts) (t .counts)) (leb (length (t .predicates)) 64)
+  tests : All4 (lengthsGood l) (variablesGood (l .registers) (t .variables)) (leb (length (t .predicates .bits)) 64)
       (surfacesGood (l .surfaces) (t .surfaces))
   unfolding tablesGood
   tests = all4 _ _ _ _ good
@@ -36,20 +36,20 @@ module _ (l : Lengths) (t : Tables) (good : tablesGood l t ≡ true) where
   counted =
       let v = tests .second in
       record {
-        variables-few = placement.variables-few _ _ _ _ v;
-        starts-length = placement.starts-length _ _ _ _ v;
-        counts-length = placement.counts-length _ _ _ _ v;
+        variables-few = placement.variables-few _ _ v;
+        starts-length = placement.starts-length _ _ v;
+        counts-length = placement.counts-length _ _ v;
         predicates-few = leb-true _ _ (tests .third);
         surfaces-few = places.surfaces-few _ _ (tests .fourth);
       }
 
-  pub placed : (k : ℕ) → k < length (t .types) → Placed (l .registers) (getD (t .types) k 0) (getD (t .starts) k 0) (getD (t .counts) k 0)
-  placed = placement.variable-placed _ _ _ _ (tests .second)
+  pub placed : (k : ℕ) → k < length (t .variables .types) → Placed (l .registers) (getD (t .variables .types) k 0) (getD (t .variables .starts) k 0) (getD (t .variables .counts) k 0)
+  placed = placement.variable-placed _ _ (tests .second)
 
-  pub surface-inside : (k : ℕ) → k < length (t .surfaces) → surfaceStart (t .surfaces) k + surfaceLength (t .surfaces) k ≤ l .surfaces
+  pub surface-inside : (k : ℕ) → k < length (t .surfaces .lengths) → surfaceStart (t .surfaces) k + surfaceLength (t .surfaces) k ≤ l .surfaces
   surface-inside = places.surface-inside _ _ (tests .fourth)
 
-  pub surface-small : (k : ℕ) → k < length (t .surfaces) → surfaceLength (t .surfaces) k ≤ 1024
+  pub surface-small : (k : ℕ) → k < length (t .surfaces .lengths) → surfaceLength (t .surfaces) k ≤ 1024
   surface-small = places.surface-small _ _ (tests .fourth)
 
   pub surfaces-small : l .surfaces ≤ 8192

@@ -1,7 +1,6 @@
 -- Where a good variable lies in the register file: each test of `variableGood` as a fact, for every variable of a good table.
 use mathlib.Core.Path.{_≡_}
 use mathlib.Core.Bool.{true, _&&_}
-use mathlib.Core.List.{List}
 use Prim.Native.Nat.{ℕ, _+_, _*_, _-_, _/_, _%_, _≤_, _<_}
 use lib.Dec.{leb, eqb}
 use lib.ListN.{length, getD}
@@ -9,8 +8,8 @@ use borrow.Author.Tests.{leb-true, eqb-true, le-leb, lt-leb}
 use Rattle.element_types.specs.Types.{sizeOf, isListed}
 use Rattle.element_types.proofs.Sizes.{listed-size}
 use Rattle.tables.specs.Lengths.{registerSize}
-use Rattle.tables.specs.Every.{every}
-use Rattle.tables.specs.Variables.{lineGood, variableGood, variableGoodAt, variablesGood}
+use Rattle.channels.specs.Below.{everyBelow}
+use Rattle.tables.specs.Variables.{Variables, lineGood, variableGood, variableGoodAt, variablesGood}
 use Rattle.tables.proofs.All.{All4, left, right, all4}
 use Rattle.tables.proofs.Every.{every-each}
 
@@ -54,23 +53,23 @@ good-placed registers code start count h =
     }
 
 -- a good table of variables
-module _ (registers : ℕ) (types starts counts : List ℕ) (good : variablesGood registers types starts counts ≡ true) where
-  tests : All4 (leb (length types) 256) (eqb (length starts) (length types)) (eqb (length counts) (length types))
-      (every (variableGoodAt registers types starts counts) (length types))
+module _ (registers : ℕ) (t : Variables) (good : variablesGood registers t ≡ true) where
+  tests : All4 (leb (length (t .types)) 256) (eqb (length (t .starts)) (length (t .types))) (eqb (length (t .counts)) (length (t .types)))
+      (everyBelow (length (t .types)) (variableGoodAt registers t))
   unfolding variablesGood
   tests = all4 _ _ _ _ good
 
-  pub variables-few : length types ≤ 256
-  variables-few = leb-true (length types) 256 (tests .first)
+  pub variables-few : length (t .types) ≤ 256
+  variables-few = leb-true (length (t .types)) 256 (tests .first)
 
-  pub starts-length : length starts ≡ length types
-  starts-length = eqb-true (length starts) (length types) (tests .second)
+  pub starts-length : length (t .starts) ≡ length (t .types)
+  starts-length = eqb-true (length (t .starts)) (length (t .types)) (tests .second)
 
-  pub counts-length : length counts ≡ length types
-  counts-length = eqb-true (length counts) (length types) (tests .third)
+  pub counts-length : length (t .counts) ≡ length (t .types)
+  counts-length = eqb-true (length (t .counts)) (length (t .types)) (tests .third)
 
-  pub variable-placed : (k : ℕ) → k < length types → Placed registers (getD types k 0) (getD starts k 0) (getD counts k 0)
+  pub variable-placed : (k : ℕ) → k < length (t .types) → Placed registers (getD (t .types) k 0) (getD (t .starts) k 0) (getD (t .counts) k 0)
   unfolding variableGoodAt
   variable-placed k h =
-      good-placed registers (getD types k 0) (getD starts k 0) (getD counts k 0)
-      (every-each (variableGoodAt registers types starts counts) (length types) (tests .fourth) k h)
+      good-placed registers (getD (t .types) k 0) (getD (t .starts) k 0) (getD (t .counts) k 0)
+      (every-each (variableGoodAt registers t) (length (t .types)) (tests .fourth) k h)

@@ -1,5 +1,6 @@
 pub mod Lengths
-pub mod Every
 pub mod Variables
+pub mod Predicates
 pub mod Surfaces
 pub mod Tables
+pub mod Borrowed

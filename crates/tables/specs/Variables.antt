@@ -1,4 +1,4 @@
--- The table of variables: where each may lie in the register file. Document 01, "Tables and sizes".
+-- The table of variables, and where each may lie in the register file. Document 01, "Tables and sizes".
 use Prim.Native.Nat.{ℕ, _+_, _*_, _-_, _/_, _%_}
 use mathlib.Core.Bool.{Bool, cond, _&&_}
 use mathlib.Core.List.{List}
@@ -6,7 +6,16 @@ use lib.Dec.{leb, eqb}
 use lib.ListN.{length, getD}
 use Rattle.element_types.specs.Types.{sizeOf, isListed}
 use Rattle.tables.specs.Lengths.{registerSize}
-use Rattle.tables.specs.Every.{every}
+use Rattle.channels.specs.Below.{everyBelow}
+
+-- variable k has the k-th type, start byte and element count
+pub record Variables : Type 0 where
+  pub types : List ℕ
+  pub starts : List ℕ
+  pub counts : List ℕ
+
+abbrev pub variables : List ℕ → List ℕ → List ℕ → Variables
+variables types starts counts = record { types = types; starts = starts; counts = counts }
 
 -- "at a multiple of 32 if it is 32 bytes or longer, and otherwise crosses no 32-byte line": the line of its first byte is that of its last
 unfoldable pub lineGood : ℕ → ℕ → Bool
@@ -25,14 +34,13 @@ variableGood registers code start count =
     && eqb (start % sizeOf code) 0
     && lineGood start (count * sizeOf code)
 
--- variable k has the k-th type, start and count
-unfoldable pub variableGoodAt : ℕ → List ℕ → List ℕ → List ℕ → ℕ → Bool
-variableGoodAt registers types starts counts k = variableGood registers (getD types k 0) (getD starts k 0) (getD counts k 0)
+unfoldable pub variableGoodAt : ℕ → Variables → ℕ → Bool
+variableGoodAt registers t k = variableGood registers (getD (t .types) k 0) (getD (t .starts) k 0) (getD (t .counts) k 0)
 
 -- "At most 256 variables"; the table's three slices are of one length
-unfoldable pub variablesGood : ℕ → List ℕ → List ℕ → List ℕ → Bool
-variablesGood registers types starts counts =
-    leb (length types) 256
-    && eqb (length starts) (length types)
-    && eqb (length counts) (length types)
-    && every (variableGoodAt registers types starts counts) (length types)
+unfoldable pub variablesGood : ℕ → Variables → Bool
+variablesGood registers t =
+    leb (length (t .types)) 256
+    && eqb (length (t .starts)) (length (t .types))
+    && eqb (length (t .counts)) (length (t .types))
+    && everyBelow (length (t .types)) (variableGoodAt registers t)

@@ -3,10 +3,11 @@ ghost use mathlib.Core.Path.{_≡_};
 ghost use Prim.Native.Nat.{_+_, _<_, _≤_};
 ghost use lib.ListN.{length};
 ghost use Rattle.tables.specs.Lengths.{registersGood, addressesGood, taintGood, lengthsGood};
-ghost use Rattle.tables.specs.Every.{every};
+ghost use Rattle.channels.specs.Below.{everyBelow};
 ghost use Rattle.tables.specs.Variables.{lineGood, variableGood, variableGoodAt, variablesGood};
 ghost use Rattle.tables.specs.Surfaces.{surfaceLength, surfaceStart, surfaceGoodAt, surfacesGood};
 ghost use Rattle.tables.specs.Tables.{tables, tablesGood};
+ghost use Rattle.tables.specs.Borrowed.{variableTable, predicateTable, surfaceTable};
 
 pub const REGISTER_SIZE: usize = 32;
 
@@ -110,7 +111,7 @@ fn variable_good(registers: usize, code: u8, start: u16, count: u16) -> bool
 
 fn every_variable_good(registers: usize, types: &[u8], starts: &[u16], counts: &[u16]) -> bool
     requires { ⌜ (length (now starts) ≡ length (now types)) × (length (now counts) ≡ length (now types)) ⌝ }
-    ensures { λ r. ⌜ r ≡ every (variableGoodAt registers (now (types .entry)) (now (starts .entry)) (now (counts .entry))) (length (now (types .entry))) ⌝ }
+    ensures { λ r. ⌜ r ≡ everyBelow (length (now (types .entry))) (variableGoodAt registers (variableTable types starts counts)) ⌝ }
 {
     let mut i = 0;
     while i < types.len() {
@@ -123,7 +124,7 @@ fn every_variable_good(registers: usize, types: &[u8], starts: &[u16], counts: &
 }
 
 fn variables_good(registers: usize, types: &[u8], starts: &[u16], counts: &[u16]) -> bool
-    ensures { λ r. ⌜ r ≡ variablesGood registers (now (types .entry)) (now (starts .entry)) (now (counts .entry)) ⌝ }
+    ensures { λ r. ⌜ r ≡ variablesGood registers (variableTable types starts counts) ⌝ }
 {
     if 256 < types.len() {
         return false;
@@ -139,7 +140,7 @@ fn variables_good(registers: usize, types: &[u8], starts: &[u16], counts: &[u16]
 
 // The bytes of a surface, 0 for one that is not in the table.
 pub fn surface_length(surfaces: &[u16], index: u8) -> u16
-    ensures { λ r. ⌜ r ≡ surfaceLength (now (surfaces .entry)) index ⌝ }
+    ensures { λ r. ⌜ r ≡ surfaceLength (surfaceTable surfaces) index ⌝ }
 {
     let i = index as usize;
     if i < surfaces.len() { surfaces[i] } else { 0 }
@@ -147,7 +148,7 @@ pub fn surface_length(surfaces: &[u16], index: u8) -> u16
 
 // Where a surface begins in the surface buffer: the lengths before it, added up.
 pub fn surface_start(surfaces: &[u16], index: u8) -> usize
-    ensures { λ r. ⌜ r ≡ surfaceStart (now (surfaces .entry)) index ⌝ }
+    ensures { λ r. ⌜ r ≡ surfaceStart (surfaceTable surfaces) index ⌝ }
 {
     let mut sum: usize = 0;
     let mut i: u8 = 0;
@@ -159,7 +160,7 @@ pub fn surface_start(surfaces: &[u16], index: u8) -> usize
 }
 
 fn every_surface_good(surfaces: &[u16]) -> bool
-    ensures { λ r. ⌜ r ≡ every (surfaceGoodAt (now (surfaces .entry))) (length (now (surfaces .entry))) ⌝ }
+    ensures { λ r. ⌜ r ≡ everyBelow (length (now (surfaces .entry))) (surfaceGoodAt (surfaceTable surfaces)) ⌝ }
 {
     let mut i = 0;
     while i < surfaces.len() {
@@ -172,7 +173,7 @@ fn every_surface_good(surfaces: &[u16]) -> bool
 }
 
 fn surfaces_good(bytes: usize, surfaces: &[u16]) -> bool
-    ensures { λ r. ⌜ r ≡ surfacesGood bytes (now (surfaces .entry)) ⌝ }
+    ensures { λ r. ⌜ r ≡ surfacesGood bytes (surfaceTable surfaces) ⌝ }
 {
     if 8 < surfaces.len() {
         return false;
@@ -192,7 +193,7 @@ pub fn tables_good(
     predicates: &[u32],
     surfaces: &[u16],
 ) -> bool
-    ensures { λ r. ⌜ r ≡ tablesGood lengths (tables (now (types .entry)) (now (starts .entry)) (now (counts .entry)) (now (predicates .entry)) (now (surfaces .entry))) ⌝ }
+    ensures { λ r. ⌜ r ≡ tablesGood lengths (tables (variableTable types starts counts) (predicateTable predicates) (surfaceTable surfaces)) ⌝ }
 {
     if !lengths_good(lengths) {
         return false;

@@ -15,7 +15,7 @@ use Rattle.step.specs.State.{Setup, State, lengthsOf}
 use Rattle.step.specs.Step.{stepAt, after}
 use Rattle.step.proofs.Kept.{refused-step-keeps}
 use Rattle.step.proofs.Plain.{PlainStates, step-plain}
-use Rattle.run.specs.Run.{Outcome, stopped, runFrom, run}
+use Rattle.run.specs.Run.{Outcome, stopped, runThrough, run}
 use Rattle.run.specs.PlainRun.{unmarked}
 use Rattle.run.proofs.Simulation.{run-keeps, runs-same-where}
 use Rattle.run.proofs.Whole.{run-is, plain-run-is}
@@ -35,7 +35,7 @@ step-keeps x at s r = told (stepAt x at s .effect .number) refl
     told (suc n) e = rw (refused-step-keeps x at s (λ (h : stepAt x at s .effect .number ≡ 0). omega (arith, e, h))) r
 
 module _ (x : Setup) (s : State) where
-  judged-unmarked : (q : Bool) → tablesGood (lengthsOf x s) (x .tables) ≡ q → NoMarks s → NoMarks (cond q (runFrom (stepAt x) (length (x .kernel)) (length (x .kernel)) 0 0 s) (stopped 13 0 0 s) .state)
+  judged-unmarked : (q : Bool) → tablesGood (lengthsOf x s) (x .tables) ≡ q → NoMarks s → NoMarks (cond q (runThrough x s) (stopped 13 0 0 s) .state)
   judged-unmarked true good z =
       let l = limited (lengthsOf x s) (x .tables) good in
       let r = run-keeps (λ u. PlainStates u u) (stepAt x) (step-keeps x) (length (x .kernel)) (length (x .kernel)) 0 0 s (record {
@@ -83,7 +83,7 @@ lengths-unmarked x s l =
       registers = length (s .registers .bytes);
       surfaces = length (s .surfaces .bytes);
       memory = length (s .memory .bytes);
-      base = x .base;
+      base = x .constants .base;
       taint = record {
         registers = unmarked-length (s .registers) (l .registers-taint) i;
         surfaces = unmarked-length (s .surfaces) (l .surfaces-taint) i;
@@ -93,7 +93,7 @@ lengths-unmarked x s l =
 
 module _ (x : Setup) (s : State) where
   abbrev judged : Bool → State → Outcome
-  judged q u = cond q (runFrom (stepAt x) (length (x .kernel)) (length (x .kernel)) 0 0 u) (stopped 13 0 0 u)
+  judged q u = cond q (runThrough x u) (stopped 13 0 0 u)
 
   started-same : Limited (lengthsOf x s) → judged true s .answer .number ≢ 10 → SameAnswerAndBytes (judged true s) (judged true (without-marks s))
   started-same l sure =

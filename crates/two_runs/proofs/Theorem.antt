@@ -11,10 +11,10 @@ use Rattle.tables.proofs.Laws.{limited}
 use Rattle.step.specs.State.{Setup, State, lengthsOf}
 use Rattle.step.specs.Step.{stepAt}
 use Rattle.step.proofs.Untainted.{AgreeingStates, step-same}
-use Rattle.run.specs.Run.{stopped, runFrom, run}
+use Rattle.run.specs.Run.{stopped, runThrough}
 use Rattle.run.proofs.Simulation.{runs-same}
 use Rattle.run.proofs.Whole.{run-is}
-use Rattle.two_runs.specs.TwoRuns.{Agree, Agrees, SameRun}
+use Rattle.two_runs.specs.TwoRuns.{Agree, Agrees, SameRun, TwoRuns}
 
 to-agreeing : {b c : Buffer} → length (b .taint) ≡ length (b .bytes) → Agree b c → Agreeing b c
 to-agreeing e a =
@@ -36,7 +36,7 @@ lengths-same x {s} {u} a =
       registers = sym (a .registers .size) i;
       surfaces = sym (a .surfaces .size) i;
       memory = sym (a .memory .size) i;
-      base = x .base;
+      base = x .constants .base;
       taint = record {
         registers = ap length (a .registers .marks) i;
         surfaces = ap length (a .surfaces .marks) i;
@@ -46,7 +46,7 @@ lengths-same x {s} {u} a =
 
 module _ (x : Setup) where
   -- whether 13 is given or not
-  judged-same : (s u : State) → Agrees s u → (q : Bool) → tablesGood (lengthsOf x s) (x .tables) ≡ q → SameRun (cond q (runFrom (stepAt x) (length (x .kernel)) (length (x .kernel)) 0 0 s) (stopped 13 0 0 s)) (cond q (runFrom (stepAt x) (length (x .kernel)) (length (x .kernel)) 0 0 u) (stopped 13 0 0 u))
+  judged-same : (s u : State) → Agrees s u → (q : Bool) → tablesGood (lengthsOf x s) (x .tables) ≡ q → SameRun (cond q (runThrough x s) (stopped 13 0 0 s)) (cond q (runThrough x u) (stopped 13 0 0 u))
   judged-same s u a true good =
       let l = limited (lengthsOf x s) (x .tables) good in
       let r = runs-same AgreeingStates (stepAt x) (stepAt x) (step-same x) (length (x .kernel)) (length (x .kernel)) 0 0 s u (record {
@@ -64,6 +64,6 @@ module _ (x : Setup) where
       }
   judged-same s u a false good = record { answer = refl; state = a }
 
-  pub two-runs : (s u : State) → Agrees s u → SameRun (run x s) (run x u)
+  pub two-runs : (s u : State) → TwoRuns x s u
   two-runs s u a =
-      rw (run-is x s, run-is x u, ← lengths-same x a) (judged-same s u a (tablesGood (lengthsOf x s) (x .tables)) refl)
+      rw (run-is x s, run-is x u, ← lengths-same x {s = s} {u = u} a) (judged-same s u a (tablesGood (lengthsOf x s) (x .tables)) refl)

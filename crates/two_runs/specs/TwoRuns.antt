@@ -4,8 +4,8 @@ use mathlib.Core.Path.{_≡_}
 use Prim.Native.Nat.{ℕ}
 use lib.ListN.{length, getD}
 use Rattle.cells.specs.Buffer.{Buffer}
-use Rattle.step.specs.State.{State}
-use Rattle.run.specs.Run.{Outcome}
+use Rattle.step.specs.State.{Setup, State}
+use Rattle.run.specs.Run.{Outcome, run}
 
 -- equal lengths and marks, and equal bytes wherever the mark byte is 0 or missing
 pub record Agree (b c : Buffer) : Type 0 where
@@ -22,3 +22,7 @@ pub record Agrees (s u : State) : Type 0 where
 pub record SameRun (r q : Outcome) : Type 0 where
   pub answer : r .answer ≡ q .answer
   pub state : Agrees (r .state) (q .state)
+
+-- the claim: one setup, so equal kernel, tables, base and mask
+abbrev pub TwoRuns : Setup → State → State → Type 0
+TwoRuns x s u = Agrees s u → SameRun (run x s) (run x u)

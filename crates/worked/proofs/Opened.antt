@@ -11,22 +11,21 @@ use Rattle.channels.specs.Bits.{bit, bitField}
 use Rattle.channels.specs.Exec.{execReserved, execSize, maskControl, maskNumber, execOffset, noMask}
 use Rattle.channels.specs.Lanes.{anyBit, allBits, combined, inverted, predicateAgrees, maskAllows, laneOn}
 use Rattle.channels.specs.Predicate.{hasPredicate, predicateId, predicateCombine, predicateReserved, predicateInverse}
-use Rattle.tables.specs.Every.{every}
 use Rattle.tables.specs.Lengths.{registersGood, addressesGood, taintGood, lengthsGood}
 use Rattle.tables.specs.Surfaces.{surfaceLength, surfaceStart, surfaceGoodAt, surfacesGood}
 use Rattle.tables.specs.Tables.{tablesGood}
 use Rattle.tables.specs.Variables.{lineGood, variableGood, variableGoodAt, variablesGood}
 use Rattle.regions.specs.Positions.{filled, lanePositions, elementByte}
-use Rattle.regions.specs.Reach.{smaller, larger, highest, insideVariable, twoRegisters, reachGood, elementsGood}
-use Rattle.regions.specs.Regions.{verticalCode, widthCode, horizontalCode, strideOf, between, sourceRegionGood, scalarRegionGood, destinationRegionGood, firstElement, sourceElement, elementOf}
+use Rattle.regions.specs.Reach.{highest, insideVariable, twoRegisters, reachGood, elementsGood}
+use Rattle.regions.specs.Regions.{verticalCode, widthCode, horizontalCode, strideOf, between, sourceRegionGood, scalarRegionGood, destinationRegionGood, regionAllowed, firstElement, sourceElement, elementOf}
 use Rattle.operands.specs.Allowed.{shiftType, dwordType, typeAllowed}
-use Rattle.operands.specs.Elements.{registerElements, lowBytes, immediateElement}
-use Rattle.operands.specs.Operands.{generalOf, immediateOf, vectorAt, rawGood, rawOf}
+use Rattle.operands.specs.Elements.{registerElements, lowBytes, immediateElement, refusedOperand}
+use Rattle.operands.specs.Operands.{generalOf, locatedGeneral, immediateOf, locatedImmediate, locatedVector, rawGood, rawOf, locatedRaw}
 use Rattle.operands.specs.Variables.{inTable, variableAt}
-use Rattle.plan.specs.Checked.{shlDst, shlSrc0, shlSrc1, checkedShl, gatherOffset, gatherElementOffset, gatherDst, checkedGather, surfacePart, checkedSurface, scatterAddress, scatterElementOffset, scatterSrc, checkedScatter, sendDesc, sendSrc, sendDst, checkedSend, checkedOperands, checked}
+use Rattle.plan.specs.Checked.{shlDst, shlSrc0, shlSrc1, checkedShl, gatherOffset, gatherElementOffset, gatherDst, checkedGatherOperands, surfacePart, checkedGather, scatterAddress, scatterElementOffset, scatterSrc, checkedScatter, sendDesc, sendSrc, sendDst, checkedSend, checkedOperands, checked}
 use Rattle.plan.specs.Control.{controlOf, controlRefusal, predicateBits}
 use Rattle.plan.specs.Needed.{elementsNeeded, enabledBelow, channelStride, scatterNeeded, registersNeeded, blockBytes}
-use Rattle.plan.specs.Plans.{tested, shlPlan, gatherPlan, scatterPlan}
+use Rattle.plan.specs.Plans.{refusedPlan, tested, shlPlan, gatherPlan, scatterPlan}
 use Rattle.cells.specs.Buffer.{isTainted, markOf, anyTainted}
 use Rattle.cells.specs.Effect.{unless}
 use Rattle.cells.specs.Over.{amongFrom, among, each, some}
@@ -41,13 +40,9 @@ use Rattle.step.specs.Step.{acted, planEffect, stepAt}
 use Rattle.run.specs.Run.{runFrom, run}
 use Rattle.fields.specs.Rules as rules
 use Rattle.field_groups.specs.Reading as groups
-use Rattle.operands.specs.Elements as elements
-use Rattle.operands.specs.Operands as operands
 use Rattle.regions.specs.Reach as reach
-use Rattle.regions.specs.Regions as regions
-use Rattle.plan.specs.Plans as plans
 use Rattle.shift.specs.Exact as exact
 
 unfoldable pub opened : Type 0
-unfolding numberAt wholeAt readAt judgedRead byteFieldAt wordFieldAt dwordFieldAt judged execGood scatterExecGood predicateGood rules.regionGood channelsGood sourceCountGood classGood tagGood tagRefusal byteRefusal wordRefusal controlAt groups.generalAt highWordAt groups.immediateAt operandAt groups.rawAt scalarAndRawsAt accessAt messageAt shlAt gatherAt scatterAt svmAt rawSendAt instructionAt sizeOf isListed isSigned hasHighWord someBelow everyBelow bit bitField execReserved execSize maskControl maskNumber execOffset noMask anyBit allBits combined inverted predicateAgrees maskAllows laneOn hasPredicate predicateId predicateCombine predicateReserved predicateInverse every registersGood addressesGood taintGood lengthsGood surfaceLength surfaceStart surfaceGoodAt surfacesGood tablesGood lineGood variableGood variableGoodAt variablesGood shiftType dwordType typeAllowed filled lanePositions elementByte registerElements lowBytes immediateElement elements.refusal elementsGood generalOf operands.generalAt immediateOf operands.immediateAt vectorAt rawGood rawOf operands.rawAt smaller larger reach.lowest highest insideVariable twoRegisters reachGood verticalCode widthCode horizontalCode strideOf between sourceRegionGood scalarRegionGood destinationRegionGood regions.regionGood firstElement sourceElement elementOf inTable variableAt shlDst shlSrc0 shlSrc1 checkedShl gatherOffset gatherElementOffset gatherDst checkedGather surfacePart checkedSurface scatterAddress scatterElementOffset scatterSrc checkedScatter sendDesc sendSrc sendDst checkedSend checkedOperands checked controlOf controlRefusal predicateBits elementsNeeded enabledBelow channelStride scatterNeeded registersNeeded blockBytes plans.refusal tested shlPlan gatherPlan scatterPlan isTainted markOf anyTainted unless amongFrom among each some writtenAll numberWrites copyWrites span exact.lowest exactly modulo shifted lanesOn elementValue elementTainted eitherTainted shlValue shlMark shlLane shlEffect gatherAddress isRead gatheredByte gatheredMark gatherWrites gatherLane gatherEffect channelsOn targetAddress target sourceByte misaligned outside scatterPair scatterEffect runFrom run acted planEffect stepAt
+unfolding numberAt wholeAt readAt judgedRead byteFieldAt wordFieldAt dwordFieldAt judged execGood scatterExecGood predicateGood rules.regionGood channelsGood sourceCountGood classGood tagGood tagRefusal byteRefusal wordRefusal controlAt groups.generalAt highWordAt groups.immediateAt operandAt groups.rawAt scalarAndRawsAt accessAt messageAt shlAt gatherAt scatterAt svmAt rawSendAt instructionAt sizeOf isListed isSigned hasHighWord someBelow everyBelow bit bitField execReserved execSize maskControl maskNumber execOffset noMask anyBit allBits combined inverted predicateAgrees maskAllows laneOn hasPredicate predicateId predicateCombine predicateReserved predicateInverse registersGood addressesGood taintGood lengthsGood surfaceLength surfaceStart surfaceGoodAt surfacesGood tablesGood lineGood variableGood variableGoodAt variablesGood shiftType dwordType typeAllowed filled lanePositions elementByte registerElements lowBytes immediateElement refusedOperand elementsGood generalOf locatedGeneral immediateOf locatedImmediate locatedVector rawGood rawOf locatedRaw reach.lowest highest insideVariable twoRegisters reachGood verticalCode widthCode horizontalCode strideOf between sourceRegionGood scalarRegionGood destinationRegionGood regionAllowed firstElement sourceElement elementOf inTable variableAt shlDst shlSrc0 shlSrc1 checkedShl gatherOffset gatherElementOffset gatherDst checkedGatherOperands surfacePart checkedGather scatterAddress scatterElementOffset scatterSrc checkedScatter sendDesc sendSrc sendDst checkedSend checkedOperands checked controlOf controlRefusal predicateBits elementsNeeded enabledBelow channelStride scatterNeeded registersNeeded blockBytes refusedPlan tested shlPlan gatherPlan scatterPlan isTainted markOf anyTainted unless amongFrom among each some writtenAll numberWrites copyWrites span exact.lowest exactly modulo shifted lanesOn elementValue elementTainted eitherTainted shlValue shlMark shlLane shlEffect gatherAddress isRead gatheredByte gatheredMark gatherWrites gatherLane gatherEffect channelsOn targetAddress target sourceByte misaligned outside scatterPair scatterEffect runFrom run acted planEffect stepAt
 opened = Unit {0}

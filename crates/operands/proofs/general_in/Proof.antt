@@ -3,18 +3,18 @@ use mathlib.Core.Path.{ap}
 use borrow.Author.Needs.{needs}
 use Rattle.channels.specs.declared.Exec.{Exec}
 use Rattle.operands.specs.Variables.{inTable}
-use Rattle.operands.specs.Operands.{generalAt}
+use Rattle.operands.specs.Operands.{locatedGeneral}
 use Rattle.operands.proofs.general_in.Statement.{statement}
 use Rattle.operands.proofs.general_in.Tie as tie
 
 returns : tie.Need-returns
-unfolding generalAt inTable
+unfolding locatedGeneral inTable
 returns c =
     let a = c .before in
     rw (a .if1 .taken, ← c .refused .ensures)
 
 returns-2 : tie.Need-returns-2
-unfolding generalAt inTable
+unfolding locatedGeneral inTable
 returns-2 c =
     let a = c .before in
     let b = a .before in

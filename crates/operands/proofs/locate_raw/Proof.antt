@@ -1,18 +1,18 @@
 -- `operands::locate_raw` meets its contract: at each return, what the calls and tests on the way say picks the case of `Operands`.
 use borrow.Author.Needs.{needs}
 use Rattle.operands.specs.Variables.{inTable}
-use Rattle.operands.specs.Operands.{rawAt}
+use Rattle.operands.specs.Operands.{locatedRaw}
 use Rattle.operands.proofs.locate_raw.Statement.{statement}
 use Rattle.operands.proofs.locate_raw.Tie as tie
 
 returns : tie.Need-returns
-unfolding rawAt inTable
+unfolding locatedRaw inTable
 returns c =
     let a = c .before in
     rw (a .if1 .taken, ← c .refused .ensures)
 
 returns-2 : tie.Need-returns-2
-unfolding rawAt inTable
+unfolding locatedRaw inTable
 returns-2 c =
     let a = c .before in
     let b = a .before in

@@ -1,17 +1,17 @@
 -- `operands::locate_vector` meets its contract: at each return, what the calls and tests on the way say picks the case of `Operands`.
 use borrow.Author.Needs.{needs}
-use Rattle.operands.specs.Operands.{vectorAt}
+use Rattle.operands.specs.Operands.{locatedVector}
 use Rattle.operands.proofs.locate_vector.Statement.{statement}
 use Rattle.operands.proofs.locate_vector.Tie as tie
 
 returns : tie.Need-returns
-unfolding vectorAt
+unfolding locatedVector
 returns c =
     let a = c .before .before in
     rw (a .operand .given .1, ← c .general-in .ensures)
 
 returns-2 : tie.Need-returns-2
-unfolding vectorAt
+unfolding locatedVector
 returns-2 c =
     let a = c .before .before in
     rw (a .operand2 .given .1, ← c .immediate-in .ensures)

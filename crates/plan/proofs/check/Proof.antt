@@ -32,7 +32,7 @@ returns-3 c =
     let d = b .before in
     let e = d .before in
     let f = e .before in
-    rw (← f .control-of .ensures, ← e .control-refusal .ensures, le-ltb _ _ (d .if1 .left), ← b .predicate-bits .ensures, a .instruction2 .given .1, ← c .check-surface .ensures)
+    rw (← f .control-of .ensures, ← e .control-refusal .ensures, le-ltb _ _ (d .if1 .left), ← b .predicate-bits .ensures, a .instruction2 .given .1, ← c .check-gather .ensures)
 
 returns-4 : tie.Need-returns-4
 unfolding checked checkedOperands tested

@@ -47,7 +47,7 @@ returns-4 c =
     let g = f .before in
     let h = g .before in
     let i = h .before .before in
-    rw (← i .locate-vector .ensures, le-ltb _ _ (h .if1 .left), ← g .registers-needed .ensures, ← f .locate-raw .ensures, le-ltb _ _ (e .if2 .left), ← d .registers-needed2 .ensures, ← b .locate-raw2 .ensures, le-ltb _ _ (a .if3 .left), ← c .refused4 .ensures)
+    rw (← i .locate-vector .ensures, le-ltb _ _ (h .if1 .left), ← g .registers-needed .ensures, ← f .locate-raw .ensures, le-ltb _ _ (e .if2 .left), ← d .registers-needed2 .ensures, ← b .locate-raw2 .ensures, le-ltb _ _ (a .if3 .left)) (c .refused4 .ensures)
 
 pub check-send-spec : {M : Type 1} → statement M
 check-send-spec = tie.close (tie.spec (λ c κs. search needs) (λ c κs. search needs) returns (λ c κs. search needs) (λ c κs. search needs) (λ c κs. search needs) returns-2 (λ c κs. search needs) (λ c κs. search needs) (λ c κs. search needs) returns-3 (λ c κs. search needs) returns-4)

@@ -1,22 +1,21 @@
 -- `plan::surface_part` meets its contract: at each return, what the calls and tests on the way say picks the case of `Checked`.
-use mathlib.Core.List.{List}
 use Prim.Native.Nat.{ℕ, _≤_, _<_}
 use native.Mathlib.Omega.{arith}
 use lib.ListN.{getD}
-use Rattle.tables.specs.Surfaces.{surfaceLength}
+use Rattle.tables.specs.Surfaces.{Surfaces, surfaces, surfaceLength}
 use Rattle.tables.proofs.SurfacePlaces.{start-at-most, length-is}
 use borrow.Author.Needs.{needs}
 use Rattle.plan.specs.Checked.{surfacePart}
 use Rattle.plan.proofs.surface_part.Statement.{statement}
 use Rattle.plan.proofs.surface_part.Tie as tie
 
-small : (surfaces : List ℕ) (k : ℕ) → getD surfaces k 0 < 65536 → surfaceLength surfaces k ≤ 65535
-small surfaces k h = omega (arith, length-is surfaces k)
+small : (t : Surfaces) (k : ℕ) → getD (t .lengths) k 0 < 65536 → surfaceLength t k ≤ 65535
+small t k h = omega (arith, length-is t k)
 
 cast-t4 : tie.Need-cast-t4
 cast-t4 c =
     let a = c .before .before .args in
-    let s = a .surfaces .now in
+    let s = surfaces (a .surfaces .now) in
     omega (arith, c .surface-start .ensures, start-at-most s 65535 (a .index) (λ k _. small s k (omega (arith, c .before .shared-slice-known .given k))))
 
 returns : tie.Need-returns

@@ -1,5 +1,5 @@
 -- `run::run_kernel` meets its contract. The invariant: the rest of the run comes to what the whole run comes to.
-use mathlib.Core.Path.{_≡_, sym, ap, _∙_}
+use mathlib.Core.Path.{ap}
 use Prim.Native.Nat.{_-_}
 use native.Mathlib.Omega.{arith}
 use lib.ListN.{length}
@@ -7,59 +7,61 @@ use borrow.Author.Needs.{needs}
 use Rattle.tables.specs.declared.Lengths.{Lengths}
 use Rattle.tables.specs.Tables.{tables}
 use Rattle.step.specs.State.{setup, state}
-use Rattle.run.proofs.RunLaws.{Reached, begins, ends, stops, onward, goes}
+use Rattle.run.proofs.RunLaws.{Reached, begins, ends, stops, onward, goes, keeps}
 use Rattle.run.proofs.run_kernel.Statement.{statement}
 use Rattle.run.proofs.run_kernel.Tie as tie
 
 abbrev Inv-loop : tie.InvT-loop
 Inv-loop kernel types starts counts predicates surface-lengths constants surfaces surface-taint registers₀ register-taint₀ memory₀ memory-taint₀ completed₀ at₀ registers register-taint memory memory-taint completed at =
-    Reached (setup kernel (tables types starts counts predicates surface-lengths) (constants .base) (constants .mask)) (state registers₀ register-taint₀ surfaces surface-taint memory₀ memory-taint₀) completed at (state registers register-taint surfaces surface-taint memory memory-taint)
+    Reached (setup kernel (tables (record { types = types; starts = starts; counts = counts }) (record { bits = predicates }) (record { lengths = surface-lengths })) constants) (state registers₀ register-taint₀ surfaces surface-taint memory₀ memory-taint₀) completed at (state registers register-taint surfaces surface-taint memory memory-taint)
 
 abbrev μ-loop : tie.MeasureT-loop
 μ-loop kernel types starts counts predicates surface-lengths constants surfaces surface-taint registers₀ register-taint₀ memory₀ memory-taint₀ completed₀ at₀ registers register-taint memory memory-taint completed at =
     length kernel - at
 
--- where the step was taken, from where its number is asked
-abbrev stepped : tie.After-struct-known Inv-loop μ-loop → tie.After-step Inv-loop μ-loop
-stepped c = c .before .before .before .before .before .before .before .before .before
+-- where the step was taken, if it is refused and if not
+abbrev refusing : tie.Then1 Inv-loop μ-loop → tie.After-step Inv-loop μ-loop
+refusing c = search c
+
+abbrev passing : tie.Else1 Inv-loop μ-loop → tie.After-step Inv-loop μ-loop
+passing c = search c
 
 -- the turn's start, from there
 abbrev turn : tie.After-step Inv-loop μ-loop → tie.In-loop Inv-loop μ-loop
-turn c = c .before .before .before .before .before
+turn c = search c
 
 -- the function's start, from a turn's
 abbrev start : tie.In-loop Inv-loop μ-loop → tie.Start Inv-loop μ-loop
-start c = c .before .before .before .before .before .before .before .before .before .before .before .before .before .before
+start c = search c
 
 loop-holds : tie.Need-loop-holds Inv-loop μ-loop
-loop-holds c = let a = c .before .before .before .before .before .before .before .before .before .before .before in begins _ _ (λ k. omega (arith, a .shared-slice-known .given k)) (a .before .pre)
+loop-holds c = let a : tie.After-shared-slice-known Inv-loop μ-loop = search c in begins _ _ (λ k. omega (arith, a .shared-slice-known .given k))
 
--- a step keeps the lengths, and so did all before it
 same-length : tie.Need-same-length Inv-loop μ-loop
-same-length c = let a = stepped (c .before) in a .step .kept .1 .1 .1 .1 .1 .1 .1 .1 .1 .1 .0 ∙ ap (λ (l : Lengths). l .registers) (turn a .before .loop .inv .lengths)
+same-length c = let a = refusing c in ap (λ (l : Lengths). l .registers) (keeps _ _ _ _ _ (turn a .before .loop .inv) (turn a .loop-test .taken) _ _ (a .step .ensures))
 
 same-length-2 : tie.Need-same-length-2 Inv-loop μ-loop
-same-length-2 c = let a = stepped (c .before) in a .step .kept .1 .1 .1 .1 .1 .1 .1 .1 .1 .1 .1 .0 ∙ ap (λ (l : Lengths). l .taint .registers) (turn a .before .loop .inv .lengths)
+same-length-2 c = let a = refusing c in ap (λ (l : Lengths). l .taint .registers) (keeps _ _ _ _ _ (turn a .before .loop .inv) (turn a .loop-test .taken) _ _ (a .step .ensures))
 
 same-length-3 : tie.Need-same-length-3 Inv-loop μ-loop
-same-length-3 c = let a = stepped (c .before) in a .step .kept .1 .1 .1 .1 .1 .1 .1 .1 .1 .1 .1 .1 .0 ∙ ap (λ (l : Lengths). l .memory) (turn a .before .loop .inv .lengths)
+same-length-3 c = let a = refusing c in ap (λ (l : Lengths). l .memory) (keeps _ _ _ _ _ (turn a .before .loop .inv) (turn a .loop-test .taken) _ _ (a .step .ensures))
 
 same-length-4 : tie.Need-same-length-4 Inv-loop μ-loop
-same-length-4 c = let a = stepped (c .before) in a .step .kept .1 .1 .1 .1 .1 .1 .1 .1 .1 .1 .1 .1 .1 .0 ∙ ap (λ (l : Lengths). l .taint .memory) (turn a .before .loop .inv .lengths)
+same-length-4 c = let a = refusing c in ap (λ (l : Lengths). l .taint .memory) (keeps _ _ _ _ _ (turn a .before .loop .inv) (turn a .loop-test .taken) _ _ (a .step .ensures))
 
 returns : tie.Need-returns Inv-loop μ-loop
-returns c = let a = stepped (c .before) in stops _ _ _ _ _ (turn a .before .loop .inv) (turn a .loop-test .taken) _ _ (a .step .ensures) (c .if1 .taken)
+returns c = let a = refusing c in stops _ _ _ _ _ (turn a .before .loop .inv) (turn a .loop-test .taken) _ _ (a .step .ensures) (c .if1 .taken)
 
 add-completed : tie.Need-add-completed Inv-loop μ-loop
-add-completed c = let t = turn (stepped (c .before)) in omega (arith, t .before .loop .inv .few, t .loop-test .taken, start t .good .0 .0)
+add-completed c = let t = turn (passing c) in omega (arith, t .before .loop .inv .few, t .loop-test .taken, start t .good .0 .0)
 
 loop-less : tie.Need-loop-less Inv-loop μ-loop
 loop-less c =
-    let a = stepped (c .before) in
+    let a = passing c in
     omega (arith, turn a .loop-test .taken, onward _ _ _ _ _ (turn a .before .loop .inv) (turn a .loop-test .taken) _ _ (a .step .ensures) (c .if1 .left) .0)
 
 loop-again : tie.Need-loop-again Inv-loop μ-loop
-loop-again c = let a = stepped (c .before) in goes _ _ _ _ _ (turn a .before .loop .inv) (turn a .loop-test .taken) _ _ (a .step .ensures) (c .if1 .left)
+loop-again c = let a = passing c in goes _ _ _ _ _ (turn a .before .loop .inv) (turn a .loop-test .taken) _ _ (a .step .ensures) (c .if1 .left)
 
 same-length-5 : tie.Need-same-length-5 Inv-loop μ-loop
 same-length-5 c = ap (λ (l : Lengths). l .registers) (c .before .loop .inv .lengths)

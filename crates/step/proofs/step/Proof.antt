@@ -6,23 +6,30 @@ use Rattle.step.proofs.step.Tie as tie
 use Rattle.step.proofs.FitsLaws.{told-fits}
 use Rattle.step.proofs.StepLaws.{accepted-advances, refusal-advances}
 
+-- where the kernel's bytes are known, from where it is decoded
+abbrev known : tie.After-decode → tie.After-shared-slice-known
+known c = search c
+
 perform-requires : tie.Need-perform-requires
 perform-requires c κs =
-    let b = c .before .before .before .before in
-    let i = b .before .before in
-    let d = i .before .before in
-    let kernel = d .before .before .before .before .before .before .before .before .before .before .before .before in
-    told-fits _ _ _ (λ k. omega (arith, kernel .shared-slice-known .given k)) _ _ _ _ (d .decode .ensures) (i .instruction .given .1) (b .check .ensures)
+    let k : tie.After-check = search c in
+    let i : tie.After-instruction = search k in
+    let d : tie.After-decode = search i in
+    told-fits _ _ _ (λ n. omega (arith, known d .shared-slice-known .given n)) _ _ _ _ (d .decode .ensures) (i .instruction .given .1) (k .check .ensures)
 
 returns : tie.Need-returns
 returns c =
-    let a = c .before .before .before .before .before .before .before .before in
-    let b = a .before .before .before .before .before in
-    let i = b .before .before in
-    accepted-advances _ _ _ _ (i .before .before .decode .ensures) _ _ _ _ _ (i .instruction .given .1) (b .check .ensures) (a .perform .ensures)
+    let p : tie.After-perform = search c in
+    let k : tie.After-check = search p in
+    let i : tie.After-instruction = search k in
+    let d : tie.After-decode = search i in
+    accepted-advances _ _ _ _ (d .decode .ensures) _ _ _ _ _ (i .instruction .given .1) (k .check .ensures) (p .perform .ensures)
 
 returns-2 : tie.Need-returns-2
-returns-2 c = refusal-advances _ _ _ _ (c .before .before .before .decode .ensures) _ (c .before .number .given .1)
+returns-2 c =
+    let n : tie.After-number = search c in
+    let d : tie.After-decode = search n in
+    refusal-advances _ _ _ _ (d .decode .ensures) _ (n .number .given .1)
 
 pub step-spec : {M : Type 1} → statement M
 step-spec =

@@ -1,5 +1,5 @@
 -- `tables::every_surface_good` meets its contract. The invariant: every surface passed is good.
-use mathlib.Core.Path.{_≡_, sym, ap, _∙_}
+use mathlib.Core.Path.{_≡_, sym, _∙_}
 use mathlib.Core.Bool.{true, false}
 use mathlib.Core.List.{List}
 use Prim.Native.Nat.{ℕ, _-_, _≤_, _<_}
@@ -8,24 +8,24 @@ use native.Mathlib.Nat.{le-antisymm}
 use lib.ListN.{length, getD}
 use borrow.Author.Needs.{needs}
 use borrow.Author.Tests.{le-leb, lt-leb}
-use Rattle.tables.specs.Surfaces.{surfaceLength}
-use Rattle.tables.specs.Every.{every}
-use Rattle.tables.specs.Surfaces.{surfaceGoodAt}
-use Rattle.tables.proofs.Every.{every-none, every-next, every-fails}
+use Rattle.channels.specs.Below.{everyBelow}
+use Rattle.tables.specs.Surfaces as table
+use Rattle.tables.specs.Surfaces.{surfaceLength, surfaceGoodAt}
+use Rattle.tables.proofs.Every.{every-none, every-same, every-next, every-fails}
 use Rattle.tables.proofs.every_surface_good.Statement.{statement}
 use Rattle.tables.proofs.every_surface_good.Tie as tie
 
 abbrev Inv-loop : tie.InvT-loop
-Inv-loop surfaces i₀ i = (i ≤ length surfaces) × (every (surfaceGoodAt surfaces) i ≡ true)
+Inv-loop surfaces i₀ i = (i ≤ length surfaces) × (everyBelow i (surfaceGoodAt (table.surfaces surfaces)) ≡ true)
 
 abbrev μ-loop : tie.MeasureT-loop
 μ-loop surfaces i₀ i = length surfaces - i
 
-good : (surfaces : List ℕ) (k : ℕ) → getD surfaces k 0 ≤ 1024 → surfaceGoodAt surfaces k ≡ true
+good : (surfaces : List ℕ) (k : ℕ) → getD surfaces k 0 ≤ 1024 → surfaceGoodAt (table.surfaces surfaces) k ≡ true
 unfolding surfaceGoodAt surfaceLength
 good surfaces k h = le-leb _ _ h
 
-bad : (surfaces : List ℕ) (k : ℕ) → 1024 < getD surfaces k 0 → surfaceGoodAt surfaces k ≡ false
+bad : (surfaces : List ℕ) (k : ℕ) → 1024 < getD surfaces k 0 → surfaceGoodAt (table.surfaces surfaces) k ≡ false
 unfolding surfaceGoodAt surfaceLength
 bad surfaces k h = lt-leb _ _ h
 
@@ -45,7 +45,7 @@ loop-again c =
 returns-2 : tie.Need-returns-2 Inv-loop μ-loop
 returns-2 c =
     let l = c .before .loop in
-    sym (ap (every _) (le-antisymm (c .loop-test .left) (l .inv .0)) ∙ l .inv .1)
+    sym (every-same _ _ _ (le-antisymm (c .loop-test .left) (l .inv .0)) ∙ l .inv .1)
 
 pub every-surface-good-spec : {M : Type 1} → statement M
 every-surface-good-spec =

@@ -1,5 +1,5 @@
 -- `tables::every_variable_good` meets its contract. The invariant: every variable passed is good.
-use mathlib.Core.Path.{_≡_, sym, ap, _∙_}
+use mathlib.Core.Path.{_≡_, sym, _∙_}
 use mathlib.Core.Bool.{Bool, true}
 use mathlib.Core.List.{List}
 use Prim.Native.Nat.{ℕ, _-_, _≤_}
@@ -8,20 +8,19 @@ use native.Mathlib.Nat.{le-antisymm}
 use lib.ListN.{length, getD}
 use borrow.Author.Needs.{needs}
 use borrow.Author.Tests.{not-true, not-false}
-use Rattle.tables.specs.Variables.{variableGood}
-use Rattle.tables.specs.Every.{every}
-use Rattle.tables.specs.Variables.{variableGoodAt}
-use Rattle.tables.proofs.Every.{every-none, every-next, every-fails}
+use Rattle.channels.specs.Below.{everyBelow}
+use Rattle.tables.specs.Variables.{variables, variableGood, variableGoodAt}
+use Rattle.tables.proofs.Every.{every-none, every-same, every-next, every-fails}
 use Rattle.tables.proofs.every_variable_good.Statement.{statement}
 use Rattle.tables.proofs.every_variable_good.Tie as tie
 
 abbrev Inv-loop : tie.InvT-loop
-Inv-loop registers types starts counts i₀ i = (i ≤ length types) × (every (variableGoodAt registers types starts counts) i ≡ true)
+Inv-loop registers types starts counts i₀ i = (i ≤ length types) × (everyBelow i (variableGoodAt registers (variables types starts counts)) ≡ true)
 
 abbrev μ-loop : tie.MeasureT-loop
 μ-loop registers types starts counts i₀ i = length types - i
 
-at : (registers : ℕ) (types starts counts : List ℕ) (k : ℕ) (answer truth : Bool) → answer ≡ variableGood registers (getD types k 0) (getD starts k 0) (getD counts k 0) → answer ≡ truth → variableGoodAt registers types starts counts k ≡ truth
+at : (registers : ℕ) (types starts counts : List ℕ) (k : ℕ) (answer truth : Bool) → answer ≡ variableGood registers (getD types k 0) (getD starts k 0) (getD counts k 0) → answer ≡ truth → variableGoodAt registers (variables types starts counts) k ≡ truth
 unfolding variableGoodAt
 at registers types starts counts k answer truth e f = sym e ∙ f
 
@@ -43,7 +42,7 @@ loop-again c =
 returns-2 : tie.Need-returns-2 Inv-loop μ-loop
 returns-2 c =
     let l = c .before .loop in
-    sym (ap (every _) (le-antisymm (c .loop-test .left) (l .inv .0)) ∙ l .inv .1)
+    sym (every-same _ _ _ (le-antisymm (c .loop-test .left) (l .inv .0)) ∙ l .inv .1)
 
 pub every-variable-good-spec : {M : Type 1} → statement M
 every-variable-good-spec =

@@ -6,17 +6,18 @@ use native.Mathlib.Omega.{arith}
 use native.Mathlib.Nat.{le-antisymm}
 use native.Mathlib.Numerals.{add-one}
 use borrow.Author.Needs.{needs}
+use Rattle.tables.specs.Surfaces as table
 use Rattle.tables.specs.Surfaces.{surfaceLength, surfaceStart}
 use Rattle.tables.proofs.surface_start.Statement.{statement}
 use Rattle.tables.proofs.surface_start.Tie as tie
 
 abbrev Inv-loop : tie.InvT-loop
-Inv-loop surfaces index sum₀ i₀ sum i = (i ≤ index) × ((sum ≤ 65535 * i) × (sum ≡ surfaceStart surfaces i))
+Inv-loop surfaces index sum₀ i₀ sum i = (i ≤ index) × ((sum ≤ 65535 * i) × (sum ≡ surfaceStart (table.surfaces surfaces) i))
 
 abbrev μ-loop : tie.MeasureT-loop
 μ-loop surfaces index sum₀ i₀ sum i = index - i
 
-next : (surfaces : List ℕ) (i sum bytes : ℕ) → sum ≡ surfaceStart surfaces i → bytes ≡ surfaceLength surfaces i → sum + bytes ≡ surfaceStart surfaces (i + 1)
+next : (surfaces : List ℕ) (i sum bytes : ℕ) → sum ≡ surfaceStart (table.surfaces surfaces) i → bytes ≡ surfaceLength (table.surfaces surfaces) i → sum + bytes ≡ surfaceStart (table.surfaces surfaces) (i + 1)
 unfolding surfaceStart
 next surfaces i sum bytes e f = rw (add-one i, ← e, ← f)
 

@@ -13,7 +13,7 @@ unfoldable pub fitsFor : Operation → Plan → Bool
 fitsFor operation.Shl p = shlFits p
 fitsFor operation.Gather p = gatherFits p
 fitsFor operation.Scatter p = scatterFits p
-fitsFor operation.Send p = true
+fitsFor operation.Refused p = true
 
 -- nothing is asked of a refusal
 pub record Fits (p : Plan) : Type 0 where
