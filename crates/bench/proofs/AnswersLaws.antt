@@ -8,14 +8,16 @@ use native.Mathlib.Omega.{arith}
 use lib.ListN.{length, take, length-take}
 use borrow.Author.Tests.{not-true, not-false}
 use Rattle.io.specs.Counts.{Counts}
-use Rattle.frames.specs.Reading.{Reading}
-use Rattle.feeding.specs.Feeding.{Machine, fed, finished}
-use Rattle.output.specs.Page.{Page, page, written}
-use Rattle.answering.specs.Bench.{caseOutput}
+use Rattle.frames.specs.mirror.Reading.{Reading}
+use Rattle.feeding.specs.mirror.Feeding.{Machine, fed, finished}
+use Rattle.output.specs.mirror.Page.{Page, page, written}
+use Rattle.answering.specs.mirror.Bench.{caseOutput}
 use Rattle.answering.proofs.BenchLaws.{begun, text-output, answer-whole, answer-count}
 use Rattle.case_file.proofs.Whole.{case-file-output}
-use Rattle.input.specs.Calls.{textOf, endedBy, Reads}
-use Rattle.bench.specs.Program.{endedOutput, programOutput, Answers}
+use Rattle.input.specs.Calls.{textOf, endedBy}
+use Rattle.input.specs.mirror.Reads.{Reads}
+use Rattle.bench.specs.Program.{programOutput, Answers}
+use Rattle.bench.specs.mirror.Ended.{endedOutput}
 
 -- whether the input has ended, as the function asks it
 pub unended-written : (ended : Bool) (r : Reading) (out : List ℕ) → not ended ≡ true → page out 0 ≡ written (endedOutput ended r) (page out 0)

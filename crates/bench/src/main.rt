@@ -4,9 +4,10 @@ ghost use mathlib.Core.Path.{_≡_};
 ghost use Prim.Native.Nat.{_≤_};
 ghost use lib.ListN.{length, take};
 ghost use Rattle.io.specs.Counts.{Counts};
-ghost use Rattle.frames.specs.Reading.{reading, contents, tables};
-ghost use Rattle.output.specs.Page.{page, written};
-ghost use Rattle.bench.specs.Program.{endedOutput, Answers};
+ghost use Rattle.frames.specs.mirror.Reading.{reading, contents, tables};
+ghost use Rattle.output.specs.mirror.Page.{page, written};
+ghost use Rattle.bench.specs.Program.{Answers};
+ghost use Rattle.bench.specs.mirror.Ended.{endedOutput};
 
 // The answer to a case, to the output buffer's start, and how many bytes it has: none if the input was not read to its end.
 fn answer_ended(

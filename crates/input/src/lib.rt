@@ -3,10 +3,11 @@ use feeding::State;
 ghost use mathlib.Core.Path.{_≡_};
 ghost use lib.ListN.{length};
 ghost use Rattle.libc.specs.Io.{Moved};
-ghost use Rattle.frames.specs.Reading.{contents, tables};
-ghost use Rattle.feeding.specs.Feeding.{machine, fresh};
+ghost use Rattle.frames.specs.mirror.Reading.{contents, tables};
+ghost use Rattle.feeding.specs.mirror.Feeding.{machine, fresh};
 ghost use Rattle.input.specs.Answers.{answerOf, metEnd};
-ghost use Rattle.input.specs.Calls.{call, bytesOf, Reads};
+ghost use Rattle.input.specs.Calls.{call, bytesOf};
+ghost use Rattle.input.specs.mirror.Reads.{Reads};
 
 // What a read answers: a number of bytes, the end of the input, or that it failed.
 enum Answer {

@@ -1,6 +1,6 @@
 -- `frames::put_content` meets its contract: at each return, what the calls and tests on the way say picks the case of the definition.
 use borrow.Author.Needs.{needs}
-use Rattle.frames.specs.Once.{contentRead}
+use Rattle.frames.specs.mirror.Once.{contentRead}
 use Rattle.frames.proofs.put_content.Statement.{statement}
 use Rattle.frames.proofs.put_content.Tie as tie
 

@@ -1,7 +1,7 @@
 -- `frames::put_mask` meets its contract: at each return, what the calls and tests on the way say picks the case of the definition.
 use borrow.Author.Needs.{needs}
 use borrow.Author.Tests.{eq-eqb, ne-eqb}
-use Rattle.frames.specs.Once.{maskRead}
+use Rattle.frames.specs.mirror.Once.{maskRead}
 use Rattle.frames.proofs.put_mask.Statement.{statement}
 use Rattle.frames.proofs.put_mask.Tie as tie
 

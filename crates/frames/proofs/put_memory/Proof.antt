@@ -1,7 +1,7 @@
 -- `frames::put_memory` meets its contract: at each return, what the calls and tests on the way say picks the case of the definition.
 use borrow.Author.Needs.{needs}
 use borrow.Author.Tests.{lt-ltb, le-ltb}
-use Rattle.frames.specs.Once.{memoryRead}
+use Rattle.frames.specs.mirror.Once.{memoryRead}
 use Rattle.frames.proofs.put_memory.Statement.{statement}
 use Rattle.frames.proofs.put_memory.Tie as tie
 

@@ -1,7 +1,7 @@
 -- `frames::put_predicate` meets its contract: at each return, what the calls and tests on the way say picks the case of the definition.
 use borrow.Author.Needs.{needs}
 use borrow.Author.Tests.{lt-ltb, le-ltb, eq-eqb, ne-eqb}
-use Rattle.frames.specs.Repeated.{predicateRead}
+use Rattle.frames.specs.mirror.Repeated.{predicateRead}
 use Rattle.frames.proofs.put_predicate.Statement.{statement}
 use Rattle.frames.proofs.put_predicate.Tie as tie
 

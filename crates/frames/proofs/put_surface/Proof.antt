@@ -3,7 +3,7 @@ use mathlib.Core.Path.{sym, _∙_}
 use native.Mathlib.Omega.{arith}
 use borrow.Author.Needs.{needs}
 use borrow.Author.Tests.{lt-ltb, le-ltb, le-leb, lt-leb}
-use Rattle.frames.specs.Repeated.{surfaceRead}
+use Rattle.frames.specs.mirror.Repeated.{surfaceRead}
 use Rattle.hex.proofs.StoringLaws.{stored-none}
 use Rattle.frames.proofs.Room.{room-for}
 use Rattle.frames.proofs.put_surface.Statement.{statement}

@@ -6,9 +6,9 @@ use lib.Dec.{ltb}
 use lib.ListN.{take, replicate}
 use Rattle.tables.specs.Tables.{tables}
 use Rattle.frames.specs.declared.Case.{Case}
-use Rattle.frames.specs.Reading.{Contents, Tables}
-use Rattle.frames.specs.Lines.{metOf, lengthOf}
-use Rattle.frames.specs.Verdicts.{taintLength}
+use Rattle.frames.specs.mirror.Reading.{Contents, Tables}
+use Rattle.frames.specs.mirror.Lines.{metOf, lengthOf}
+use Rattle.frames.specs.mirror.Verdicts.{taintLength}
 use Rattle.step.specs.State.{Setup, setup, State, state}
 
 -- what does not change: each buffer up to where its frames filled it
@@ -17,8 +17,8 @@ setupOf c kernel t =
     setup
     (take (lengthOf 7 c) kernel)
     (tables (take (metOf 2 c) (t .types)) (take (metOf 2 c) (t .starts)) (take (metOf 2 c) (t .counts)) (take (metOf 3 c) (t .predicates)) (take (metOf 4 c) (t .lengths)))
-    (c .base)
-    (c .mask)
+    (c .settings .base)
+    (c .settings .mask)
 
 -- "absent means .. marks all 0"; the buffer has this size
 unfoldable pub taintOf : ℕ → ℕ → Case → List ℕ → List ℕ

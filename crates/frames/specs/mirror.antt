@@ -1,0 +1,6 @@
+pub mod Reading
+pub mod Lines
+pub mod Repeated
+pub mod Once
+pub mod Frames
+pub mod Verdicts
