@@ -4,7 +4,7 @@ ghost use mathlib.Core.Path.{_≡_};
 ghost use mathlib.Core.Bool.{cond};
 ghost use mathlib.Core.List.{[]};
 ghost use lib.ListN.{take};
-ghost use Rattle.frames.specs.mirror.Reading.{contents, tables, reading};
+ghost use Rattle.frames.specs.mirror.Lent.{lentContents, lentTables};
 ghost use Rattle.feeding.specs.mirror.Feeding.{row, machine, fresh, pushed, readOn, fed, isBegun, finished};
 
 // How many characters of the line begun stand in the line buffer, whether there were more, and what the lines before came to.
@@ -112,7 +112,7 @@ pub fn feed(
     surface_lengths: &mut [u16],
     state: State,
 ) -> State
-    ensures { λ r. ⌜ machine (now (line .exit)) r (contents (now (registers .exit)) (now (memory .exit)) (now (kernel .exit)) (now («register_taint» .exit)) (now («surface_taint» .exit)) (now («memory_taint» .exit))) (tables (now (types .exit)) (now (starts .exit)) (now (counts .exit)) (now («predicate_values» .exit)) (now («surface_bytes» .exit)) (now («surface_lengths» .exit))) ≡ fed (now (block .entry)) (machine (now (line .entry)) state (contents (now (registers .entry)) (now (memory .entry)) (now (kernel .entry)) (now («register_taint» .entry)) (now («surface_taint» .entry)) (now («memory_taint» .entry))) (tables (now (types .entry)) (now (starts .entry)) (now (counts .entry)) (now («predicate_values» .entry)) (now («surface_bytes» .entry)) (now («surface_lengths» .entry)))) ⌝ }
+    ensures { λ r. let b = lentContents registers memory kernel «register_taint» «surface_taint» «memory_taint» in let t = lentTables types starts counts «predicate_values» «surface_bytes» «surface_lengths» in ⌜ machine (now (line .exit)) r (b .exit) (t .exit) ≡ fed (now (block .entry)) (machine (now (line .entry)) state (b .entry) (t .entry)) ⌝ }
 {
     let mut used = state.used;
     let mut long = state.long;
@@ -175,7 +175,7 @@ pub fn finish(
     surface_lengths: &mut [u16],
     state: State,
 ) -> State
-    ensures { λ r. ⌜ machine (now (line .entry)) r (contents (now (registers .exit)) (now (memory .exit)) (now (kernel .exit)) (now («register_taint» .exit)) (now («surface_taint» .exit)) (now («memory_taint» .exit))) (tables (now (types .exit)) (now (starts .exit)) (now (counts .exit)) (now («predicate_values» .exit)) (now («surface_bytes» .exit)) (now («surface_lengths» .exit))) ≡ finished (machine (now (line .entry)) state (contents (now (registers .entry)) (now (memory .entry)) (now (kernel .entry)) (now («register_taint» .entry)) (now («surface_taint» .entry)) (now («memory_taint» .entry))) (tables (now (types .entry)) (now (starts .entry)) (now (counts .entry)) (now («predicate_values» .entry)) (now («surface_bytes» .entry)) (now («surface_lengths» .entry)))) ⌝ }
+    ensures { λ r. let b = lentContents registers memory kernel «register_taint» «surface_taint» «memory_taint» in let t = lentTables types starts counts «predicate_values» «surface_bytes» «surface_lengths» in ⌜ machine (now (line .entry)) r (b .exit) (t .exit) ≡ finished (machine (now (line .entry)) state (b .entry) (t .entry)) ⌝ }
 {
     if !is_begun(state) {
         return state;

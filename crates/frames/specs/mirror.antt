@@ -1,4 +1,5 @@
 pub mod Reading
+pub mod Lent
 pub mod Lines
 pub mod Repeated
 pub mod Once

@@ -4,7 +4,8 @@ ghost use Prim.Native.Nat.{_<_};
 ghost use lib.ListN.{drop};
 ghost use lib.Dec.{ltb};
 ghost use Rattle.hex.specs.Bytes.{hexBytes};
-ghost use Rattle.frames.specs.mirror.Reading.{contents, tables, reading};
+ghost use Rattle.frames.specs.mirror.Reading.{reading};
+ghost use Rattle.frames.specs.mirror.Lent.{lentContents, lentTables};
 ghost use Rattle.frames.specs.mirror.Lines.{KINDS, nothing, next, badLine, goodLine, metOf, lengthOf, counted, sized, based, masked};
 ghost use Rattle.frames.specs.mirror.Repeated.{variables, variableRead, predicates, predicateRead, surfaces, surfaceRead};
 ghost use Rattle.frames.specs.mirror.Once.{kept, contentRead, memoryRead, maskRead, once, onceRead};
@@ -247,7 +248,7 @@ fn take_once(
     memory_taint: &mut [u8],
     case: Case,
 ) -> Case
-    ensures { λ r. ⌜ once r (contents (now (registers .exit)) (now (memory .exit)) (now (kernel .exit)) (now («register_taint» .exit)) (now («surface_taint» .exit)) (now («memory_taint» .exit))) ≡ onceRead kind (hexBytes (now (line .entry))) (once case (contents (now (registers .entry)) (now (memory .entry)) (now (kernel .entry)) (now («register_taint» .entry)) (now («surface_taint» .entry)) (now («memory_taint» .entry)))) ⌝ }
+    ensures { λ r. let b = lentContents registers memory kernel «register_taint» «surface_taint» «memory_taint» in ⌜ once r (b .exit) ≡ onceRead kind (hexBytes (now (line .entry))) (once case (b .entry)) ⌝ }
 {
     if 0 < met_of(kind, case) {
         return bad_line(case);
@@ -293,7 +294,7 @@ pub fn take_line(
     surface_lengths: &mut [u16],
     case: Case,
 ) -> Case
-    ensures { λ r. ⌜ reading r (contents (now (registers .exit)) (now (memory .exit)) (now (kernel .exit)) (now («register_taint» .exit)) (now («surface_taint» .exit)) (now («memory_taint» .exit))) (tables (now (types .exit)) (now (starts .exit)) (now (counts .exit)) (now («predicate_values» .exit)) (now («surface_bytes» .exit)) (now («surface_lengths» .exit))) ≡ lineRead (now (line .entry)) (reading case (contents (now (registers .entry)) (now (memory .entry)) (now (kernel .entry)) (now («register_taint» .entry)) (now («surface_taint» .entry)) (now («memory_taint» .entry))) (tables (now (types .entry)) (now (starts .entry)) (now (counts .entry)) (now («predicate_values» .entry)) (now («surface_bytes» .entry)) (now («surface_lengths» .entry)))) ⌝ }
+    ensures { λ r. let b = lentContents registers memory kernel «register_taint» «surface_taint» «memory_taint» in let t = lentTables types starts counts «predicate_values» «surface_bytes» «surface_lengths» in ⌜ reading r (b .exit) (t .exit) ≡ lineRead (now (line .entry)) (reading case (b .entry) (t .entry)) ⌝ }
 {
     if 0 < case.bad {
         return case;
