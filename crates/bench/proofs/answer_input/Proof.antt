@@ -11,8 +11,12 @@ use Rattle.bench.proofs.answer_input.Tie as tie
 abbrev ends : tie.After-answer-ended → tie.After-finish
 ends c = search c
 
--- where it is read, from there
-abbrev reads : tie.After-finish → tie.After-read-all
+-- where the buffers of the tables came back from reading, from there
+abbrev came : tie.After-finish → tie.After-types2
+came c = search c
+
+-- where the input is read, from there
+abbrev reads : tie.After-types2 → tie.After-read-all
 reads c = search c
 
 -- the function's start, from there
@@ -23,7 +27,7 @@ returns : tie.Need-returns
 returns c =
     let answered : tie.After-answer-ended = search c in
     let finished = ends answered in
-    let read = reads finished in
+    let read = reads (came finished) in
     input-answered _ _ _ _ _ _ _ (length-replicate {A = ℕ} 16386 0) (start read .pre) (read .read-all .ensures) (finished .finish .ensures) (answered .answer-ended .ensures)
 
 -- each buffer has the length of its array: as it was made, as it came back from `read_all`, and as it came back from `finish`
