@@ -42,7 +42,7 @@ module _ (r : Reading) (out after : List ℕ) (used : ℕ) (k : 32813 ≤ length
   output-count false e = ap (λ (p : Page). p .used) e
 
 -- a case that was read from the start and finished has the output of the calls' text
-output-is : (line : List ℕ) (read done : Machine) (ended : Bool) (r : Reads (begun line) read ended) → length line ≡ 16386 → done ≡ finished read →
+output-is : (line : List ℕ) (read done : Machine) (ended : Bool) (r : Reads ended (begun line) read) → length line ≡ 16386 → done ≡ finished read →
     endedOutput ended (done .reading) ≡ programOutput (r .calls)
 unfolding endedOutput programOutput
 output-is line read done ended r l f =
@@ -50,9 +50,11 @@ output-is line read done ended r l f =
     ap (λ (b : Bool). cond b (caseOutput (done .reading)) []) (r .end)
     ∙ ap (λ (o : List ℕ). cond (endedBy (r .calls)) o []) (ap (λ (x : Machine). caseOutput (x .reading)) m ∙ text-output (textOf (r .calls)) line l ∙ case-file-output (textOf (r .calls)))
 
-pub input-answered : (line : List ℕ) (read done : Machine) (ended : Bool) (out after : List ℕ) (used : ℕ) → length line ≡ 16386 → 32813 ≤ length out →
-    Reads (begun line) read ended → done ≡ finished read → page after used ≡ written (endedOutput ended (done .reading)) (page out 0) → Counts used after × Answers (take used after)
-input-answered line read done ended out after used l k r f e =
+-- what is asked before the answer is whether reading met the end
+pub input-answered : (line : List ℕ) (read done : Machine) (ended asked : Bool) (out after : List ℕ) (used : ℕ) → length line ≡ 16386 → 32813 ≤ length out →
+    Reads ended (begun line) read → done ≡ finished read → page after used ≡ written (endedOutput asked (done .reading)) (page out 0) → asked ≡ ended → Counts used after × Answers (take used after)
+input-answered line read done ended asked out after used l k r f h same =
+    let e : page after used ≡ written (endedOutput ended (done .reading)) (page out 0) = h ∙ ap (λ (b : Bool). written (endedOutput b (done .reading)) (page out 0)) same in
     let w = output-whole (done .reading) out after used k ended e in
     let n : used ≡ length (take used after) = output-count (done .reading) out after used k ended e ∙ ap (λ (x : List ℕ). length x) (sym w) in (
       (omega (arith, n, length-take used after, min-le-right used (length after)), n),

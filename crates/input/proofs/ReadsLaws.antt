@@ -51,7 +51,7 @@ module _ (m n : Machine) (f : SoFar m n) where
   text-then b o e =
       e ∙ (ap (fed (textOf b)) (f .text) ∙ (sym (fed-append (textOf (f .calls)) (textOf b) m) ∙ ap (λ (t : List ℕ). fed t m) (sym (text-append (f .calls) b))))
 
-  reads-then : (b : List Call) (o : Machine) (ended : Bool) → Possible b → o ≡ fed (textOf b) n → ended ≡ endedBy b → Reads m o ended
+  reads-then : (b : List Call) (o : Machine) (ended : Bool) → Possible b → o ≡ fed (textOf b) n → ended ≡ endedBy b → Reads ended m o
   reads-then b o ended p e h =
       record {
         calls = f .calls ++ b;
@@ -61,7 +61,7 @@ module _ (m n : Machine) (f : SoFar m n) where
       }
 
   -- the turns are over
-  pub none-left : Reads m n false
+  pub none-left : Reads false m n
   unfolding textOf endedBy flatten
   none-left = reads-then [] n false tt (sym (fed-none n)) refl
 
@@ -84,7 +84,7 @@ module _ (m n : Machine) (f : SoFar m n) where
           kept = kept-more (m .reading) (n .reading) (o .reading) (f .kept) k;
         }
 
-    pub call-last : (ended : Bool) → length bytes ≡ 0 → ended ≡ metEnd got → Reads m n ended
+    pub call-last : (ended : Bool) → length bytes ≡ 0 → ended ≡ metEnd got → Reads ended m n
     call-last ended h e =
         reads-then (call got block ∷ []) n ended (within, (room, ((λ _. refl), tt)))
         (was-fed n (sym (fed-none n) ∙ ap (λ (t : List ℕ). fed t n) (sym (is-empty bytes h))))

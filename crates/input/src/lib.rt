@@ -73,7 +73,7 @@ pub fn read_all(
     surface_bytes: &mut [u8],
     surface_lengths: &mut [u16],
 ) -> Input
-    ensures { λ r. let b = lentContents registers memory kernel «register_taint» «surface_taint» «memory_taint» in let t = lentTables types starts counts «predicate_values» «surface_bytes» «surface_lengths» in ⌜ Reads (machine (now (line .entry)) fresh (b .entry) (t .entry)) (machine (now (line .exit)) (r .state) (b .exit) (t .exit)) (r .ended) ⌝ }
+    ensures { λ r. let b = lentContents registers memory kernel «register_taint» «surface_taint» «memory_taint» in let t = lentTables types starts counts «predicate_values» «surface_bytes» «surface_lengths» in ⌜ Reads (r .ended) (machine (now (line .entry)) fresh (b .entry) (t .entry)) (machine (now (line .exit)) (r .state) (b .exit) (t .exit)) ⌝ }
 {
     let mut block = [0u8; 65536];
     let mut state = feeding::start();

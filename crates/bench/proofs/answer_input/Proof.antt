@@ -28,7 +28,7 @@ returns c =
     let answered : tie.After-answer-ended = search c in
     let finished = ends answered in
     let read = reads (came finished) in
-    input-answered _ _ _ _ _ _ _ (length-replicate {A = ℕ} 16386 0) (start read .pre) (read .read-all .ensures) (finished .finish .ensures) (answered .answer-ended .ensures)
+    input-answered _ _ _ _ _ _ _ _ (length-replicate {A = ℕ} 16386 0) (start read .pre) (read .read-all .ensures) (finished .finish .ensures) (answered .answer-ended .ensures) refl
 
 -- each buffer has the length of its array: as it was made, as it came back from `read_all`, and as it came back from `finish`
 pub answer-input-spec : {M : Type 1} → statement M

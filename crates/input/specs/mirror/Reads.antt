@@ -6,7 +6,7 @@ use Rattle.feeding.specs.mirror.Feeding.{Machine, fed}
 use Rattle.input.specs.Calls.{Call, Possible, textOf, endedBy}
 
 -- after some calls a machine is another that was fed their text, and the input has ended if they met its end
-pub record Reads (first last : Machine) (ended : Bool) : Type 0 where
+pub record Reads (ended : Bool) (first last : Machine) : Type 0 where
   pub calls : List Call
   pub possible : Possible calls
   pub text : last ≡ fed (textOf calls) first
