@@ -5,14 +5,14 @@ use mathlib.Core.List.{List, flatten}
 use Prim.Native.Nat.{ℕ, _≤_}
 use native.Mathlib.Omega.{arith}
 use lib.ListN.{length, take}
-use Rattle.frames.specs.Reading.{Reading}
-use Rattle.feeding.specs.Feeding.{Machine, machine, fresh, fed, finished}
-use Rattle.feeding.specs.Text.{textRead}
+use Rattle.frames.specs.mirror.Reading.{Reading}
+use Rattle.feeding.specs.mirror.Feeding.{Machine, machine, fresh, fed, finished}
+use Rattle.feeding.specs.mirror.Text.{textRead}
 use Rattle.feeding.proofs.FeedingLaws.{blocksFed, blocks-fed}
 use Rattle.feeding.proofs.TextLaws.{fed-text}
-use Rattle.output.specs.Page.{Page, page, written}
+use Rattle.output.specs.mirror.Page.{Page, page, written}
 use Rattle.output.proofs.PageLaws.{written-room, written-whole}
-use Rattle.answering.specs.Bench.{caseOutput, unread, benchOutput}
+use Rattle.answering.specs.mirror.Bench.{caseOutput, unread, benchOutput}
 use Rattle.answering.proofs.SizeLaws.{case-size}
 
 -- with a line buffer of 16,386 bytes, whatever stands in it

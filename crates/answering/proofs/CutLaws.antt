@@ -11,13 +11,13 @@ use lib.Seq.{length-take-le}
 use Rattle.little_endian.specs.LittleEndian.{Bytes}
 use Rattle.tables.specs.Tables as whole
 use Rattle.frames.specs.declared.Case.{Case}
-use Rattle.frames.specs.Reading.{contents, Tables, tables}
-use Rattle.frames.specs.Lines.{metOf, lengthOf}
-use Rattle.frames.specs.Verdicts.{taintLength}
+use Rattle.frames.specs.mirror.Reading.{contents, Tables, tables}
+use Rattle.frames.specs.mirror.Lines.{metOf, lengthOf}
+use Rattle.frames.specs.mirror.Verdicts.{taintLength}
 use Rattle.step.specs.State.{Setup, setup, State, state}
 use Rattle.run.specs.Run.{Outcome, run}
 use Rattle.run.proofs.Within.{run-within}
-use Rattle.answering.specs.Setting.{setupOf, taintOf, stateOf}
+use Rattle.answering.specs.mirror.Setting.{setupOf, taintOf, stateOf}
 
 bytes-take : (n : ℕ) (l : List ℕ) → Bytes l → Bytes (take n l)
 bytes-take zero l b k = omega arith
@@ -51,7 +51,7 @@ length-taint size kind c taint t h e = ap (λ (l : List ℕ). length l) e ∙ to
 pub setup-cut : (c : Case) (kernel types starts counts predicates surfaces lengths k t s n p l : List ℕ) (bytes variables words numbers : ℕ) →
     bytes ≡ lengthOf 7 c → variables ≡ metOf 2 c → numbers ≡ metOf 3 c → words ≡ metOf 4 c →
     k ≡ take bytes kernel → t ≡ take variables types → s ≡ take variables starts → n ≡ take variables counts → p ≡ take numbers predicates → l ≡ take words lengths →
-    setup k (whole.tables (record { types = t; starts = s; counts = n }) (record { bits = p }) (record { lengths = l })) (record { base = c .base; mask = c .mask }) ≡ setupOf c kernel (tables types starts counts predicates surfaces lengths)
+    setup k (whole.tables (record { types = t; starts = s; counts = n }) (record { bits = p }) (record { lengths = l })) (record { base = c .settings .base; mask = c .settings .mask }) ≡ setupOf c kernel (tables types starts counts predicates surfaces lengths)
 unfolding setupOf
 setup-cut c kernel types starts counts predicates surfaces lengths k t s n p l bytes variables words numbers a b d e f g h i j m =
     rw (f, g, h, i, j, m, a, b, d, e)

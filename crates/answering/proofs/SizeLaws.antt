@@ -9,18 +9,18 @@ use lib.ListN.{length, length-append}
 use Rattle.tables.specs.declared.Lengths.{Lengths}
 use Rattle.tables.specs.Tables.{tablesGood}
 use Rattle.tables.proofs.Laws.{limited}
-use Rattle.frames.specs.Reading.{Reading}
-use Rattle.frames.specs.Verdicts.{verdictOf}
-use Rattle.feeding.specs.Text.{textRead}
+use Rattle.frames.specs.mirror.Reading.{Reading}
+use Rattle.frames.specs.mirror.Verdicts.{verdictOf}
+use Rattle.feeding.specs.mirror.Text.{textRead}
 use Rattle.output.specs.Output.{answerLine, bufferLines, outputBytes}
 use Rattle.output.proofs.LengthLaws.{length-answer, length-buffers, length-output, length-13}
 use Rattle.step.specs.State.{Setup, State, lengthsOf}
 use Rattle.run.specs.Run.{run}
 use Rattle.run.proofs.Whole.{tables-refused}
 use Rattle.run.proofs.Kept.{run-lengths}
-use Rattle.answering.specs.Setting.{setupOf, stateOf}
+use Rattle.answering.specs.mirror.Setting.{setupOf, stateOf}
 use Rattle.answering.specs.Outcome.{outcomeOutput}
-use Rattle.answering.specs.Bench.{goodOutput, caseOutput, unread, benchOutput}
+use Rattle.answering.specs.mirror.Bench.{goodOutput, caseOutput, unread, benchOutput}
 
 -- a line of 17 characters, one of 19 and three of 3, and two for each of 4 times 4,096 bytes
 outcome-size : (base : ℕ) (x : Setup) (s : State) → length (outcomeOutput base (run x s)) ≤ 32813
@@ -59,7 +59,7 @@ case-size r = told (ltb 0 (verdictOf (r .case) .number))
   where
     told : (q : Bool) → length (cond q (answerLine (verdictOf (r .case) .number) 0 (verdictOf (r .case) .position)) (goodOutput r)) ≤ 32813
     told true = omega (arith, length-answer (verdictOf (r .case) .number) 0 (verdictOf (r .case) .position))
-    told false = outcome-size (r .case .base) (setupOf (r .case) (r .contents .kernel) (r .tables)) (stateOf (r .case) (r .contents) (r .tables .surfaces))
+    told false = outcome-size (r .case .settings .base) (setupOf (r .case) (r .contents .kernel) (r .tables)) (stateOf (r .case) (r .contents) (r .tables .surfaces))
 
 answer-first : (number completed position : ℕ) (rest : List ℕ) → 17 ≤ length (answerLine number completed position ++ rest)
 answer-first number completed position rest =

@@ -5,16 +5,16 @@ use Prim.Native.Nat.{ℕ, _<_, _≤_}
 use borrow.Author.Tests.{lt-ltb, le-ltb}
 use Rattle.frames.specs.declared.Case.{Case}
 use Rattle.frames.specs.declared.Verdict.{Verdict}
-use Rattle.frames.specs.Reading.{Contents, Reading, reading, tables}
-use Rattle.frames.specs.Verdicts.{verdictOf}
-use Rattle.output.specs.Page.{Page, written}
+use Rattle.frames.specs.mirror.Reading.{Contents, Reading, reading, tables}
+use Rattle.frames.specs.mirror.Verdicts.{verdictOf}
+use Rattle.output.specs.mirror.Page.{Page, written}
 use Rattle.output.specs.Output.{answerLine, bufferLines, outputBytes}
 use Rattle.step.specs.State.{State, state}
 use Rattle.run.specs.declared.Answer.{Answer}
 use Rattle.run.specs.Run.{Outcome, outcome, run}
-use Rattle.answering.specs.Setting.{setupOf, stateOf}
+use Rattle.answering.specs.mirror.Setting.{setupOf, stateOf}
 use Rattle.answering.specs.Outcome.{outcomeOutput}
-use Rattle.answering.specs.Bench.{goodOutput, caseOutput}
+use Rattle.answering.specs.mirror.Bench.{goodOutput, caseOutput}
 
 pub outcome-written : (base : ℕ) (a : Answer) (registers registerTaint surfaces surfaceTaint memory memoryTaint : List ℕ) (o : Outcome) (p q : Page) →
     outcome a (state registers registerTaint surfaces surfaceTaint memory memoryTaint) ≡ o →
@@ -27,11 +27,11 @@ outcome-written base a registers registerTaint surfaces surfaceTaint memory memo
 -- the run of a good case; its setup does not look at the surfaces' bytes
 pub good-written : (c : Case) (b : Contents) (types starts counts predicates surfaces lengths cut : List ℕ) (s : State) (p q : Page) →
     s ≡ stateOf c b surfaces →
-    q ≡ written (outcomeOutput (c .base) (run (setupOf c (b .kernel) (tables types starts counts predicates cut lengths)) s)) p →
+    q ≡ written (outcomeOutput (c .settings .base) (run (setupOf c (b .kernel) (tables types starts counts predicates cut lengths)) s)) p →
     q ≡ written (goodOutput (reading c b (tables types starts counts predicates surfaces lengths))) p
 unfolding goodOutput setupOf
 good-written c b types starts counts predicates surfaces lengths cut s p q e h =
-    h ∙ ap (λ (x : State). written (outcomeOutput (c .base) (run (setupOf c (b .kernel) (tables types starts counts predicates surfaces lengths)) x)) p) e
+    h ∙ ap (λ (x : State). written (outcomeOutput (c .settings .base) (run (setupOf c (b .kernel) (tables types starts counts predicates surfaces lengths)) x)) p) e
 
 -- 14 or 13: only the 40 line
 pub refused-written : (r : Reading) (v : Verdict) (p q : Page) → v ≡ verdictOf (r .case) → 0 < v .number → q ≡ written (answerLine (v .number) 0 (v .position)) p → q ≡ written (caseOutput r) p

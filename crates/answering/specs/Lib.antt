@@ -1,3 +1,2 @@
-pub mod Setting
 pub mod Outcome
-pub mod Bench
+pub mod mirror

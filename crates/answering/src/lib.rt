@@ -5,16 +5,17 @@ use step::Constants;
 ghost use mathlib.Core.Path.{_≡_};
 ghost use Prim.Native.Nat.{_≤_, min};
 ghost use lib.ListN.{length};
-ghost use Rattle.frames.specs.Reading.{contents, tables, reading};
-ghost use Rattle.frames.specs.Lines.{lengthOf};
-ghost use Rattle.frames.specs.Verdicts.{taintLength};
-ghost use Rattle.output.specs.Page.{page, written};
+ghost use Rattle.frames.specs.mirror.Reading.{contents, reading};
+ghost use Rattle.frames.specs.mirror.Lent.{lentTables};
+ghost use Rattle.frames.specs.mirror.Lines.{lengthOf};
+ghost use Rattle.frames.specs.mirror.Verdicts.{taintLength};
+ghost use Rattle.output.specs.mirror.Page.{page, written};
 ghost use Rattle.output.specs.Output.{bufferLines, outputBytes};
-ghost use Rattle.step.specs.State.{state};
 ghost use Rattle.run.specs.Run.{outcome, run};
-ghost use Rattle.answering.specs.Setting.{taintOf, setupOf};
+ghost use Rattle.answering.specs.mirror.Lent.{lentState};
+ghost use Rattle.answering.specs.mirror.Setting.{taintOf, setupOf};
 ghost use Rattle.answering.specs.Outcome.{outcomeOutput};
-ghost use Rattle.answering.specs.Bench.{goodOutput, caseOutput};
+ghost use Rattle.answering.specs.mirror.Bench.{goodOutput, caseOutput};
 
 // As many bytes as a frame of this kind has, and no more than a buffer of 4,096.
 fn content_length(kind: u8, case: Case) -> usize
@@ -69,11 +70,11 @@ fn run_case(
     memory: &mut [u8],
     memory_taint: &mut [u8],
 ) -> Answer
-    ensures { λ r. ⌜ (outcome r (state (now (registers .exit)) (now («register_taint» .exit)) (now (surfaces .entry)) (now («surface_taint» .entry)) (now (memory .exit)) (now («memory_taint» .exit))) ≡ run (setupOf case (now (kernel .entry)) (tables (now (types .entry)) (now (starts .entry)) (now (counts .entry)) (now («predicate_values» .entry)) (now (surfaces .entry)) (now («surface_lengths» .entry)))) (state (now (registers .entry)) (now («register_taint» .entry)) (now (surfaces .entry)) (now («surface_taint» .entry)) (now (memory .entry)) (now («memory_taint» .entry)))) × (r .completed ≤ 4096) × (r .position ≤ 4096) ⌝ }
+    ensures { λ r. let t = lentTables types starts counts «predicate_values» surfaces «surface_lengths» in let s = lentState registers «register_taint» surfaces «surface_taint» memory «memory_taint» in ⌜ (outcome r (s .exit) ≡ run (setupOf case (now (kernel .entry)) (t .entry)) (s .entry)) × (r .completed ≤ 4096) × (r .position ≤ 4096) ⌝ }
 {
     let constants = Constants {
-        base: case.base,
-        mask: case.mask,
+        base: case.settings.base,
+        mask: case.settings.mask,
     };
     let variables = frames::met_of(2, case);
     run::run(
@@ -135,7 +136,7 @@ fn run_and_write(
     memory_taint: &mut [u8],
     out: &mut [u8],
 ) -> usize
-    ensures { λ r. ⌜ page (now (out .exit)) r ≡ written (outcomeOutput (case .base) (run (setupOf case (now (kernel .entry)) (tables (now (types .entry)) (now (starts .entry)) (now (counts .entry)) (now («predicate_values» .entry)) (now (surfaces .entry)) (now («surface_lengths» .entry)))) (state (now (registers .entry)) (now («register_taint» .entry)) (now (surfaces .entry)) (now («surface_taint» .entry)) (now (memory .entry)) (now («memory_taint» .entry))))) (page (now (out .entry)) 0) ⌝ }
+    ensures { λ r. let t = lentTables types starts counts «predicate_values» surfaces «surface_lengths» in let s = lentState registers «register_taint» surfaces «surface_taint» memory «memory_taint» in ⌜ page (now (out .exit)) r ≡ written (outcomeOutput (case .settings .base) (run (setupOf case (now (kernel .entry)) (t .entry)) (s .entry))) (page (now (out .entry)) 0) ⌝ }
 {
     let answer = run_case(
         case,
@@ -155,7 +156,7 @@ fn run_and_write(
     write_outcome(
         out,
         answer,
-        case.base,
+        case.settings.base,
         registers,
         memory,
         register_taint,
@@ -180,7 +181,7 @@ fn answer_good(
     surface_lengths: &[u16],
     out: &mut [u8],
 ) -> usize
-    ensures { λ r. ⌜ page (now (out .exit)) r ≡ written (goodOutput (reading case (contents registers memory (now (kernel .entry)) «register_taint» «surface_taint» «memory_taint») (tables (now (types .entry)) (now (starts .entry)) (now (counts .entry)) (now («predicate_values» .entry)) (now («surface_bytes» .entry)) (now («surface_lengths» .entry))))) (page (now (out .entry)) 0) ⌝ }
+    ensures { λ r. let t = lentTables types starts counts «predicate_values» «surface_bytes» «surface_lengths» in ⌜ page (now (out .exit)) r ≡ written (goodOutput (reading case (contents registers memory (now (kernel .entry)) «register_taint» «surface_taint» «memory_taint») (t .entry))) (page (now (out .entry)) 0) ⌝ }
 {
     let file = content_length(1, case);
     let window = content_length(5, case);
@@ -224,7 +225,7 @@ pub fn answer(
     surface_lengths: &[u16],
     out: &mut [u8],
 ) -> usize
-    ensures { λ r. ⌜ page (now (out .exit)) r ≡ written (caseOutput (reading case (contents registers memory (now (kernel .entry)) «register_taint» «surface_taint» «memory_taint») (tables (now (types .entry)) (now (starts .entry)) (now (counts .entry)) (now («predicate_values» .entry)) (now («surface_bytes» .entry)) (now («surface_lengths» .entry))))) (page (now (out .entry)) 0) ⌝ }
+    ensures { λ r. let t = lentTables types starts counts «predicate_values» «surface_bytes» «surface_lengths» in ⌜ page (now (out .exit)) r ≡ written (caseOutput (reading case (contents registers memory (now (kernel .entry)) «register_taint» «surface_taint» «memory_taint») (t .entry))) (page (now (out .entry)) 0) ⌝ }
 {
     let verdict = frames::judge(case);
     if 0 < verdict.number {

@@ -1,16 +1,10 @@
 -- What the program hands on to be written. No contract can say which bytes a read gives, so each statement is of some calls that read.
 use mathlib.Core.Path.{_≡_}
-use mathlib.Core.Bool.{Bool, cond}
+use mathlib.Core.Bool.{cond}
 use mathlib.Core.List.{List, []}
 use Prim.Native.Nat.{ℕ}
-use Rattle.frames.specs.Reading.{Reading}
-use Rattle.answering.specs.Bench.{caseOutput}
 use Rattle.case_file.specs.Output.{caseFileOutput}
 use Rattle.input.specs.Calls.{Call, Possible, textOf, endedBy}
-
--- a case is answered only if its file was read to the input's end
-unfoldable pub endedOutput : Bool → Reading → List ℕ
-endedOutput ended r = cond ended (caseOutput r) []
 
 -- the case file's output, that of the text that the calls gave, if they met the input's end; otherwise, as after a read that failed, nothing
 unfoldable pub programOutput : List Call → List ℕ

@@ -4,9 +4,11 @@ ghost use mathlib.Core.Path.{_≡_};
 ghost use Prim.Native.Nat.{_≤_};
 ghost use lib.ListN.{length, take};
 ghost use Rattle.io.specs.Counts.{Counts};
-ghost use Rattle.frames.specs.Reading.{reading, contents, tables};
-ghost use Rattle.output.specs.Page.{page, written};
-ghost use Rattle.bench.specs.Program.{endedOutput, Answers};
+ghost use Rattle.frames.specs.mirror.Reading.{reading, contents};
+ghost use Rattle.frames.specs.mirror.Lent.{lentTables};
+ghost use Rattle.output.specs.mirror.Page.{page, written};
+ghost use Rattle.bench.specs.Program.{Answers};
+ghost use Rattle.bench.specs.mirror.Ended.{endedOutput};
 
 // The answer to a case, to the output buffer's start, and how many bytes it has: none if the input was not read to its end.
 fn answer_ended(
@@ -26,7 +28,7 @@ fn answer_ended(
     surface_lengths: &[u16],
     out: &mut [u8],
 ) -> usize
-    ensures { λ r. ⌜ page (now (out .exit)) r ≡ written (endedOutput ended (reading case (contents registers memory (now (kernel .entry)) «register_taint» «surface_taint» «memory_taint») (tables (now (types .entry)) (now (starts .entry)) (now (counts .entry)) (now («predicate_values» .entry)) (now («surface_bytes» .entry)) (now («surface_lengths» .entry))))) (page (now (out .entry)) 0) ⌝ }
+    ensures { λ r. let t = lentTables types starts counts «predicate_values» «surface_bytes» «surface_lengths» in ⌜ page (now (out .exit)) r ≡ written (endedOutput ended (reading case (contents registers memory (now (kernel .entry)) «register_taint» «surface_taint» «memory_taint») (t .entry))) (page (now (out .entry)) 0) ⌝ }
 {
     if !ended {
         return 0;

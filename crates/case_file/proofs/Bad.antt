@@ -8,11 +8,11 @@ use lib.ListN.{length}
 use lib.Dec.{eqb, ltb, leb}
 use borrow.Author.Tests.{lt-ltb, ne-eqb, leb-false}
 use Rattle.hex.proofs.DigitLaws.{cond-both}
-use Rattle.frames.specs.Reading.{Reading}
-use Rattle.frames.specs.Lines.{next, badLine, metOf}
-use Rattle.frames.specs.Repeated.{variableRead, predicateRead}
-use Rattle.frames.specs.Once.{Once, memoryRead, maskRead, onceRead}
-use Rattle.frames.specs.Frames.{frameRead}
+use Rattle.frames.specs.mirror.Reading.{Reading}
+use Rattle.frames.specs.mirror.Lines.{KINDS, next, badLine, metOf}
+use Rattle.frames.specs.mirror.Repeated.{variableRead, predicateRead}
+use Rattle.frames.specs.mirror.Once.{Once, memoryRead, maskRead, onceRead}
+use Rattle.frames.specs.mirror.Frames.{frameRead}
 use Rattle.case_file.specs.Frames.{kindOf, contentOf}
 use Rattle.case_file.specs.BadLine.{repeats, contentGood}
 use Rattle.case_file.proofs.ByKind.{Kinds}
@@ -71,7 +71,7 @@ positive zero e = absurd (true≢false e)
 positive (suc n) e = lt-ltb 0 (suc n) (omega arith)
 
 module _ (g : Kinds) (n : ℕ) (r : Reading) (j : Judges g n (r .case)) where
-  some : (k : ℕ) → k < 11 → repeats k ≡ false → eqb (length (g k)) 0 ≡ false → ltb 0 (metOf k (r .case)) ≡ true
+  some : (k : ℕ) → k < KINDS → repeats k ≡ false → eqb (length (g k)) 0 ≡ false → ltb 0 (metOf k (r .case)) ≡ true
   some k h once e = ap (ltb 0) (j .met k h once) ∙ positive (length (g k)) e
 
   pub frame-bad : (f : List ℕ) → (contentGood (kindOf f) (contentOf f) && (repeats (kindOf f) || eqb (length (g (kindOf f))) 0)) ≡ false → Bad r (kindOf f) f

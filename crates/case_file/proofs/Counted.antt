@@ -8,14 +8,14 @@ use lib.ListN.{length, getD, set, length-set}
 use lib.Seq.{getD-set-same, getD-set-other, set-getD}
 use lib.Dec.{eqb, ltb, leb}
 use borrow.Author.Tests.{lt-ltb, le-ltb, eqb-true, eqb-false}
-use Rattle.hex.specs.Storing.{fits}
+use Rattle.hex.specs.mirror.Storing.{fits}
 use Rattle.hex.proofs.DigitLaws.{cond-both}
 use Rattle.frames.specs.declared.Case.{Case}
-use Rattle.frames.specs.Reading.{Reading}
-use Rattle.frames.specs.Lines.{next, goodLine, metOf, lengthOf, counted, sized, based, masked}
-use Rattle.frames.specs.Repeated.{Variables, variableRead, Predicates, predicateRead, Surfaces, surfaceRead}
-use Rattle.frames.specs.Once.{contentRead, memoryRead, maskRead, onceRead}
-use Rattle.frames.specs.Frames.{frameRead}
+use Rattle.frames.specs.mirror.Reading.{Reading}
+use Rattle.frames.specs.mirror.Lines.{KINDS, next, goodLine, metOf, lengthOf, counted, sized, based, masked}
+use Rattle.frames.specs.mirror.Repeated.{Variables, variableRead, Predicates, predicateRead, Surfaces, surfaceRead}
+use Rattle.frames.specs.mirror.Once.{contentRead, memoryRead, maskRead, onceRead}
+use Rattle.frames.specs.mirror.Frames.{frameRead}
 use Rattle.case_file.specs.Frames.{kindOf, contentOf}
 use Rattle.case_file.specs.BadLine.{repeats}
 use Rattle.case_file.proofs.ByKind.{Kinds, added, none-yet}
@@ -108,12 +108,12 @@ module _ (r : Reading) where
 
 -- what decides which line is bad: how many lines there were, and how many frames of the kinds that come once at most
 pub record Judges (g : Kinds) (n : ℕ) (c : Case) : Type 0 where
-  pub places : length (c .met) ≡ 11
-  pub met : (k : ℕ) → k < 11 → repeats k ≡ false → metOf k c ≡ length (g k)
+  pub places : length (c .met) ≡ KINDS
+  pub met : (k : ℕ) → k < KINDS → repeats k ≡ false → metOf k c ≡ length (g k)
   pub bad : c .bad ≡ 0
   pub lines : c .lines ≡ n
 
-listed : (f : List ℕ) → Good f → kindOf f < 11
+listed : (f : List ℕ) → Good f → kindOf f < KINDS
 listed f (good.registers c) = omega arith
 listed f (good.variable c e) = omega arith
 listed f (good.predicate c e) = omega arith
@@ -125,12 +125,12 @@ listed f (good.registerTaint c) = omega arith
 listed f (good.surfaceTaint c) = omega arith
 listed f (good.memoryTaint c) = omega arith
 
-met-at : (k : ℕ) (c : Case) → k < 11 → metOf k c ≡ getD (c .met) k 0
+met-at : (k : ℕ) (c : Case) → k < KINDS → metOf k c ≡ getD (c .met) k 0
 unfolding metOf
-met-at k c h = rw (lt-ltb k 11 h) refl
+met-at k c h = rw (lt-ltb k KINDS h) refl
 
 module _ (kind : ℕ) (content : List ℕ) (g : Kinds) (n : ℕ) (c d : Case) (j : Judges g n c) (m : Made kind c d) (none : repeats kind ≡ false → g kind ≡ []) where
-  met-more : (k : ℕ) → k < 11 → repeats k ≡ false → metOf k d ≡ length (added kind content g k)
+  met-more : (k : ℕ) → k < KINDS → repeats k ≡ false → metOf k d ≡ length (added kind content g k)
   met-more k h once = met-at k d h ∙ (ap (λ (l : List ℕ). getD l k 0) (m .met) ∙ told (eqb kind k) refl)
     where
       told : (q : Bool) → eqb kind k ≡ q → getD (set (c .met) kind (m .count)) k 0 ≡ length (cond q (g k ++ (content ∷ [])) (g k))

@@ -9,9 +9,9 @@ use lib.ListN.{length, getD, length-append}
 use lib.Seq.{getD-append-seam}
 use lib.Dec.{eqb, leb}
 use borrow.Author.Tests.{leb-true, leb-false}
-use Rattle.frames.specs.Reading.{Contents, Tables, Reading}
-use Rattle.frames.specs.Lines.{next}
-use Rattle.frames.specs.Frames.{frameRead}
+use Rattle.frames.specs.mirror.Reading.{Contents, Tables, Reading}
+use Rattle.frames.specs.mirror.Lines.{next}
+use Rattle.frames.specs.mirror.Frames.{frameRead}
 use Rattle.case_file.specs.Frames.{kindOf, contentOf, firstOf}
 use Rattle.case_file.specs.BadLine.{repeats}
 use Rattle.case_file.specs.Case.{memoryOf}

@@ -11,13 +11,11 @@ use lib.Seq.{append-snoc}
 use lib.Dec.{eqb, ltb, leb}
 use borrow.Author.Tests.{leb-true, leb-false, ltb-true, ltb-false}
 use Rattle.hex.specs.Bytes.{isHex, hexBytes}
-use Rattle.hex.proofs.DigitLaws.{cond-both}
-use Rattle.frames.specs.declared.Case.{Case}
-use Rattle.frames.specs.Reading.{Contents, Tables, Reading, only}
-use Rattle.frames.specs.Lines.{next, badLine, longLine}
-use Rattle.frames.specs.Frames.{frameRead, lineRead}
-use Rattle.frames.proofs.Stays.{line-stays, long-stays}
-use Rattle.feeding.specs.Text.{anyLineRead, linesRead}
+use Rattle.frames.specs.mirror.Reading.{Contents, Tables, Reading}
+use Rattle.frames.specs.mirror.Lines.{next, badLine, longLine}
+use Rattle.frames.specs.mirror.Frames.{frameRead, lineRead}
+use Rattle.feeding.specs.mirror.Text.{anyLineRead, linesRead}
+use Rattle.feeding.proofs.StayLaws.{all-stay}
 use Rattle.case_file.specs.Frames.{kindOf, contentOf}
 use Rattle.case_file.specs.BadLine.{contentGood, repeats, frameGood, fileLineGood, firstBad}
 use Rattle.case_file.specs.Output.{positionOf}
@@ -33,17 +31,6 @@ lt-le h = omega arith
 
 le-suc : {a b : ℕ} → a ≤ b → a ≤ suc b
 le-suc h = omega arith
-
--- after the first bad line nothing changes
-any-stays : (limit : ℕ) (line : List ℕ) (r : Reading) → 0 < r .case .bad → anyLineRead limit line r ≡ r
-unfolding anyLineRead
-any-stays limit line r h =
-    cond-both (λ (x : Reading). x ≡ r) (leb (length line) limit) (λ _. line-stays line r h) (λ _. ap (λ (c : Case). only c r) (long-stays (r .case) h))
-
-all-stay : (limit : ℕ) (lines : List (List ℕ)) (r : Reading) → 0 < r .case .bad → linesRead limit lines r ≡ r
-unfolding linesRead
-all-stay limit [] r h = refl
-all-stay limit (line ∷ lines) r h = ap (linesRead limit lines) (any-stays limit line r h) ∙ all-stay limit lines r h
 
 and-left : (a b : Bool) → (a && b) ≡ true → a ≡ true
 and-left true b e = refl

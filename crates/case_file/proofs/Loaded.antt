@@ -4,7 +4,7 @@ use mathlib.Core.List.{[], _∷_, map, flatten}
 use Prim.Native.Nat.{ℕ}
 use lib.ListN.{length}
 use Rattle.frames.specs.declared.Case.{Case}
-use Rattle.frames.specs.Reading.{Contents, contents, Tables, tables, Reading, reading}
+use Rattle.frames.specs.mirror.Reading.{Contents, contents, Tables, tables, Reading, reading}
 use Rattle.case_file.specs.Frames.{firstOf}
 use Rattle.case_file.specs.Case.{typeOf, startOf, countOf, dwordOf, baseOf, memoryOf}
 use Rattle.case_file.proofs.Padded.{padded}
@@ -18,8 +18,7 @@ caseAt g lines =
       full = false;
       met = 0 ∷ length (g 1) ∷ length (g 2) ∷ length (g 3) ∷ length (g 4) ∷ length (g 5) ∷ length (g 6) ∷ length (g 7) ∷ length (g 8) ∷ length (g 9) ∷ length (g 10) ∷ [];
       lengths = 0 ∷ length (firstOf (g 1)) ∷ 0 ∷ 0 ∷ length (flatten (g 4)) ∷ length (memoryOf (firstOf (g 5))) ∷ 0 ∷ length (firstOf (g 7)) ∷ length (firstOf (g 8)) ∷ length (firstOf (g 9)) ∷ length (firstOf (g 10)) ∷ [];
-      base = baseOf (firstOf (g 5));
-      mask = dwordOf (firstOf (g 6));
+      settings = record { base = baseOf (firstOf (g 5)); mask = dwordOf (firstOf (g 6)) };
     }
 
 -- over buffers of whatever was in them

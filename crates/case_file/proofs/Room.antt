@@ -8,11 +8,11 @@ use lib.ListN.{length, getD, drop, length-append}
 use lib.Dec.{ltb}
 use borrow.Author.Tests.{lt-ltb, le-leb, le-ltb, lt-leb}
 use Rattle.little_endian.specs.LittleEndian.{numberAt}
-use Rattle.frames.specs.Reading.{Contents, Tables}
-use Rattle.frames.specs.Lines.{next, goodLine, metOf, lengthOf, counted, sized, based, masked}
-use Rattle.frames.specs.Repeated.{variableRead, predicateRead, surfaceRead}
-use Rattle.frames.specs.Once.{contentRead, memoryRead, maskRead, onceRead}
-use Rattle.frames.specs.Frames.{frameRead}
+use Rattle.frames.specs.mirror.Reading.{Contents, Tables}
+use Rattle.frames.specs.mirror.Lines.{next, goodLine, metOf, lengthOf, counted, sized, based, masked}
+use Rattle.frames.specs.mirror.Repeated.{variableRead, predicateRead, surfaceRead}
+use Rattle.frames.specs.mirror.Once.{contentRead, memoryRead, maskRead, onceRead}
+use Rattle.frames.specs.mirror.Frames.{frameRead}
 use Rattle.case_file.specs.Frames.{firstOf}
 use Rattle.case_file.specs.Case.{typeOf, startOf, countOf, dwordOf, baseOf, memoryOf}
 use Rattle.case_file.proofs.Padded.{padded, fits-padded, stored-padded, fits-once, stored-once, no-room, length-table, set-table}

@@ -11,24 +11,24 @@ use borrow.Author.Tests.{lt-ltb, ltb-true}
 use Rattle.little_endian.specs.LittleEndian.{numberAt}
 use Rattle.hex.specs.Bytes.{hexBytes}
 use Rattle.hex.proofs.DigitLaws.{cond-both}
-use Rattle.frames.specs.Reading.{Contents, Tables, Reading, reading}
-use Rattle.frames.specs.Lines.{nothing, metOf, lengthOf}
-use Rattle.frames.specs.Verdicts.{taintLength, verdictOf}
+use Rattle.frames.specs.mirror.Reading.{Contents, Tables, Reading, reading}
+use Rattle.frames.specs.mirror.Lines.{KINDS, nothing, metOf, lengthOf}
+use Rattle.frames.specs.mirror.Verdicts.{taintLength, verdictOf}
 use Rattle.feeding.specs.LinesOf.{linesOf}
-use Rattle.feeding.specs.Text.{linesRead, textRead}
-use Rattle.feeding.specs.Feeding.{finished}
+use Rattle.feeding.specs.mirror.Text.{linesRead, textRead}
+use Rattle.feeding.specs.mirror.Feeding.{finished}
 use Rattle.feeding.proofs.FeedingLaws.{blocksFed}
 use Rattle.step.specs.State.{Setup, State}
 use Rattle.output.specs.Output.{answerLine, outputBytes}
-use Rattle.output.specs.Page.{page, written}
+use Rattle.output.specs.mirror.Page.{page, written}
 use Rattle.run.specs.Run.{run}
 use Rattle.run.proofs.Whole.{tables-refused}
 use Rattle.run.proofs.PlainRunLaws.{equal-taken}
-use Rattle.answering.specs.Setting as loader
-use Rattle.answering.specs.Setting.{taintOf}
+use Rattle.answering.specs.mirror.Setting as loader
+use Rattle.answering.specs.mirror.Setting.{taintOf}
 use Rattle.answering.proofs.BenchLaws.{begun, blocks-answered}
 use Rattle.answering.specs.Outcome.{outcomeOutput}
-use Rattle.answering.specs.Bench.{goodOutput, caseOutput, unread, benchOutput}
+use Rattle.answering.specs.mirror.Bench.{goodOutput, caseOutput, unread, benchOutput}
 use Rattle.case_file.specs.Frames.{ofKind, firstOf}
 use Rattle.case_file.specs.BadLine.{firstBad}
 use Rattle.case_file.specs.Case.{typeOf, startOf, countOf, dwordOf, baseOf, memoryOf, marksOf, caseSetup, caseState}
@@ -93,7 +93,7 @@ module _ (z : Contents) (t : Tables) (s : Sizes z t) where
 
   none-met : (k : ℕ) → metOf k nothing ≡ 0
   unfolding metOf nothing
-  none-met k = cond-both (λ (m : ℕ). m ≡ 0) (ltb k 11) (λ h. getD-replicate {A = ℕ} 11 k 0 0 (ltb-true k 11 h)) (λ _. refl)
+  none-met k = cond-both (λ (m : ℕ). m ≡ 0) (ltb k KINDS) (λ h. getD-replicate {A = ℕ} KINDS k 0 0 (ltb-true k KINDS h)) (λ _. refl)
 
   at-start : After z t s [] start
   unfolding positionOf nothing ofKind firstOf flatten memoryOf baseOf dwordOf numberAt metOf

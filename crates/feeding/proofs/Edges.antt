@@ -6,15 +6,15 @@ use lib.ListN.{replicate}
 use Rattle.little_endian.specs.LittleEndian.{numberAt}
 use Rattle.hex.specs.Digits.{isDecimal, isLetter, isDigit, digitOf, allDigits}
 use Rattle.hex.specs.Bytes.{isHex, hexBytes}
-use Rattle.hex.specs.Storing.{placed, fits, stored}
-use Rattle.frames.specs.Reading.{Reading, reading, contents, tables}
-use Rattle.frames.specs.Lines.{nothing, next, badLine, longLine, goodLine, metOf, lengthOf, counted, sized, based, masked}
-use Rattle.frames.specs.Repeated.{variableRead, predicateRead, surfaceRead}
-use Rattle.frames.specs.Once.{contentRead, memoryRead, maskRead, onceRead}
-use Rattle.frames.specs.Frames.{frameRead, lineRead}
-use Rattle.frames.specs.Verdicts.{verdict, verdictOf, taintLength}
+use Rattle.hex.specs.mirror.Storing.{placed, fits, stored}
+use Rattle.frames.specs.mirror.Reading.{Reading, reading, contents, tables}
+use Rattle.frames.specs.mirror.Lines.{nothing, next, badLine, longLine, goodLine, metOf, lengthOf, counted, sized, based, masked}
+use Rattle.frames.specs.mirror.Repeated.{variableRead, predicateRead, surfaceRead}
+use Rattle.frames.specs.mirror.Once.{contentRead, memoryRead, maskRead, onceRead}
+use Rattle.frames.specs.mirror.Frames.{frameRead, lineRead}
+use Rattle.frames.specs.mirror.Verdicts.{verdict, verdictOf, taintLength}
 use Rattle.feeding.specs.LinesOf.{linesFrom, linesOf}
-use Rattle.feeding.specs.Text.{anyLineRead, linesRead, textRead}
+use Rattle.feeding.specs.mirror.Text.{anyLineRead, linesRead, textRead}
 
 -- small buffers of zeros, as the caller has them: 32 bytes for registers and kernel, two variables, one predicate, one surface of 4 bytes
 abbrev zeros : Reading

@@ -4,11 +4,11 @@ use mathlib.Core.Bool.{Bool, true, false, true≢false, cond, not}
 use mathlib.Core.List.{List, []}
 use Prim.Native.Nat.{ℕ}
 use lib.ListN.{take}
-use Rattle.frames.specs.Reading.{Reading, only}
-use Rattle.frames.specs.Lines.{longLine}
-use Rattle.frames.specs.Frames.{lineRead}
+use Rattle.frames.specs.mirror.Reading.{Reading, only}
+use Rattle.frames.specs.mirror.Lines.{longLine}
+use Rattle.frames.specs.mirror.Frames.{lineRead}
 use Rattle.frames.proofs.FrameLaws.{empty-is-long}
-use Rattle.feeding.specs.Feeding.{Machine, row, ended, isBegun, finished}
+use Rattle.feeding.specs.mirror.Feeding.{Machine, row, ended, isBegun, finished}
 
 -- what is read of a line, too long or not
 read-either : (long : Bool) (line : List ℕ) (r : Reading) → lineRead (cond long [] line) r ≡ cond long (only (longLine (r .case)) r) (lineRead line r)

@@ -1,18 +1,19 @@
 -- Feeding is a fold: how a text is cut into blocks does not matter.
-use mathlib.Core.Path.{_≡_, refl, sym, _∙_}
-use mathlib.Core.Bool.{cond}
+use mathlib.Core.Path.{_≡_, refl, sym, ap, _∙_}
+use mathlib.Core.Bool.{Bool, true, false, cond}
 use mathlib.Core.List.{List, [], _∷_, _++_, flatten}
 use Prim.Native.Nat.{ℕ, _+_, _-_, _^_, _≤_, _<_}
 use native.Mathlib.Omega.{arith}
 use native.Mathlib.Numerals.{add-one}
 use lib.ListN.{length, getD, take, drop, drop-of-length-le}
+use lib.Dec.{ltb}
 use lib.Seq.{drop-cons}
 use mir.Val.{Fits}
 use mir.Syntax.{w64}
 use borrow.Author.Tests.{eq-eqb, ne-eqb}
-use Rattle.frames.specs.Reading.{Reading}
-use Rattle.frames.specs.Frames.{lineRead}
-use Rattle.feeding.specs.Feeding.{Row, Machine, pushed, ended, byteFed, fed}
+use Rattle.frames.specs.mirror.Reading.{Reading}
+use Rattle.frames.specs.mirror.Frames.{lineRead}
+use Rattle.feeding.specs.mirror.Feeding.{Row, Machine, pushed, ended, byteFed, readOn, fed}
 use Rattle.feeding.proofs.EndLaws.{lineOver, line-ended}
 use Rattle.feeding.proofs.KeptLaws.{Told, Kept, kept-none, kept-more}
 
@@ -23,33 +24,75 @@ next-fits i n h f = omega (arith, h, f)
 pub next-nearer : (i n : ℕ) → i < n → n - (i + 1) < n - i
 next-nearer i n h = omega (arith, h)
 
+-- or the block's end
+pub on-nearer : (i j n bad : ℕ) → i < n → j ≡ readOn bad (i + 1) n → n - j < n - i
+unfolding readOn
+on-nearer i j n bad h e = told (ltb 0 bad) e
+  where
+    told : (q : Bool) → j ≡ cond q n (i + 1) → n - j < n - i
+    told true e = omega (arith, h, e)
+    told false e = omega (arith, h, e)
+
 -- one byte more of those from i on
 fed-turn : (block : List ℕ) (i : ℕ) (m n : Machine) → i < length block → n ≡ byteFed (getD block i 0) m → fed (drop (i + 1) block) n ≡ fed (drop i block) m
 unfolding fed
 fed-turn block i m n h e = rw (add-one i, drop-cons block i 0 h, e)
 
 -- a byte is a character of the line begun, or the line's end
-character-fed : (b : ℕ) (m : Machine) (w : Row) → (b ≡ 10 → ⊥) → w ≡ pushed b (m .row) → record { row = w; reading = m .reading } ≡ byteFed b m
+character-fed : (b : ℕ) (m : Machine) (w : Row) → ltb 0 (m .reading .case .bad) ≡ false → (b ≡ 10 → ⊥) → w ≡ pushed b (m .row) →
+    record { row = w; reading = m .reading } ≡ byteFed b m
 unfolding byteFed
-character-fed b m w n e = rw (ne-eqb b 10 n, e)
+character-fed b m w g n e = rw (g, ne-eqb b 10 n, e)
 
-end-fed : (b : ℕ) (m n : Machine) → b ≡ 10 → n ≡ ended m → n ≡ byteFed b m
+end-fed : (b : ℕ) (m n : Machine) → ltb 0 (m .reading .case .bad) ≡ false → b ≡ 10 → n ≡ ended m → n ≡ byteFed b m
 unfolding byteFed
-end-fed b m n t e = rw (eq-eqb b 10 t, e)
+end-fed b m n g t e = rw (g, eq-eqb b 10 t, e)
+
+-- after a bad line no byte counts
+pub fed-stays : (block : List ℕ) (m : Machine) → ltb 0 (m .reading .case .bad) ≡ true → fed block m ≡ m
+unfolding fed byteFed
+fed-stays [] m h = refl
+fed-stays (b ∷ block) m h = rw h (fed-stays block m h)
 
 fed-over : (block : List ℕ) (i : ℕ) (m : Machine) → length block ≤ i → fed (drop i block) m ≡ m
 unfolding fed
 fed-over block i m h = rw (drop-of-length-le block h)
 
--- of a block that a machine is fed, the bytes before i are: the rest makes of it what the block makes of the first; no buffer has another length
+-- of a block that a machine is fed, the bytes before i are: the rest makes of it what the block makes of the first; while bytes are left no
+-- line was bad; no buffer has another length
 pub record Fed (block : List ℕ) (i : ℕ) (m n : Machine) : Type 0 where
   pub inside : i ≤ length block
   pub rest : fed (drop i block) n ≡ fed block m
+  pub good : i < length block → ltb 0 (n .reading .case .bad) ≡ false
   pub line : length (n .row .line) ≡ length (m .row .line)
   pub kept : Kept (m .reading) (n .reading)
 
-pub none-fed : (block : List ℕ) (m : Machine) → Fed block 0 m m
-none-fed block m = record { inside = omega arith; rest = refl; line = refl; kept = kept-none (m .reading) (m .reading .case) }
+-- feeding goes on at i, or at the block's end if a line was bad
+on-fed : (block : List ℕ) (i j : ℕ) (m n : Machine) → i ≤ length block → fed (drop i block) n ≡ fed block m → length (n .row .line) ≡ length (m .row .line) →
+    Kept (m .reading) (n .reading) → j ≡ readOn (n .reading .case .bad) i (length block) → Fed block j m n
+unfolding readOn
+on-fed block i j m n h rest line kept e = told (ltb 0 (n .reading .case .bad)) refl e
+  where
+    told : (q : Bool) → ltb 0 (n .reading .case .bad) ≡ q → j ≡ cond q (length block) i → Fed block j m n
+    told true b e =
+        record {
+          inside = omega (arith, e);
+          rest = fed-over block j n (omega (arith, e)) ∙ (sym (fed-stays (drop i block) n b) ∙ rest);
+          good = λ l. absurd (omega (arith, e, l));
+          line = line;
+          kept = kept;
+        }
+    told false b e =
+        record {
+          inside = omega (arith, e, h);
+          rest = ap (λ (k : ℕ). fed (drop k block) n) e ∙ rest;
+          good = λ _. b;
+          line = line;
+          kept = kept;
+        }
+
+pub none-fed : (block : List ℕ) (i : ℕ) (m : Machine) → i ≡ readOn (m .reading .case .bad) 0 (length block) → Fed block i m m
+none-fed block i m e = on-fed block 0 i m m (omega arith) refl refl (kept-none (m .reading) (m .reading .case)) e
 
 module _ (block : List ℕ) (i : ℕ) (m n : Machine) (f : Fed block i m n) (h : i < length block) where
   pub character-more : (w : Row) → (getD block i 0 ≡ 10 → ⊥) → w ≡ pushed (getD block i 0) (n .row) → length (w .line) ≡ length (n .row .line) →
@@ -57,20 +100,19 @@ module _ (block : List ℕ) (i : ℕ) (m n : Machine) (f : Fed block i m n) (h :
   character-more w t e l =
       record {
         inside = omega (arith, h);
-        rest = fed-turn block i n (record { row = w; reading = n .reading }) h (character-fed (getD block i 0) n w t e) ∙ f .rest;
+        rest = fed-turn block i n (record { row = w; reading = n .reading }) h (character-fed (getD block i 0) n w (f .good h) t e) ∙ f .rest;
+        good = λ _. f .good h;
         line = l ∙ f .line;
         kept = f .kept;
       }
 
-  pub line-more : (r : Reading) (characters : List ℕ) → getD block i 0 ≡ 10 → characters ≡ cond (n .row .long) [] (take (n .row .used) (n .row .line)) →
-      r ≡ lineRead characters (n .reading) → Told (n .reading) r → Fed block (i + 1) m (lineOver n r)
-  line-more r characters t c e k =
-      record {
-        inside = omega (arith, h);
-        rest = fed-turn block i n (lineOver n r) h (end-fed (getD block i 0) n (lineOver n r) t (line-ended n r characters c e)) ∙ f .rest;
-        line = f .line;
-        kept = kept-more (m .reading) (n .reading) r (f .kept) k;
-      }
+  pub line-more : (r : Reading) (characters : List ℕ) (j : ℕ) → getD block i 0 ≡ 10 → characters ≡ cond (n .row .long) [] (take (n .row .used) (n .row .line)) →
+      r ≡ lineRead characters (n .reading) → Told (n .reading) r → j ≡ readOn (r .case .bad) (i + 1) (length block) → Fed block j m (lineOver n r)
+  line-more r characters j t c e k =
+      on-fed block (i + 1) j m (lineOver n r) (omega (arith, h))
+      (fed-turn block i n (lineOver n r) h (end-fed (getD block i 0) n (lineOver n r) (f .good h) t (line-ended n r characters c e)) ∙ f .rest)
+      (f .line)
+      (kept-more (m .reading) (n .reading) r (f .kept) k)
 
 pub all-fed : (block : List ℕ) (i : ℕ) (m n : Machine) → Fed block i m n → length block ≤ i → n ≡ fed block m
 all-fed block i m n f h = sym (fed-over block i n h) ∙ f .rest

@@ -1,8 +1,11 @@
 -- Buffers that keep their lengths.
 use mathlib.Core.Path.{_≡_, refl, _∙_}
+use mathlib.Core.List.{List}
+use Prim.Native.Nat.{ℕ}
 use lib.ListN.{length}
 use Rattle.frames.specs.declared.Case.{Case}
-use Rattle.frames.specs.Reading.{Reading, only}
+use Rattle.frames.specs.mirror.Reading.{Reading, only}
+use Rattle.frames.specs.mirror.Frames.{lineRead}
 
 pub record Kept (r s : Reading) : Type 0 where
   pub registers : length (s .contents .registers) ≡ length (r .contents .registers)
@@ -56,3 +59,7 @@ kept-more q r s k t =
       surfaces = t .1 .1 .1 .1 .1 .1 .1 .1 .1 .1 .0 ∙ k .surfaces;
       lengths = t .1 .1 .1 .1 .1 .1 .1 .1 .1 .1 .1 .0 ∙ k .lengths;
     }
+
+-- what a line makes of a reading, told by the call that read it
+pub line-kept : (line : List ℕ) (r s : Reading) → s ≡ lineRead line r → Told r s → Kept r s
+line-kept line r s e t = kept-more r r s (kept-none r (r .case)) t

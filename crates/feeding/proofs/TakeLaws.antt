@@ -6,7 +6,7 @@ use Prim.Native.Nat.{ℕ, _+_, _≤_, _<_}
 use native.Mathlib.Omega.{arith}
 use lib.ListN.{length, take, drop}
 use lib.Seq.{take-all, take-append-seam}
-use Rattle.hex.specs.Storing.{placed, fits, stored}
+use Rattle.hex.specs.mirror.Storing.{placed, fits, stored}
 use Rattle.hex.proofs.StoringLaws.{fits-room, stored-all, placed-is}
 
 pub take-past : (n : ℕ) (l : List ℕ) → length l < n → take n l ≡ l

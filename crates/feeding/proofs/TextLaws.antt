@@ -1,19 +1,20 @@
 -- Feeding a text byte by byte, in whatever blocks, and finishing, is reading it line by line.
-use mathlib.Core.Path.{_≡_, sym, ap, _∙_}
+use mathlib.Core.Path.{_≡_, refl, sym, ap, _∙_}
 use mathlib.Core.Bool.{Bool, true, false, cond}
 use mathlib.Core.Logic.{⊎-elim}
 use mathlib.Core.List.{List, [], _∷_, _++_, flatten}
 use Prim.Native.Nat.{ℕ, _≤_, _<_}
 use native.Mathlib.Omega.{arith}
 use lib.ListN.{length}
-use lib.Dec.{eqb, eqb·suc-zero}
-use borrow.Author.Tests.{lt-ltb, le-leb, lt-leb}
-use Rattle.frames.specs.Reading.{Contents, Tables, Reading, reading}
-use Rattle.frames.specs.Lines.{nothing}
-use Rattle.feeding.specs.Feeding.{Machine, machine, fresh, pushed, ended, byteFed, fed, isBegun, finished}
+use lib.Dec.{eqb, ltb, eqb·suc-zero}
+use borrow.Author.Tests.{lt-ltb, le-leb, lt-leb, ltb-true}
+use Rattle.frames.specs.mirror.Reading.{Contents, Tables, Reading, reading}
+use Rattle.frames.specs.mirror.Lines.{nothing}
+use Rattle.feeding.specs.mirror.Feeding.{Machine, machine, fresh, pushed, ended, byteFed, fed, isBegun, finished}
 use Rattle.feeding.specs.LinesOf.{linesFrom, linesOf}
-use Rattle.feeding.specs.Text.{anyLineRead, linesRead, textRead}
-use Rattle.feeding.proofs.FeedingLaws.{blocksFed, blocks-fed}
+use Rattle.feeding.specs.mirror.Text.{anyLineRead, linesRead, textRead}
+use Rattle.feeding.proofs.StayLaws.{all-stay, finished-stays}
+use Rattle.feeding.proofs.FeedingLaws.{fed-stays, blocksFed, blocks-fed}
 use Rattle.feeding.proofs.RowLaws.{Begun, begun-none, begun-more}
 
 -- a line that ends is read as the line that it is
@@ -63,19 +64,26 @@ abbrev pub Reads : ℕ → List ℕ → Type 0
 Reads limit text =
     (line : List ℕ) (m : Machine) → Begun limit (m .row) line → finished (fed text m) .reading ≡ linesRead limit (linesFrom line text) (m .reading)
 
-reads-more : (limit b : ℕ) (text : List ℕ) → Reads limit text → (line : List ℕ) (m : Machine) → Begun limit (m .row) line → (ends : Bool) →
-    finished (fed text (cond ends (ended m) (record { row = pushed b (m .row); reading = m .reading }))) .reading
+-- after a bad line nothing is read, whatever the text
+nothing-more : (limit : ℕ) (text : List ℕ) (lines : List (List ℕ)) (m : Machine) → ltb 0 (m .reading .case .bad) ≡ true → finished (fed text m) .reading ≡ linesRead limit lines (m .reading)
+nothing-more limit text lines m b =
+    let h = ltb-true 0 (m .reading .case .bad) b in
+    ap (λ (x : Machine). finished x .reading) (fed-stays text m b) ∙ (finished-stays m h ∙ sym (all-stay limit lines (m .reading) h))
+
+reads-more : (limit b : ℕ) (text : List ℕ) → Reads limit text → (line : List ℕ) (m : Machine) → Begun limit (m .row) line → (bad ends : Bool) → ltb 0 (m .reading .case .bad) ≡ bad →
+    finished (fed text (cond bad m (cond ends (ended m) (record { row = pushed b (m .row); reading = m .reading })))) .reading
     ≡ linesRead limit (cond ends (line ∷ linesFrom [] text) (linesFrom (line ++ (b ∷ [])) text)) (m .reading)
 unfolding linesRead
-reads-more limit b text k line m g true =
+reads-more limit b text k line m g true ends h = nothing-more limit text (cond ends (line ∷ linesFrom [] text) (linesFrom (line ++ (b ∷ [])) text)) m h
+reads-more limit b text k line m g false true h =
     k [] (ended m) (ended-begun limit m line g) ∙ ap (linesRead limit (linesFrom [] text)) (ended-reads limit m line g)
-reads-more limit b text k line m g false =
+reads-more limit b text k line m g false false h =
     k (line ++ (b ∷ [])) (record { row = pushed b (m .row); reading = m .reading }) (begun-more limit b (m .row) line g)
 
 reads-all : (limit : ℕ) (text : List ℕ) → Reads limit text
 unfolding fed linesFrom byteFed
 reads-all limit [] line m g = finished-reads limit m line g
-reads-all limit (b ∷ text) line m g = reads-more limit b text (reads-all limit text) line m g (eqb b 10)
+reads-all limit (b ∷ text) line m g = reads-more limit b text (reads-all limit text) line m g (ltb 0 (m .reading .case .bad)) (eqb b 10) refl
 
 pub fed-text : (text buffer : List ℕ) (contents : Contents) (tables : Tables) →
     finished (fed text (machine buffer fresh contents tables)) .reading ≡ textRead (length buffer) text (reading nothing contents tables)

@@ -1,3 +1,2 @@
-pub mod Feeding
 pub mod LinesOf
-pub mod Text
+pub mod mirror

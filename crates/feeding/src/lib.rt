@@ -4,8 +4,8 @@ ghost use mathlib.Core.Path.{_≡_};
 ghost use mathlib.Core.Bool.{cond};
 ghost use mathlib.Core.List.{[]};
 ghost use lib.ListN.{take};
-ghost use Rattle.frames.specs.Reading.{contents, tables, reading};
-ghost use Rattle.feeding.specs.Feeding.{row, machine, fresh, pushed, fed, isBegun, finished};
+ghost use Rattle.frames.specs.mirror.Lent.{lentContents, lentTables};
+ghost use Rattle.feeding.specs.mirror.Feeding.{row, machine, fresh, pushed, readOn, fed, isBegun, finished};
 
 // How many characters of the line begun stand in the line buffer, whether there were more, and what the lines before came to.
 pub struct State {
@@ -87,6 +87,13 @@ fn push(line: &mut [u8], byte: u8, used: usize, long: bool) -> Begun
     }
 }
 
+// Where a block is read on, `next` or its end: after a bad line nothing counts.
+fn read_on(bad: u32, next: usize, end: usize) -> usize
+    ensures { λ r. ⌜ r ≡ readOn bad next end ⌝ }
+{
+    if 0 < bad { end } else { next }
+}
+
 // A block of the file; how the file is cut into blocks does not matter.
 pub fn feed(
     block: &[u8],
@@ -105,21 +112,23 @@ pub fn feed(
     surface_lengths: &mut [u16],
     state: State,
 ) -> State
-    ensures { λ r. ⌜ machine (now (line .exit)) r (contents (now (registers .exit)) (now (memory .exit)) (now (kernel .exit)) (now («register_taint» .exit)) (now («surface_taint» .exit)) (now («memory_taint» .exit))) (tables (now (types .exit)) (now (starts .exit)) (now (counts .exit)) (now («predicate_values» .exit)) (now («surface_bytes» .exit)) (now («surface_lengths» .exit))) ≡ fed (now (block .entry)) (machine (now (line .entry)) state (contents (now (registers .entry)) (now (memory .entry)) (now (kernel .entry)) (now («register_taint» .entry)) (now («surface_taint» .entry)) (now («memory_taint» .entry))) (tables (now (types .entry)) (now (starts .entry)) (now (counts .entry)) (now («predicate_values» .entry)) (now («surface_bytes» .entry)) (now («surface_lengths» .entry)))) ⌝ }
+    ensures { λ r. let b = lentContents registers memory kernel «register_taint» «surface_taint» «memory_taint» in let t = lentTables types starts counts «predicate_values» «surface_bytes» «surface_lengths» in ⌜ machine (now (line .exit)) r (b .exit) (t .exit) ≡ fed (now (block .entry)) (machine (now (line .entry)) state (b .entry) (t .entry)) ⌝ }
 {
-    let mut s = state;
-    let mut i = 0;
+    let mut used = state.used;
+    let mut long = state.long;
+    let mut case = state.case;
+    let mut i = read_on(state.case.bad, 0, block.len());
     while i < block.len() {
         let byte = block[i];
         i += 1;
         if byte != b'\n' {
-            let begun = push(line, byte, s.used, s.long);
-            s.used = begun.used;
-            s.long = begun.long;
+            let begun = push(line, byte, used, long);
+            used = begun.used;
+            long = begun.long;
             continue;
         }
-        let case = frames::take_line(
-            line_characters(line, s.used, s.long),
+        let next = frames::take_line(
+            line_characters(line, used, long),
             registers,
             memory,
             kernel,
@@ -132,15 +141,14 @@ pub fn feed(
             predicate_values,
             surface_bytes,
             surface_lengths,
-            s.case,
-        );
-        s = State {
-            used: 0,
-            long: false,
             case,
-        };
+        );
+        used = 0;
+        long = false;
+        case = next;
+        i = read_on(next.bad, i, block.len());
     }
-    s
+    State { used, long, case }
 }
 
 // Whether a line is begun that has no end yet.
@@ -167,7 +175,7 @@ pub fn finish(
     surface_lengths: &mut [u16],
     state: State,
 ) -> State
-    ensures { λ r. ⌜ machine (now (line .entry)) r (contents (now (registers .exit)) (now (memory .exit)) (now (kernel .exit)) (now («register_taint» .exit)) (now («surface_taint» .exit)) (now («memory_taint» .exit))) (tables (now (types .exit)) (now (starts .exit)) (now (counts .exit)) (now («predicate_values» .exit)) (now («surface_bytes» .exit)) (now («surface_lengths» .exit))) ≡ finished (machine (now (line .entry)) state (contents (now (registers .entry)) (now (memory .entry)) (now (kernel .entry)) (now («register_taint» .entry)) (now («surface_taint» .entry)) (now («memory_taint» .entry))) (tables (now (types .entry)) (now (starts .entry)) (now (counts .entry)) (now («predicate_values» .entry)) (now («surface_bytes» .entry)) (now («surface_lengths» .entry)))) ⌝ }
+    ensures { λ r. let b = lentContents registers memory kernel «register_taint» «surface_taint» «memory_taint» in let t = lentTables types starts counts «predicate_values» «surface_bytes» «surface_lengths» in ⌜ machine (now (line .entry)) r (b .exit) (t .exit) ≡ finished (machine (now (line .entry)) state (b .entry) (t .entry)) ⌝ }
 {
     if !is_begun(state) {
         return state;

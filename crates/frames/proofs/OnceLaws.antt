@@ -7,9 +7,9 @@ use lib.ListN.{drop}
 use lib.Dec.{ltb, eqb}
 use borrow.Author.Tests.{lt-ltb, le-ltb}
 use Rattle.frames.specs.declared.Case.{Case}
-use Rattle.frames.specs.Reading.{Contents, contents}
-use Rattle.frames.specs.Lines.{badLine, metOf}
-use Rattle.frames.specs.Once.{kept, contentRead, memoryRead, maskRead, once, onceRead}
+use Rattle.frames.specs.mirror.Reading.{Contents, contents}
+use Rattle.frames.specs.mirror.Lines.{badLine, metOf}
+use Rattle.frames.specs.mirror.Once.{kept, contentRead, memoryRead, maskRead, once, onceRead}
 
 module _ (kind met : ℕ) (bytes : List ℕ) (case : Case) (t : Contents) (m : met ≡ metOf kind case) where
   pub second-frame : (c : Case) → 0 < met → c ≡ badLine case → once c t ≡ onceRead kind bytes (once case t)

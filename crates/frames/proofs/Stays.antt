@@ -4,9 +4,9 @@ use mathlib.Core.List.{List}
 use Prim.Native.Nat.{ℕ, _<_}
 use borrow.Author.Tests.{lt-ltb}
 use Rattle.frames.specs.declared.Case.{Case}
-use Rattle.frames.specs.Reading.{Reading}
-use Rattle.frames.specs.Lines.{longLine}
-use Rattle.frames.specs.Frames.{lineRead}
+use Rattle.frames.specs.mirror.Reading.{Reading}
+use Rattle.frames.specs.mirror.Lines.{longLine}
+use Rattle.frames.specs.mirror.Frames.{lineRead}
 
 pub line-stays : (line : List ℕ) (r : Reading) → 0 < r .case .bad → lineRead line r ≡ r
 unfolding lineRead

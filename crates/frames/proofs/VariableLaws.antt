@@ -8,8 +8,8 @@ use lib.Dec.{eqb}
 use borrow.Author.Tests.{lt-ltb, le-ltb}
 use Rattle.little_endian.specs.LittleEndian.{numberAt}
 use Rattle.frames.specs.declared.Case.{Case}
-use Rattle.frames.specs.Lines.{badLine, goodLine, metOf, counted}
-use Rattle.frames.specs.Repeated.{variables, variableRead}
+use Rattle.frames.specs.mirror.Lines.{badLine, goodLine, metOf, counted}
+use Rattle.frames.specs.mirror.Repeated.{variables, variableRead}
 
 module _ (bytes types starts counts : List ℕ) (case c : Case) (n : ℕ) (l : n ≡ length (drop 1 bytes)) where
   pub no-variable : eqb n 5 ≡ false → c ≡ badLine case → variables c types starts counts ≡ variableRead bytes (variables case types starts counts)

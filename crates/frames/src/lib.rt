@@ -4,17 +4,24 @@ ghost use Prim.Native.Nat.{_<_};
 ghost use lib.ListN.{drop};
 ghost use lib.Dec.{ltb};
 ghost use Rattle.hex.specs.Bytes.{hexBytes};
-ghost use Rattle.frames.specs.Reading.{contents, tables, reading};
-ghost use Rattle.frames.specs.Lines.{nothing, next, badLine, goodLine, metOf, lengthOf, counted, sized, based, masked};
-ghost use Rattle.frames.specs.Repeated.{variables, variableRead, predicates, predicateRead, surfaces, surfaceRead};
-ghost use Rattle.frames.specs.Once.{kept, contentRead, memoryRead, maskRead, once, onceRead};
-ghost use Rattle.frames.specs.Frames.{lineRead};
-ghost use Rattle.frames.specs.Verdicts.{taintLength, verdictOf};
+ghost use Rattle.frames.specs.mirror.Reading.{reading};
+ghost use Rattle.frames.specs.mirror.Lent.{lentContents, lentTables};
+ghost use Rattle.frames.specs.mirror.Lines.{KINDS, nothing, next, badLine, goodLine, metOf, lengthOf, counted, sized, based, masked};
+ghost use Rattle.frames.specs.mirror.Repeated.{variables, variableRead, predicates, predicateRead, surfaces, surfaceRead};
+ghost use Rattle.frames.specs.mirror.Once.{kept, contentRead, memoryRead, maskRead, once, onceRead};
+ghost use Rattle.frames.specs.mirror.Frames.{lineRead};
+ghost use Rattle.frames.specs.mirror.Verdicts.{taintLength, verdictOf};
 
 const LAST_LINE: u32 = 4294967295;
 
 // One place for each kind from 0x00 to 0x0a.
 const KINDS: usize = 11;
+
+// The constants that frames set: the address of the first byte of memory, and the execution mask.
+pub struct Settings {
+    pub base: u64,
+    pub mask: u32,
+}
 
 // What the lines so far came to, but for the contents, which stand in the caller's buffers.
 pub struct Case {
@@ -24,11 +31,9 @@ pub struct Case {
     // whether a content did not fit its buffer, which is 13
     pub full: bool,
     // for each kind, how many frames of it were met (of 02, 03 and 04: stored), and how many bytes their contents have together
-    pub met: [usize; 11],
-    pub lengths: [usize; 11],
-    // the address of the first byte of memory, and the execution mask
-    pub base: u64,
-    pub mask: u32,
+    pub met: [usize; KINDS],
+    pub lengths: [usize; KINDS],
+    pub settings: Settings,
 }
 
 // A number of document 01, and the position that goes with it.
@@ -44,10 +49,9 @@ pub fn start() -> Case
         lines: 0,
         bad: 0,
         full: false,
-        met: [0; 11],
-        lengths: [0; 11],
-        base: 0,
-        mask: 0,
+        met: [0; KINDS],
+        lengths: [0; KINDS],
+        settings: Settings { base: 0, mask: 0 },
     }
 }
 
@@ -98,7 +102,7 @@ pub fn length_of(kind: u8, case: Case) -> usize
 }
 
 fn count(kind: usize, number: usize, case: Case) -> Case
-    requires { ⌜ kind < 11 ⌝ }
+    requires { ⌜ kind < KINDS ⌝ }
     ensures { λ r. ⌜ r ≡ counted kind number case ⌝ }
 {
     let mut c = case;
@@ -107,7 +111,7 @@ fn count(kind: usize, number: usize, case: Case) -> Case
 }
 
 fn size(kind: usize, length: usize, case: Case) -> Case
-    requires { ⌜ kind < 11 ⌝ }
+    requires { ⌜ kind < KINDS ⌝ }
     ensures { λ r. ⌜ r ≡ sized kind length case ⌝ }
 {
     let mut c = case;
@@ -119,7 +123,7 @@ fn set_base(base: u64, case: Case) -> Case
     ensures { λ r. ⌜ r ≡ based base case ⌝ }
 {
     let mut c = case;
-    c.base = base;
+    c.settings.base = base;
     c
 }
 
@@ -127,7 +131,7 @@ fn set_mask(mask: u32, case: Case) -> Case
     ensures { λ r. ⌜ r ≡ masked mask case ⌝ }
 {
     let mut c = case;
-    c.mask = mask;
+    c.settings.mask = mask;
     c
 }
 
@@ -203,7 +207,7 @@ fn put_surface(line: &[u8], bytes: &mut [u8], lengths: &mut [u16], case: Case) -
 
 // The line's bytes from byte `from` on, to the buffer's start.
 fn put_content(line: &[u8], from: usize, kind: usize, buffer: &mut [u8], case: Case) -> Case
-    requires { ⌜ kind < 11 ⌝ }
+    requires { ⌜ kind < KINDS ⌝ }
     ensures { λ r. ⌜ kept r (now (buffer .exit)) ≡ contentRead kind (drop from (hexBytes (now (line .entry)))) (kept case (now (buffer .entry))) ⌝ }
 {
     let n = hex::content_length(line, from);
@@ -244,7 +248,7 @@ fn take_once(
     memory_taint: &mut [u8],
     case: Case,
 ) -> Case
-    ensures { λ r. ⌜ once r (contents (now (registers .exit)) (now (memory .exit)) (now (kernel .exit)) (now («register_taint» .exit)) (now («surface_taint» .exit)) (now («memory_taint» .exit))) ≡ onceRead kind (hexBytes (now (line .entry))) (once case (contents (now (registers .entry)) (now (memory .entry)) (now (kernel .entry)) (now («register_taint» .entry)) (now («surface_taint» .entry)) (now («memory_taint» .entry)))) ⌝ }
+    ensures { λ r. let b = lentContents registers memory kernel «register_taint» «surface_taint» «memory_taint» in ⌜ once r (b .exit) ≡ onceRead kind (hexBytes (now (line .entry))) (once case (b .entry)) ⌝ }
 {
     if 0 < met_of(kind, case) {
         return bad_line(case);
@@ -290,7 +294,7 @@ pub fn take_line(
     surface_lengths: &mut [u16],
     case: Case,
 ) -> Case
-    ensures { λ r. ⌜ reading r (contents (now (registers .exit)) (now (memory .exit)) (now (kernel .exit)) (now («register_taint» .exit)) (now («surface_taint» .exit)) (now («memory_taint» .exit))) (tables (now (types .exit)) (now (starts .exit)) (now (counts .exit)) (now («predicate_values» .exit)) (now («surface_bytes» .exit)) (now («surface_lengths» .exit))) ≡ lineRead (now (line .entry)) (reading case (contents (now (registers .entry)) (now (memory .entry)) (now (kernel .entry)) (now («register_taint» .entry)) (now («surface_taint» .entry)) (now («memory_taint» .entry))) (tables (now (types .entry)) (now (starts .entry)) (now (counts .entry)) (now («predicate_values» .entry)) (now («surface_bytes» .entry)) (now («surface_lengths» .entry)))) ⌝ }
+    ensures { λ r. let b = lentContents registers memory kernel «register_taint» «surface_taint» «memory_taint» in let t = lentTables types starts counts «predicate_values» «surface_bytes» «surface_lengths» in ⌜ reading r (b .exit) (t .exit) ≡ lineRead (now (line .entry)) (reading case (b .entry) (t .entry)) ⌝ }
 {
     if 0 < case.bad {
         return case;

@@ -5,7 +5,7 @@ ghost use lib.ListN.{length, getD, drop};
 ghost use Rattle.little_endian.specs.LittleEndian.{numberAt};
 ghost use Rattle.hex.specs.Digits.{isDecimal, isLetter, isDigit, digitOf, allDigits, characterOf};
 ghost use Rattle.hex.specs.Bytes.{isHex, hexBytes};
-ghost use Rattle.hex.specs.Storing.{placed, fits, stored};
+ghost use Rattle.hex.specs.mirror.Storing.{placed, fits, stored};
 
 fn is_decimal(character: u8) -> bool
     ensures { λ r. ⌜ r ≡ isDecimal character ⌝ }
@@ -51,18 +51,18 @@ pub fn character(value: u8) -> u8
     b'0'
 }
 
+// Each character is asked, whatever the ones before it are: a loop without another way out takes several at a time.
 fn all_digits(line: &[u8]) -> bool
     ensures { λ r. ⌜ r ≡ allDigits (now (line .entry)) ⌝ }
 {
+    let mut all = true;
     let mut i = 0;
     while i < line.len() {
-        if is_digit(line[i]) {
-            i += 1;
-        } else {
-            return false;
-        }
+        let digit = is_digit(line[i]);
+        all = all & digit;
+        i += 1;
     }
-    true
+    all
 }
 
 // Whether a line is bytes in hex, one at least.

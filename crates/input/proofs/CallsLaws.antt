@@ -1,7 +1,7 @@
 -- What the text and the end of calls say that may follow each other.
 use mathlib.Core.Path.{_≡_, refl, sym, ap, _∙_}
 use mathlib.Core.Bool.{Bool, true, false, true≢false, _||_}
-use mathlib.Core.List.{List, [], _∷_, _++_, append-assoc, append-nil}
+use mathlib.Core.List.{List, [], _∷_, _++_, append-assoc, append-nil, flatten}
 use Prim.Native.Nat.{ℕ}
 use native.Mathlib.Omega.{arith}
 use lib.IntN.{ℤ, pos}
@@ -42,7 +42,7 @@ some-gave c = told (answerOf (c .got))
     told Failed h = absurd (h refl)
 
 pub one-text : (c : Call) → textOf (c ∷ []) ≡ bytesOf c
-unfolding textOf
+unfolding textOf flatten
 one-text c = append-nil (bytesOf c)
 
 pub one-end : (c : Call) → endedBy (c ∷ []) ≡ metEnd (c .got)
@@ -54,7 +54,7 @@ one-end c = told (metEnd (c .got))
     told false = refl
 
 pub text-append : (a b : List Call) → textOf (a ++ b) ≡ textOf a ++ textOf b
-unfolding textOf
+unfolding textOf flatten
 text-append [] b = refl
 text-append (c ∷ a) b =
     ap (λ (t : List ℕ). bytesOf c ++ t) (text-append a b) ∙ sym (append-assoc (bytesOf c) (textOf a) (textOf b))

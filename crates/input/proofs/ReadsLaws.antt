@@ -1,7 +1,7 @@
 -- What reading has come to, call by call.
 use mathlib.Core.Path.{_≡_, refl, sym, ap, _∙_, subst}
 use mathlib.Core.Bool.{Bool, false}
-use mathlib.Core.List.{List, [], _∷_, _++_}
+use mathlib.Core.List.{List, [], _∷_, _++_, flatten}
 use Prim.Native.Nat.{ℕ, _-_, _^_, _<_}
 use native.Mathlib.Omega.{arith}
 use lib.IntN.{ℤ}
@@ -12,13 +12,14 @@ use mir.Val.{hbits, toZ, ofZ}
 use mir.Facts.{toZ-ofZ}
 use borrow.Author.Needs.{sfits-of}
 use Rattle.libc.specs.Io.{Moved}
-use Rattle.frames.specs.Reading.{Contents, Tables, reading}
+use Rattle.frames.specs.mirror.Reading.{Contents, Tables, reading}
 use Rattle.feeding.specs.declared.State.{State}
-use Rattle.feeding.specs.Feeding.{Machine, machine, fresh, fed}
+use Rattle.feeding.specs.mirror.Feeding.{Machine, machine, fresh, fed}
 use Rattle.feeding.proofs.FeedingLaws.{fed-none, fed-append}
 use Rattle.feeding.proofs.KeptLaws.{Kept, Told, kept-none, kept-more}
 use Rattle.input.specs.Answers.{metEnd}
-use Rattle.input.specs.Calls.{Call, call, bytesOf, Possible, textOf, endedBy, Reads}
+use Rattle.input.specs.Calls.{Call, call, bytesOf, Possible, textOf, endedBy}
+use Rattle.input.specs.mirror.Reads.{Reads}
 use Rattle.input.proofs.CallsLaws.{AllGave, some-gave, one-text, one-end, text-append, end-append, gave-append, possible-append}
 
 -- a machine was fed what some calls gave, and no buffer has another length
@@ -31,7 +32,7 @@ pub record SoFar (m n : Machine) : Type 0 where
 
 pub none-read : (line : List ℕ) (state : State) (contents : Contents) (tables : Tables) → state ≡ fresh →
     SoFar (machine line fresh contents tables) (machine line state contents tables)
-unfolding textOf
+unfolding textOf flatten
 none-read line state contents tables e =
     record {
       calls = [];
@@ -50,7 +51,7 @@ module _ (m n : Machine) (f : SoFar m n) where
   text-then b o e =
       e ∙ (ap (fed (textOf b)) (f .text) ∙ (sym (fed-append (textOf (f .calls)) (textOf b) m) ∙ ap (λ (t : List ℕ). fed t m) (sym (text-append (f .calls) b))))
 
-  reads-then : (b : List Call) (o : Machine) (ended : Bool) → Possible b → o ≡ fed (textOf b) n → ended ≡ endedBy b → Reads m o ended
+  reads-then : (b : List Call) (o : Machine) (ended : Bool) → Possible b → o ≡ fed (textOf b) n → ended ≡ endedBy b → Reads ended m o
   reads-then b o ended p e h =
       record {
         calls = f .calls ++ b;
@@ -60,8 +61,8 @@ module _ (m n : Machine) (f : SoFar m n) where
       }
 
   -- the turns are over
-  pub none-left : Reads m n false
-  unfolding textOf endedBy
+  pub none-left : Reads false m n
+  unfolding textOf endedBy flatten
   none-left = reads-then [] n false tt (sym (fed-none n)) refl
 
   -- one call more: its number, the block as it left it, and its bytes
@@ -83,7 +84,7 @@ module _ (m n : Machine) (f : SoFar m n) where
           kept = kept-more (m .reading) (n .reading) (o .reading) (f .kept) k;
         }
 
-    pub call-last : (ended : Bool) → length bytes ≡ 0 → ended ≡ metEnd got → Reads m n ended
+    pub call-last : (ended : Bool) → length bytes ≡ 0 → ended ≡ metEnd got → Reads ended m n
     call-last ended h e =
         reads-then (call got block ∷ []) n ended (within, (room, ((λ _. refl), tt)))
         (was-fed n (sym (fed-none n) ∙ ap (λ (t : List ℕ). fed t n) (sym (is-empty bytes h))))

@@ -1,12 +1,11 @@
 -- What is known of the calls that read standard input. No contract can say which bytes a read gives, so each statement is of some calls.
 use mathlib.Core.Path.{_≡_}
 use mathlib.Core.Bool.{Bool, false, _||_}
-use mathlib.Core.List.{List, [], _∷_, _++_}
+use mathlib.Core.List.{List, [], _∷_, map, flatten}
 use Prim.Native.Nat.{ℕ}
 use lib.IntN.{ℤ}
 use lib.ListN.{length, take}
 use Rattle.libc.specs.Io.{Moved}
-use Rattle.feeding.specs.Feeding.{Machine, fed}
 use Rattle.input.specs.Answers.{answerOf, onAnswer, gaveBytes, metEnd}
 
 -- a call: the number that it answered, and the block as it left it
@@ -28,17 +27,9 @@ Possible (c ∷ calls) = Moved 65536 (c .got) × ((length (c .block) ≡ 65536) 
 
 -- the text that they gave
 unfoldable pub textOf : List Call → List ℕ
-textOf [] = []
-textOf (c ∷ calls) = bytesOf c ++ textOf calls
+textOf calls = flatten (map bytesOf calls)
 
 -- whether they met the input's end
 unfoldable pub endedBy : List Call → Bool
 endedBy [] = false
 endedBy (c ∷ calls) = metEnd (c .got) || endedBy calls
-
--- after some calls a machine is another that was fed their text, and the input has ended if they met its end
-pub record Reads (first last : Machine) (ended : Bool) : Type 0 where
-  pub calls : List Call
-  pub possible : Possible calls
-  pub text : last ≡ fed (textOf calls) first
-  pub end : ended ≡ endedBy calls

@@ -3,10 +3,11 @@ use feeding::State;
 ghost use mathlib.Core.Path.{_≡_};
 ghost use lib.ListN.{length};
 ghost use Rattle.libc.specs.Io.{Moved};
-ghost use Rattle.frames.specs.Reading.{contents, tables};
-ghost use Rattle.feeding.specs.Feeding.{machine, fresh};
+ghost use Rattle.frames.specs.mirror.Lent.{lentContents, lentTables};
+ghost use Rattle.feeding.specs.mirror.Feeding.{machine, fresh};
 ghost use Rattle.input.specs.Answers.{answerOf, metEnd};
-ghost use Rattle.input.specs.Calls.{call, bytesOf, Reads};
+ghost use Rattle.input.specs.Calls.{call, bytesOf};
+ghost use Rattle.input.specs.mirror.Reads.{Reads};
 
 // What a read answers: a number of bytes, the end of the input, or that it failed.
 enum Answer {
@@ -72,7 +73,7 @@ pub fn read_all(
     surface_bytes: &mut [u8],
     surface_lengths: &mut [u16],
 ) -> Input
-    ensures { λ r. ⌜ Reads (machine (now (line .entry)) fresh (contents (now (registers .entry)) (now (memory .entry)) (now (kernel .entry)) (now («register_taint» .entry)) (now («surface_taint» .entry)) (now («memory_taint» .entry))) (tables (now (types .entry)) (now (starts .entry)) (now (counts .entry)) (now («predicate_values» .entry)) (now («surface_bytes» .entry)) (now («surface_lengths» .entry)))) (machine (now (line .exit)) (r .state) (contents (now (registers .exit)) (now (memory .exit)) (now (kernel .exit)) (now («register_taint» .exit)) (now («surface_taint» .exit)) (now («memory_taint» .exit))) (tables (now (types .exit)) (now (starts .exit)) (now (counts .exit)) (now («predicate_values» .exit)) (now («surface_bytes» .exit)) (now («surface_lengths» .exit)))) (r .ended) ⌝ }
+    ensures { λ r. let b = lentContents registers memory kernel «register_taint» «surface_taint» «memory_taint» in let t = lentTables types starts counts «predicate_values» «surface_bytes» «surface_lengths» in ⌜ Reads (r .ended) (machine (now (line .entry)) fresh (b .entry) (t .entry)) (machine (now (line .exit)) (r .state) (b .exit) (t .exit)) ⌝ }
 {
     let mut block = [0u8; 65536];
     let mut state = feeding::start();

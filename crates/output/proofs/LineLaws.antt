@@ -9,7 +9,7 @@ use Rattle.little_endian.specs.LittleEndian.{bytesOf}
 use Rattle.little_endian.proofs.Laws.{bytes-one}
 use Rattle.hex.specs.Bytes.{hexOf}
 use Rattle.hex.proofs.ByteLaws.{hex-none}
-use Rattle.output.specs.Page.{Page, written}
+use Rattle.output.specs.mirror.Page.{Page, written}
 use Rattle.output.specs.Output.{lineOf, answerLine, contentLine, memoryLine, bufferLines}
 use Rattle.output.proofs.PageLaws.{written-then}
 use Rattle.output.proofs.NumberLaws.{hex-then}

@@ -8,8 +8,8 @@ use Rattle.little_endian.proofs.Laws.{bytes-one, bytes-more}
 use Rattle.hex.specs.Digits.{characterOf}
 use Rattle.hex.specs.Bytes.{hexOf}
 use Rattle.hex.proofs.ByteLaws.{hex-none, hex-more, hex-append}
-use Rattle.output.specs.Page.{Page, written}
-use Rattle.output.specs.Numbers.{fourBytes}
+use Rattle.output.specs.mirror.Page.{Page, written}
+use Rattle.output.specs.mirror.Numbers.{fourBytes}
 use Rattle.output.proofs.PageLaws.{written-then}
 
 pub hex-then : (a b : List ℕ) (p q r : Page) → q ≡ written (hexOf a) p → r ≡ written (hexOf b) q → r ≡ written (hexOf (a ++ b)) p

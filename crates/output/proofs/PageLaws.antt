@@ -7,9 +7,9 @@ use native.Mathlib.Numerals.{add-one}
 use lib.ListN.{length, set, take, drop, length-set}
 use lib.Seq.{take-append-seam}
 use borrow.Author.Tests.{lt-ltb}
-use Rattle.hex.specs.Storing.{placed}
+use Rattle.hex.specs.mirror.Storing.{placed}
 use Rattle.hex.proofs.StoringLaws.{placed-none, placed-more, placed-is}
-use Rattle.output.specs.Page.{Page, page, pushed, written}
+use Rattle.output.specs.mirror.Page.{Page, page, pushed, written}
 
 pub written-append : (a b : List ℕ) (p : Page) → written (a ++ b) p ≡ written b (written a p)
 unfolding written

@@ -7,7 +7,7 @@ use borrow.Author.Tests.{eq-eqb, ne-eqb}
 use lib.Dec.{eqb}
 use lib.ListN.{length, take}
 use Prim.Native.Nat.{_≤_}
-use Rattle.output.specs.Page.{Page, page, written}
+use Rattle.output.specs.mirror.Page.{Page, page, written}
 use Rattle.output.specs.Output.{answerLine, outputBytes}
 use Rattle.output.proofs.PageLaws.{written-then, written-whole}
 

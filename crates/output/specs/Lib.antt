@@ -1,3 +1,2 @@
-pub mod Page
 pub mod Output
-pub mod Numbers
+pub mod mirror

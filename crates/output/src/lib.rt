@@ -3,9 +3,9 @@ ghost use mathlib.Core.Path.{_≡_};
 ghost use mathlib.Core.List.{[], _∷_, _++_};
 ghost use Rattle.little_endian.specs.LittleEndian.{bytesOf};
 ghost use Rattle.hex.specs.Bytes.{hexOf};
-ghost use Rattle.output.specs.Page.{page, written};
+ghost use Rattle.output.specs.mirror.Page.{page, written};
 ghost use Rattle.output.specs.Output.{answerLine, contentLine, memoryLine, bufferLines, outputBytes};
-ghost use Rattle.output.specs.Numbers.{fourBytes};
+ghost use Rattle.output.specs.mirror.Numbers.{fourBytes};
 
 // A character to place `at`, if there is one, and the place behind it.
 fn put(out: &mut [u8], at: usize, character: u8) -> usize

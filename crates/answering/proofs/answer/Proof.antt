@@ -5,10 +5,18 @@ use Rattle.answering.proofs.answer.Statement.{statement}
 use Rattle.answering.proofs.answer.Tie as tie
 
 returns : tie.Need-returns
-returns c = refused-written _ _ _ _ (c .before .before .before .before .before .before .judge .ensures) (c .before .before .before .before .if1 .taken) (c .before .before .put-answer .ensures)
+returns c =
+    let put : tie.After-put-answer = search c in
+    let refused : tie.Then1 = search put in
+    let judged : tie.After-judge = search refused in
+    refused-written _ _ _ _ (judged .judge .ensures) (refused .if1 .taken) (put .put-answer .ensures)
 
 returns-2 : tie.Need-returns-2
-returns-2 c = accepted-written _ _ _ _ (c .before .before .before .before .before .before .judge .ensures) (c .before .before .before .before .if1 .left) (c .before .before .answer-good .ensures)
+returns-2 c =
+    let answered : tie.After-answer-good = search c in
+    let accepted : tie.Else1 = search answered in
+    let judged : tie.After-judge = search accepted in
+    accepted-written _ _ _ _ (judged .judge .ensures) (accepted .if1 .left) (answered .answer-good .ensures)
 
 pub answer-spec : {M : Type 1} → statement M
 answer-spec =

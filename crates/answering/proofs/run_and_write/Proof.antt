@@ -5,7 +5,10 @@ use Rattle.answering.proofs.run_and_write.Statement.{statement}
 use Rattle.answering.proofs.run_and_write.Tie as tie
 
 returns : tie.Need-returns
-returns c = outcome-written _ _ _ _ _ _ _ _ _ _ _ (c .before .before .before .before .before .before .before .before .before .before .before .before .before .before .before .before .run-case .ensures .0) (c .before .before .write-outcome .ensures)
+returns c =
+    let wrote : tie.After-write-outcome = search c in
+    let ran : tie.After-run-case = search wrote in
+    outcome-written _ _ _ _ _ _ _ _ _ _ _ (ran .run-case .ensures .0) (wrote .write-outcome .ensures)
 
 pub run-and-write-spec : {M : Type 1} → statement M
 run-and-write-spec =

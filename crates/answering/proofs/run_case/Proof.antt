@@ -5,17 +5,31 @@ use Rattle.answering.proofs.CutLaws.{setup-cut, run-cut}
 use Rattle.answering.proofs.run_case.Statement.{statement}
 use Rattle.answering.proofs.run_case.Tie as tie
 
+-- what is known of the kernel at the start
+abbrev entry : tie.After-met-of → tie.After-shared-slice-known
+entry c = search c
+
 returns : tie.Need-returns
 returns c =
-    let d = c .before .before .before .before .before .before .before .before .before .before .before .before .before in
-    let e = d .before .before .before .before .before .before .before .before .before in
-    let a = e .before .before .before .before .before .before .before .before .before .before .before .before .before .args in
+    let ran : tie.After-run = search c in
+    let lengths : tie.After-first-words3 = search ran in
+    let surfaces : tie.After-met-of3 = search lengths in
+    let values : tie.After-first-dwords = search surfaces in
+    let predicates : tie.After-met-of2 = search values in
+    let counts : tie.After-first-words2 = search predicates in
+    let starts : tie.After-first-words = search counts in
+    let types : tie.After-first-bytes2 = search starts in
+    let kernel : tie.After-first-bytes = search types in
+    let size : tie.After-length-of = search kernel in
+    let variables : tie.After-met-of = search size in
+    let known = entry variables in
+    let a = known .before .args in
     run-cut (a .case) (a .kernel .now) _ _ _ _
     (setup-cut (a .case) (a .kernel .now) (a .types .now) (a .starts .now) (a .counts .now) (a .predicate-values .now) (a .surfaces .now) (a .surface-lengths .now) _ _ _ _ _ _ _ _ _ _
-    (d .before .before .before .before .before .before .before .before .length-of .ensures) (e .met-of .ensures) (d .before .before .before .met-of2 .ensures) (d .before .met-of3 .ensures)
-    (d .before .before .before .before .before .before .before .first-bytes .ensures) (d .before .before .before .before .before .before .first-bytes2 .ensures) (d .before .before .before .before .before .first-words .ensures) (d .before .before .before .before .first-words2 .ensures) (d .before .before .first-dwords .ensures) (d .first-words3 .ensures))
-    (λ k. omega (arith, e .before .before .before .before .before .before .before .before .before .before .before .before .shared-slice-known .given k))
-    (c .before .before .before .before .before .before .before .before .run .ensures)
+    (size .length-of .ensures) (variables .met-of .ensures) (predicates .met-of2 .ensures) (surfaces .met-of3 .ensures)
+    (kernel .first-bytes .ensures) (types .first-bytes2 .ensures) (starts .first-words .ensures) (counts .first-words2 .ensures) (values .first-dwords .ensures) (lengths .first-words3 .ensures))
+    (λ k. omega (arith, known .shared-slice-known .given k))
+    (ran .run .ensures)
 
 pub run-case-spec : {M : Type 1} → statement M
 run-case-spec =

@@ -1,7 +1,7 @@
 -- `answering::taint_or_zeros` meets its contract.
 use borrow.Author.Needs.{needs}
 use borrow.Author.Tests.{lt-ltb, le-ltb}
-use Rattle.answering.specs.Setting.{taintOf}
+use Rattle.answering.specs.mirror.Setting.{taintOf}
 use Rattle.answering.proofs.taint_or_zeros.Statement.{statement}
 use Rattle.answering.proofs.taint_or_zeros.Tie as tie
 

@@ -8,7 +8,10 @@ returns : tie.Need-returns
 returns c = unended-written _ _ _ (c .if1 .taken)
 
 returns-2 : tie.Need-returns-2
-returns-2 c = ended-written _ _ _ _ _ (c .before .before .before .before .if1 .left) (c .before .before .answer .ensures)
+returns-2 c =
+    let answered : tie.After-answer = search c in
+    let whole : tie.Else1 = search answered in
+    ended-written _ _ _ _ _ (whole .if1 .left) (answered .answer .ensures)
 
 pub answer-ended-spec : {M : Type 1} → statement M
 answer-ended-spec = tie.close (tie.spec returns (λ c κs. search needs) (λ c. search needs) returns-2)

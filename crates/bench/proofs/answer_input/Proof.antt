@@ -1,49 +1,61 @@
 -- `bench::answer_input` meets its contract.
 use mathlib.Core.Path.{refl, sym}
 use Prim.Native.Nat.{ℕ}
+use borrow.Author.Needs.{needs}
 use lib.ListN.{length-replicate}
 use Rattle.bench.proofs.AnswersLaws.{input-answered}
 use Rattle.bench.proofs.answer_input.Statement.{statement}
 use Rattle.bench.proofs.answer_input.Tie as tie
 
--- where the input is ended, from the function's end
-abbrev ends : tie.After-slice-known2 → tie.After-finish
-ends c = c .before .before .before .before .before .before .before .before .before .before .before .before .before .before .before .before .before .before .before .before .before .before .before
+-- where the input is finished, from where it is answered
+abbrev ends : tie.After-answer-ended → tie.After-finish
+ends c = search c
 
--- where it is read, from there
-abbrev reads : tie.After-finish → tie.After-read-all
-reads c = c .before .before .before .before .before .before .before .before .before .before .before .before .before .before .before .before .before .before .before .before .before .before .before .before .before .before .before
+-- where the buffers of the tables came back from reading, from there
+abbrev came : tie.After-finish → tie.After-types2
+came c = search c
+
+-- where the input is read, from there
+abbrev reads : tie.After-types2 → tie.After-read-all
+reads c = search c
+
+-- the function's start, from there
+abbrev start : tie.After-read-all → tie.Start
+start c = search c
 
 returns : tie.Need-returns
 returns c =
-    input-answered _ _ _ _ _ _ _ (length-replicate {A = ℕ} 16386 0) (reads (ends c) .before .before .before .before .before .before .before .before .before .before .before .before .before .before .before .pre) (reads (ends c) .read-all .ensures) (ends c .finish .ensures) (c .before .before .answer-ended .ensures)
+    let answered : tie.After-answer-ended = search c in
+    let finished = ends answered in
+    let read = reads (came finished) in
+    input-answered _ _ _ _ _ _ _ _ (length-replicate {A = ℕ} 16386 0) (start read .pre) (read .read-all .ensures) (finished .finish .ensures) (answered .answer-ended .ensures) refl
 
 -- each buffer has the length of its array: as it was made, as it came back from `read_all`, and as it came back from `finish`
 pub answer-input-spec : {M : Type 1} → statement M
 answer-input-spec =
     tie.close
     (tie.spec (λ c. refl) (λ c. refl) (λ c. refl) (λ c. refl) (λ c. refl) (λ c. refl) (λ c. refl) (λ c. refl) (λ c. refl) (λ c. refl) (λ c. refl) (λ c. refl) (λ c. refl) (λ c κs. tt)
-    (λ c. sym (c .before .before .before .before .before .before .before .before .before .before .before .before .before .line2 .given))
-    (λ c. sym (c .before .before .before .before .before .before .before .before .before .before .before .before .before .registers2 .given))
-    (λ c. sym (c .before .before .before .before .before .before .before .before .before .before .before .before .before .memory2 .given))
-    (λ c. sym (c .before .before .before .before .before .before .before .before .before .before .before .before .before .kernel2 .given))
-    (λ c. sym (c .before .before .before .before .before .before .before .before .before .before .before .before .before .register-taint2 .given))
-    (λ c. sym (c .before .before .before .before .before .before .before .before .before .before .before .before .before .surface-taint2 .given))
-    (λ c. sym (c .before .before .before .before .before .before .before .before .before .before .before .before .before .memory-taint2 .given))
-    (λ c. sym (c .before .before .before .before .before .before .before .before .before .before .before .before .before .types2 .given))
-    (λ c. sym (c .before .before .before .before .before .before .before .before .before .before .before .before .before .starts2 .given))
-    (λ c. sym (c .before .before .before .before .before .before .before .before .before .before .before .before .before .counts2 .given))
-    (λ c. sym (c .before .before .before .before .before .before .before .before .before .before .before .before .before .predicate-values2 .given))
-    (λ c. sym (c .before .before .before .before .before .before .before .before .before .before .before .before .before .surface-bytes2 .given))
-    (λ c. sym (c .before .before .before .before .before .before .before .before .before .before .before .before .before .surface-lengths2 .given))
+    (λ c. let b : tie.After-line2 = search c in sym (b .line2 .given))
+    (λ c. let b : tie.After-registers2 = search c in sym (b .registers2 .given))
+    (λ c. let b : tie.After-memory2 = search c in sym (b .memory2 .given))
+    (λ c. let b : tie.After-kernel2 = search c in sym (b .kernel2 .given))
+    (λ c. let b : tie.After-register-taint2 = search c in sym (b .register-taint2 .given))
+    (λ c. let b : tie.After-surface-taint2 = search c in sym (b .surface-taint2 .given))
+    (λ c. let b : tie.After-memory-taint2 = search c in sym (b .memory-taint2 .given))
+    (λ c. let b : tie.After-types2 = search c in sym (b .types2 .given))
+    (λ c. let b : tie.After-starts2 = search c in sym (b .starts2 .given))
+    (λ c. let b : tie.After-counts2 = search c in sym (b .counts2 .given))
+    (λ c. let b : tie.After-predicate-values2 = search c in sym (b .predicate-values2 .given))
+    (λ c. let b : tie.After-surface-bytes2 = search c in sym (b .surface-bytes2 .given))
+    (λ c. let b : tie.After-surface-lengths2 = search c in sym (b .surface-lengths2 .given))
     (λ c κs. tt)
-    (λ c. sym (c .before .before .before .before .before .before .before .before .before .before .kernel4 .given))
-    (λ c. sym (c .before .before .before .before .before .before .before .types4 .given))
-    (λ c. sym (c .before .before .before .before .before .before .before .starts4 .given))
-    (λ c. sym (c .before .before .before .before .before .before .before .counts4 .given))
-    (λ c. sym (c .before .before .before .before .before .before .before .predicate-values4 .given))
-    (λ c. sym (c .before .before .before .before .before .before .before .surface-bytes4 .given))
-    (λ c. sym (c .before .before .before .before .before .before .before .surface-lengths4 .given))
+    (λ c. let b : tie.After-kernel4 = search c in sym (b .kernel4 .given))
+    (λ c. let b : tie.After-types4 = search c in sym (b .types4 .given))
+    (λ c. let b : tie.After-starts4 = search c in sym (b .starts4 .given))
+    (λ c. let b : tie.After-counts4 = search c in sym (b .counts4 .given))
+    (λ c. let b : tie.After-predicate-values4 = search c in sym (b .predicate-values4 .given))
+    (λ c. let b : tie.After-surface-bytes4 = search c in sym (b .surface-bytes4 .given))
+    (λ c. let b : tie.After-surface-lengths4 = search c in sym (b .surface-lengths4 .given))
     (λ c κs. tt)
-    (λ c. c .before .before .answer-ended .kept .1 .1 .1 .1 .1 .1 .1 .1 .1 .1 .1 .1 .1 .1 .0)
+    (λ c. search needs)
     returns)

@@ -1,7 +1,7 @@
 -- `feeding::push` meets its contract: at each return, what the calls and tests on the way say picks the case of the definition.
 use borrow.Author.Needs.{needs}
 use borrow.Author.Tests.{lt-ltb, le-ltb}
-use Rattle.feeding.specs.Feeding.{pushed}
+use Rattle.feeding.specs.mirror.Feeding.{pushed}
 use Rattle.feeding.proofs.push.Statement.{statement}
 use Rattle.feeding.proofs.push.Tie as tie
 

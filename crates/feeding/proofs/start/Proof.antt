@@ -1,6 +1,6 @@
 -- `feeding::start` meets its contract: at each return, what the calls and tests on the way say picks the case of the definition.
 use borrow.Author.Needs.{needs}
-use Rattle.feeding.specs.Feeding.{fresh}
+use Rattle.feeding.specs.mirror.Feeding.{fresh}
 use Rattle.feeding.proofs.start.Statement.{statement}
 use Rattle.feeding.proofs.start.Tie as tie
 

@@ -1,6 +1,6 @@
 -- `frames::bad_line` meets its contract: at each return, what the calls and tests on the way say picks the case of the definition.
 use borrow.Author.Needs.{needs}
-use Rattle.frames.specs.Lines.{badLine}
+use Rattle.frames.specs.mirror.Lines.{badLine}
 use Rattle.frames.proofs.bad_line.Statement.{statement}
 use Rattle.frames.proofs.bad_line.Tie as tie
 

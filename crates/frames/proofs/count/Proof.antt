@@ -1,7 +1,7 @@
 -- `frames::count` meets its contract: at each return, what the calls and tests on the way say picks the case of the definition.
 use mathlib.Core.Path.{refl}
 use borrow.Author.Needs.{needs}
-use Rattle.frames.specs.Lines.{counted}
+use Rattle.frames.specs.mirror.Lines.{counted}
 use Rattle.frames.proofs.count.Statement.{statement}
 use Rattle.frames.proofs.count.Tie as tie
 

@@ -1,6 +1,6 @@
 -- `frames::good_line` meets its contract: at each return, what the calls and tests on the way say picks the case of the definition.
 use borrow.Author.Needs.{needs}
-use Rattle.frames.specs.Lines.{goodLine}
+use Rattle.frames.specs.mirror.Lines.{goodLine}
 use Rattle.frames.proofs.good_line.Statement.{statement}
 use Rattle.frames.proofs.good_line.Tie as tie
 

@@ -1,6 +1,6 @@
 -- `frames::judge` meets its contract: at each return, what the tests on the way say picks the case of the definition.
 use borrow.Author.Tests.{lt-ltb, le-ltb}
-use Rattle.frames.specs.Verdicts.{verdictOf}
+use Rattle.frames.specs.mirror.Verdicts.{verdictOf}
 use Rattle.frames.proofs.judge.Statement.{statement}
 use Rattle.frames.proofs.judge.Tie as tie
 

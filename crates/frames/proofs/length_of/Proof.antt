@@ -1,7 +1,7 @@
 -- `frames::length_of` meets its contract: at each return, what the calls and tests on the way say picks the case of the definition.
 use borrow.Author.Needs.{needs}
 use borrow.Author.Tests.{lt-ltb, le-ltb}
-use Rattle.frames.specs.Lines.{lengthOf}
+use Rattle.frames.specs.mirror.Lines.{lengthOf}
 use Rattle.frames.proofs.length_of.Statement.{statement}
 use Rattle.frames.proofs.length_of.Tie as tie
 

@@ -1,7 +1,7 @@
 -- `frames::met_of` meets its contract: at each return, what the calls and tests on the way say picks the case of the definition.
 use borrow.Author.Needs.{needs}
 use borrow.Author.Tests.{lt-ltb, le-ltb}
-use Rattle.frames.specs.Lines.{metOf}
+use Rattle.frames.specs.mirror.Lines.{metOf}
 use Rattle.frames.proofs.met_of.Statement.{statement}
 use Rattle.frames.proofs.met_of.Tie as tie
 

@@ -1,7 +1,7 @@
 -- `frames::next_line` meets its contract: at each return, what the calls and tests on the way say picks the case of the definition.
 use borrow.Author.Needs.{needs}
 use borrow.Author.Tests.{lt-ltb, le-ltb}
-use Rattle.frames.specs.Lines.{next}
+use Rattle.frames.specs.mirror.Lines.{next}
 use Rattle.frames.proofs.next_line.Statement.{statement}
 use Rattle.frames.proofs.next_line.Tie as tie
 

@@ -7,46 +7,51 @@ use Rattle.frames.proofs.put_variable.Tie as tie
 
 returns : tie.Need-returns
 returns c =
-    let a = c .before in
-    let b = a .before in
-    let d = b .before in
-    let e = d .before in
-    let f = e .before in
-    let g = f .before in
-    let h = g .before in
-    let i = h .before in
-    let j = i .before in
-    variable-stored _ _ _ _ _ _ _ (j .before .content-length .ensures) _ (j .if1 .taken) (i .met-of .ensures) (h .if2 .taken) (g .if3 .taken) _ _ _ _ (f .if4 .taken)
-    (e .byte .ensures) (d .word .ensures) (b .word2 .ensures) (a .good-line .ensures) (c .count .ensures)
+    let good : tie.After-good-line = search c in
+    let count : tie.After-word2 = search good in
+    let start : tie.After-word = search count in
+    let type : tie.After-byte = search start in
+    let counts : tie.Then4 = search type in
+    let starts : tie.Then3 = search counts in
+    let types : tie.Then2 = search starts in
+    let v : tie.After-met-of = search types in
+    let five : tie.Then1 = search v in
+    let n : tie.After-content-length = search five in
+    variable-stored _ _ _ _ _ _ _ (n .content-length .ensures) _ (five .if1 .taken) (v .met-of .ensures) (types .if2 .taken) (starts .if3 .taken) _ _ _ _ (counts .if4 .taken)
+    (type .byte .ensures) (start .word .ensures) (count .word2 .ensures) (good .good-line .ensures) (c .count .ensures)
 
 returns-2 : tie.Need-returns-2
 returns-2 c =
-    let a = c .before in
-    let b = a .before in
-    let d = b .before in
-    let e = d .before in
-    let f = e .before in
-    no-room-for-count _ _ _ _ _ _ _ (f .before .content-length .ensures) _ (f .if1 .taken) (e .met-of .ensures) (d .if2 .taken) (b .if3 .taken) (a .if4 .left) (c .good-line2 .ensures)
+    let full : tie.Else4 = search c in
+    let starts : tie.Then3 = search full in
+    let types : tie.Then2 = search starts in
+    let v : tie.After-met-of = search types in
+    let five : tie.Then1 = search v in
+    let n : tie.After-content-length = search five in
+    no-room-for-count _ _ _ _ _ _ _ (n .content-length .ensures) _ (five .if1 .taken) (v .met-of .ensures) (types .if2 .taken) (starts .if3 .taken) (full .if4 .left) (c .good-line2 .ensures)
 
 returns-3 : tie.Need-returns-3
 returns-3 c =
-    let a = c .before in
-    let b = a .before in
-    let d = b .before in
-    let e = d .before in
-    no-room-for-start _ _ _ _ _ _ _ (e .before .content-length .ensures) _ (e .if1 .taken) (d .met-of .ensures) (b .if2 .taken) (a .if3 .left) (c .good-line3 .ensures)
+    let full : tie.Else3 = search c in
+    let types : tie.Then2 = search full in
+    let v : tie.After-met-of = search types in
+    let five : tie.Then1 = search v in
+    let n : tie.After-content-length = search five in
+    no-room-for-start _ _ _ _ _ _ _ (n .content-length .ensures) _ (five .if1 .taken) (v .met-of .ensures) (types .if2 .taken) (full .if3 .left) (c .good-line3 .ensures)
 
 returns-4 : tie.Need-returns-4
 returns-4 c =
-    let a = c .before in
-    let b = a .before in
-    let d = b .before in
-    no-room-for-type _ _ _ _ _ _ _ (d .before .content-length .ensures) _ (d .if1 .taken) (b .met-of .ensures) (a .if2 .left) (c .good-line4 .ensures)
+    let full : tie.Else2 = search c in
+    let v : tie.After-met-of = search full in
+    let five : tie.Then1 = search v in
+    let n : tie.After-content-length = search five in
+    no-room-for-type _ _ _ _ _ _ _ (n .content-length .ensures) _ (five .if1 .taken) (v .met-of .ensures) (full .if2 .left) (c .good-line4 .ensures)
 
 returns-5 : tie.Need-returns-5
 returns-5 c =
-    let a = c .before in
-    no-variable _ _ _ _ _ _ _ (a .before .content-length .ensures) (ne-eqb _ _ (a .if1 .left)) (c .bad-line .ensures)
+    let other : tie.Else1 = search c in
+    let n : tie.After-content-length = search other in
+    no-variable _ _ _ _ _ _ _ (n .content-length .ensures) (ne-eqb _ _ (other .if1 .left)) (c .bad-line .ensures)
 
 pub put-variable-spec : {M : Type 1} → statement M
 put-variable-spec = tie.close (tie.spec (λ c κs. search needs) (λ c κs. search needs) (λ c κs. search needs) (λ c. search needs) (λ c κs. search needs) (λ c. search needs) (λ c. search needs) (λ c κs. search needs) (λ c. search needs) (λ c. search needs) (λ c. search needs) (λ c κs. search needs) (λ c κs. search needs) (λ c κs. search needs) (λ c κs. search needs) (λ c κs. search needs) (λ c κs. search needs) (λ c. search needs) (λ c. search needs) (λ c. search needs) returns returns-2 returns-3 returns-4 returns-5)

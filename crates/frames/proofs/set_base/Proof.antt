@@ -1,6 +1,6 @@
 -- `frames::set_base` meets its contract: at each return, what the calls and tests on the way say picks the case of the definition.
 use mathlib.Core.Path.{refl}
-use Rattle.frames.specs.Lines.{based}
+use Rattle.frames.specs.mirror.Lines.{based}
 use Rattle.frames.proofs.set_base.Statement.{statement}
 use Rattle.frames.proofs.set_base.Tie as tie
 

@@ -1,6 +1,6 @@
 -- `frames::set_mask` meets its contract: at each return, what the calls and tests on the way say picks the case of the definition.
 use mathlib.Core.Path.{refl}
-use Rattle.frames.specs.Lines.{masked}
+use Rattle.frames.specs.mirror.Lines.{masked}
 use Rattle.frames.proofs.set_mask.Statement.{statement}
 use Rattle.frames.proofs.set_mask.Tie as tie
 

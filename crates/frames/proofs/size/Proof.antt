@@ -1,7 +1,7 @@
 -- `frames::size` meets its contract: at each return, what the calls and tests on the way say picks the case of the definition.
 use mathlib.Core.Path.{refl}
 use borrow.Author.Needs.{needs}
-use Rattle.frames.specs.Lines.{sized}
+use Rattle.frames.specs.mirror.Lines.{sized}
 use Rattle.frames.proofs.size.Statement.{statement}
 use Rattle.frames.proofs.size.Tie as tie
 

@@ -1,6 +1,6 @@
 -- `frames::start` meets its contract: at each return, what the calls and tests on the way say picks the case of the definition.
 use mathlib.Core.Path.{refl}
-use Rattle.frames.specs.Lines.{nothing}
+use Rattle.frames.specs.mirror.Lines.{nothing}
 use Rattle.frames.proofs.start.Statement.{statement}
 use Rattle.frames.proofs.start.Tie as tie
 

@@ -1,7 +1,7 @@
 -- `frames::taint_length` meets its contract: at each return, what the calls and tests on the way say picks the case of the definition.
 use borrow.Author.Needs.{needs}
 use borrow.Author.Tests.{lt-ltb, le-ltb}
-use Rattle.frames.specs.Verdicts.{taintLength}
+use Rattle.frames.specs.mirror.Verdicts.{taintLength}
 use Rattle.frames.proofs.taint_length.Statement.{statement}
 use Rattle.frames.proofs.taint_length.Tie as tie
 

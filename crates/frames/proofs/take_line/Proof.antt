@@ -1,5 +1,6 @@
 -- `frames::take_line` meets its contract: at each return the law of such a line.
 use mathlib.Core.Path.{sym}
+use borrow.Author.Needs.{needs}
 use borrow.Author.Tests.{ne-eqb}
 use Rattle.frames.proofs.Stays.{line-stays}
 use Rattle.frames.proofs.FrameLaws.{no-frame, variable-frame, predicate-frame, surface-frame, once-frame}
@@ -11,39 +12,59 @@ returns c = sym (line-stays _ _ (c .if1 .taken))
 
 returns-2 : tie.Need-returns-2
 returns-2 c =
-    let a = c .before .before in
-    no-frame _ _ _ _ _ _ (a .before .if1 .left) (a .is-hex .ensures) (c .before .if2 .taken) (c .bad-line .ensures)
+    let bad : tie.Then2 = search c in
+    let h : tie.After-is-hex = search bad in
+    let none : tie.Else1 = search h in
+    no-frame _ _ _ _ _ _ (none .if1 .left) (h .is-hex .ensures) (bad .if2 .taken) (c .bad-line .ensures)
 
 returns-3 : tie.Need-returns-3
 returns-3 c =
-    let a = c .before .before .before .before .before .before in
-    let b = a .before .before .before .before in
-    let d = b .before .before in
-    variable-frame _ _ _ _ _ _ (d .before .before .if1 .left) (d .before .is-hex .ensures) (d .if2 .left) _ (b .before .byte .ensures) _ _ _ (b .if3 .taken) (a .put-variable .ensures)
+    let put : tie.After-put-variable = search c in
+    let kind : tie.Then3 = search put in
+    let k : tie.After-byte = search kind in
+    let good : tie.Else2 = search k in
+    let h : tie.After-is-hex = search good in
+    let none : tie.Else1 = search h in
+    variable-frame _ _ _ _ _ _ (none .if1 .left) (h .is-hex .ensures) (good .if2 .left) _ (k .byte .ensures) _ _ _ (kind .if3 .taken) (put .put-variable .ensures)
 
 returns-4 : tie.Need-returns-4
 returns-4 c =
-    let a = c .before .before in
-    let b = a .before .before in
-    let d = b .before .before .before in
-    predicate-frame _ _ _ _ _ _ (d .before .before .if1 .left) (d .before .is-hex .ensures) (d .if2 .left) _ (b .before .before .byte .ensures) _ (b .if4 .taken) (a .put-predicate .ensures)
+    let put : tie.After-put-predicate = search c in
+    let kind : tie.Then4 = search put in
+    let k : tie.After-byte = search kind in
+    let good : tie.Else2 = search k in
+    let h : tie.After-is-hex = search good in
+    let none : tie.Else1 = search h in
+    predicate-frame _ _ _ _ _ _ (none .if1 .left) (h .is-hex .ensures) (good .if2 .left) _ (k .byte .ensures) _ (kind .if4 .taken) (put .put-predicate .ensures)
 
 returns-5 : tie.Need-returns-5
 returns-5 c =
-    let a = c .before .before .before .before in
-    let b = a .before .before .before in
-    let d = b .before .before .before .before in
-    surface-frame _ _ _ _ _ _ (d .before .before .if1 .left) (d .before .is-hex .ensures) (d .if2 .left) _ (b .before .before .before .byte .ensures) _ _ (b .if5 .taken) (a .put-surface .ensures)
+    let put : tie.After-put-surface = search c in
+    let kind : tie.Then5 = search put in
+    let k : tie.After-byte = search kind in
+    let good : tie.Else2 = search k in
+    let h : tie.After-is-hex = search good in
+    let none : tie.Else1 = search h in
+    surface-frame _ _ _ _ _ _ (none .if1 .left) (h .is-hex .ensures) (good .if2 .left) _ (k .byte .ensures) _ _ (kind .if5 .taken) (put .put-surface .ensures)
 
 returns-6 : tie.Need-returns-6
 returns-6 c =
-    let a = c .before .before .before .before .before .before .before .before .before .before .before .before in
-    let b = a .before .before .before .before .before .before .before in
-    let d = b .before .before .before .before in
-    once-frame _ _ _ _ _ _ (d .before .before .if1 .left) (d .before .is-hex .ensures) (d .if2 .left) _ (b .before .before .before .byte .ensures) _
-    (ne-eqb _ _ (b .before .before .if3 .left)) (ne-eqb _ _ (b .before .if4 .left)) (ne-eqb _ _ (b .if5 .left)) (a .take-once .ensures)
+    let put : tie.After-take-once = search c in
+    let not4 : tie.Else5 = search put in
+    let not3 : tie.Else4 = search not4 in
+    let not2 : tie.Else3 = search not3 in
+    let k : tie.After-byte = search not2 in
+    let good : tie.Else2 = search k in
+    let h : tie.After-is-hex = search good in
+    let none : tie.Else1 = search h in
+    once-frame _ _ _ _ _ _ (none .if1 .left) (h .is-hex .ensures) (good .if2 .left) _ (k .byte .ensures) _
+    (ne-eqb _ _ (not2 .if3 .left)) (ne-eqb _ _ (not3 .if4 .left)) (ne-eqb _ _ (not4 .if5 .left)) (put .take-once .ensures)
 
 pub take-line-spec : {M : Type 1} → statement M
 take-line-spec =
     tie.close
-    (tie.spec returns (λ c κs. tt) (λ c κs. tt) returns-2 (λ c κs. tt) (λ c κs. tt) (λ c. c .before .before .before .before .before .before .put-variable .kept .1 .0) (λ c. c .before .before .before .before .before .before .put-variable .kept .1 .1 .0) (λ c. c .before .before .before .before .before .before .put-variable .kept .1 .1 .1 .0) returns-3 (λ c κs. tt) (λ c. c .before .before .put-predicate .kept .1 .0) returns-4 (λ c κs. tt) (λ c. c .before .before .before .before .put-surface .kept .1 .0) (λ c. c .before .before .before .before .put-surface .kept .1 .1 .0) returns-5 (λ c κs. tt) (λ c. c .before .before .before .before .before .before .before .before .before .before .before .before .take-once .kept .1 .1 .0) (λ c. c .before .before .before .before .before .before .before .before .before .before .before .before .take-once .kept .1 .1 .1 .0) (λ c. c .before .before .before .before .before .before .before .before .before .before .before .before .take-once .kept .1 .1 .1 .1 .0) (λ c. c .before .before .before .before .before .before .before .before .before .before .before .before .take-once .kept .1 .1 .1 .1 .1 .0) (λ c. c .before .before .before .before .before .before .before .before .before .before .before .before .take-once .kept .1 .1 .1 .1 .1 .1 .0) (λ c. c .before .before .before .before .before .before .before .before .before .before .before .before .take-once .kept .1 .1 .1 .1 .1 .1 .1 .0) returns-6)
+    (tie.spec returns (λ c κs. tt) (λ c κs. tt) returns-2 (λ c κs. tt) (λ c κs. tt)
+    (λ c. search needs) (λ c. search needs) (λ c. search needs) returns-3 (λ c κs. tt)
+    (λ c. search needs) returns-4 (λ c κs. tt)
+    (λ c. search needs) (λ c. search needs) returns-5 (λ c κs. tt)
+    (λ c. search needs) (λ c. search needs) (λ c. search needs) (λ c. search needs) (λ c. search needs) (λ c. search needs) returns-6)

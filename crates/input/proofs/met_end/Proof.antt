@@ -11,15 +11,15 @@ answered c = c .answer-of .ensures ∙ ap answerOf (toZ-ofZ (c .before .fits .go
 
 returns : tie.Need-returns
 unfolding metEnd
-returns c = rw (← answered (c .before .before), c .enum-told .given .1)
+returns c = rw (← answered (search c), c .enum-told .given .1)
 
 returns-2 : tie.Need-returns-2
 unfolding metEnd
-returns-2 c = rw (← answered (c .before .before), c .enum-told2 .given .1)
+returns-2 c = rw (← answered (search c), c .enum-told2 .given .1)
 
 returns-3 : tie.Need-returns-3
 unfolding metEnd
-returns-3 c = rw (← answered (c .before .before), c .enum-told3 .given .1)
+returns-3 c = rw (← answered (search c), c .enum-told3 .given .1)
 
 pub met-end-spec : {M : Type 1} → statement M
 met-end-spec =

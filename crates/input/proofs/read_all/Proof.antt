@@ -5,8 +5,8 @@ use lib.ListN.{length, length-replicate}
 use mir.Syntax.{w64}
 use mir.Val.{toZ, ofZ}
 use Rattle.libc.specs.Io.{Moved}
-use Rattle.frames.specs.Reading.{contents, tables}
-use Rattle.feeding.specs.Feeding.{machine, fresh}
+use Rattle.frames.specs.mirror.Reading.{contents, tables}
+use Rattle.feeding.specs.mirror.Feeding.{machine, fresh}
 use Rattle.input.proofs.ReadsLaws.{SoFar, none-read, call-more, call-last, none-left, moved-after, turn-less}
 use Rattle.input.proofs.read_all.Statement.{statement}
 use Rattle.input.proofs.read_all.Tie as tie
@@ -22,25 +22,13 @@ abbrev μ-loop : tie.MeasureT-loop
 μ-loop line₀ registers₀ memory₀ kernel₀ register-taint₀ surface-taint₀ memory-taint₀ types₀ starts₀ counts₀ predicate-values₀ surface-bytes₀ surface-lengths₀ block₀ state₀ turns₀ line registers memory kernel register-taint surface-taint memory-taint types starts counts predicate-values surface-bytes surface-lengths block state turns =
     turns
 
--- where a call's bytes are known, from the return for want of bytes
-abbrev stops : tie.After-met-end Inv-loop μ-loop → tie.After-bytes-of Inv-loop μ-loop
-stops c = c .before .before
-
--- where they are fed, from the turn's end
-abbrev feeds : tie.After-slice-known26 Inv-loop μ-loop → tie.After-feed Inv-loop μ-loop
-feeds c = c .before .before .before .before .before .before .before .before .before .before .before .before .before .before .before .before .before .before .before .before .before .before .before .before .before .before
-
--- where they are known, from there
-abbrev goes : tie.After-feed Inv-loop μ-loop → tie.After-bytes-of Inv-loop μ-loop
-goes c = c .before .before .before .before .before .before .before .before .before .before .before .before .before .before .before
-
--- the call
-abbrev calls : tie.After-bytes-of Inv-loop μ-loop → tie.After-read Inv-loop μ-loop
-calls c = c .before .before .before
-
--- the turn's start
+-- the turn's start, from its call
 abbrev turn : tie.After-read Inv-loop μ-loop → tie.At-loop Inv-loop μ-loop
-turn c = c .before .before .before
+turn c = search c
+
+-- the call, from where its bytes are known
+abbrev calls : tie.After-bytes-of Inv-loop μ-loop → tie.After-read Inv-loop μ-loop
+calls c = search c
 
 -- what the call answered and its block's length, as they are handed on
 abbrev moved : (c : tie.After-read Inv-loop μ-loop) → Moved (length (c .read .last .1 .0)) (toZ w64 (ofZ w64 (c .read .result)))
@@ -54,41 +42,48 @@ loop-holds c = (none-read _ _ _ _ (c .start .ensures), length-replicate {A = ℕ
 
 returns : tie.Need-returns Inv-loop μ-loop
 returns c =
-    call-last _ _ (turn (calls (stops c)) .loop .inv .0) _ _ _ (moved (calls (stops c))) (room (calls (stops c))) (stops c .bytes-of .ensures) _
-    (c .before .if1 .taken)
-    (c .met-end .ensures)
+    let none : tie.Then1 Inv-loop μ-loop = search c in
+    let known : tie.After-bytes-of Inv-loop μ-loop = search none in
+    let call = calls known in
+    call-last _ _ (turn call .loop .inv .0) _ _ _ (moved call) (room call) (known .bytes-of .ensures) _ (none .if1 .taken) (c .met-end .ensures)
 
 loop-less : tie.Need-loop-less Inv-loop μ-loop
-loop-less c = turn-less _ (calls (goes (feeds c)) .before .before .loop-test .taken)
+loop-less c =
+    let feeds : tie.After-feed Inv-loop μ-loop = search c in
+    let known : tie.After-bytes-of Inv-loop μ-loop = search feeds in
+    let taken : tie.In-loop Inv-loop μ-loop = search (calls known) in
+    turn-less _ (taken .loop-test .taken)
 
 loop-again : tie.Need-loop-again Inv-loop μ-loop
-loop-again c = (
-  call-more _ _ (turn (calls (goes (feeds c))) .loop .inv .0) _ _ _ (moved (calls (goes (feeds c)))) (room (calls (goes (feeds c)))) (goes (feeds c) .bytes-of .ensures) _
-      (feeds c .before .before .before .before .before .before .before .before .before .before .before .before .before .before .if1 .left)
-      (feeds c .feed .ensures)
-      (feeds c .feed .kept .1 .0)
-      (feeds c .feed .kept .1 .1),
-  room (calls (goes (feeds c))),
-)
+loop-again c =
+    let feeds : tie.After-feed Inv-loop μ-loop = search c in
+    let some : tie.Else1 Inv-loop μ-loop = search feeds in
+    let known : tie.After-bytes-of Inv-loop μ-loop = search some in
+    let call = calls known in
+    (call-more _ _ (turn call .loop .inv .0) _ _ _ (moved call) (room call) (known .bytes-of .ensures) _ (some .if1 .left) (feeds .feed .ensures) (feeds .feed .kept .1 .0) (feeds .feed .kept .1 .1), room call)
+
+-- where reading stands at the end for want of bytes
+abbrev stops : tie.After-met-end Inv-loop μ-loop → tie.At-loop Inv-loop μ-loop
+stops c = let known : tie.After-bytes-of Inv-loop μ-loop = search c in turn (calls known)
 
 pub read-all-spec : {M : Type 1} → statement M
 read-all-spec =
     tie.close
-    (tie.spec Inv-loop μ-loop (λ c κs. tt) loop-holds (λ c. c .loop-test .taken) (λ c. sym (c .before .before .loop .inv .1)) (λ c κs. tt)
-    (λ c. sym (room (c .before .before))) (λ c κs. moved (c .before .before)) (λ c κs. tt)
-    (λ c. turn (calls (stops c)) .loop .inv .0 .line)
-    (λ c. turn (calls (stops c)) .loop .inv .0 .kept .registers)
-    (λ c. turn (calls (stops c)) .loop .inv .0 .kept .memory)
-    (λ c. turn (calls (stops c)) .loop .inv .0 .kept .kernel)
-    (λ c. turn (calls (stops c)) .loop .inv .0 .kept .registerTaint)
-    (λ c. turn (calls (stops c)) .loop .inv .0 .kept .surfaceTaint)
-    (λ c. turn (calls (stops c)) .loop .inv .0 .kept .memoryTaint)
-    (λ c. turn (calls (stops c)) .loop .inv .0 .kept .types)
-    (λ c. turn (calls (stops c)) .loop .inv .0 .kept .starts)
-    (λ c. turn (calls (stops c)) .loop .inv .0 .kept .counts)
-    (λ c. turn (calls (stops c)) .loop .inv .0 .kept .predicates)
-    (λ c. turn (calls (stops c)) .loop .inv .0 .kept .surfaces)
-    (λ c. turn (calls (stops c)) .loop .inv .0 .kept .lengths)
+    (tie.spec Inv-loop μ-loop (λ c κs. tt) loop-holds (λ c. c .loop-test .taken) (λ c. let at : tie.At-loop Inv-loop μ-loop = search c in sym (at .loop .inv .1)) (λ c κs. tt)
+    (λ c. sym (room (search c))) (λ c κs. moved (search c)) (λ c κs. tt)
+    (λ c. stops c .loop .inv .0 .line)
+    (λ c. stops c .loop .inv .0 .kept .registers)
+    (λ c. stops c .loop .inv .0 .kept .memory)
+    (λ c. stops c .loop .inv .0 .kept .kernel)
+    (λ c. stops c .loop .inv .0 .kept .registerTaint)
+    (λ c. stops c .loop .inv .0 .kept .surfaceTaint)
+    (λ c. stops c .loop .inv .0 .kept .memoryTaint)
+    (λ c. stops c .loop .inv .0 .kept .types)
+    (λ c. stops c .loop .inv .0 .kept .starts)
+    (λ c. stops c .loop .inv .0 .kept .counts)
+    (λ c. stops c .loop .inv .0 .kept .predicates)
+    (λ c. stops c .loop .inv .0 .kept .surfaces)
+    (λ c. stops c .loop .inv .0 .kept .lengths)
     returns (λ c κs. tt) loop-less loop-again
     (λ c. c .before .loop .inv .0 .line)
     (λ c. c .before .loop .inv .0 .kept .registers)

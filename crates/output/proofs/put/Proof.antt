@@ -1,7 +1,7 @@
 -- `output::put` meets its contract: at each return, what the calls and tests on the way say picks the case of the definition.
 use borrow.Author.Needs.{needs}
 use borrow.Author.Tests.{lt-ltb, le-ltb}
-use Rattle.output.specs.Page.{written, pushed}
+use Rattle.output.specs.mirror.Page.{written, pushed}
 use Rattle.output.proofs.put.Statement.{statement}
 use Rattle.output.proofs.put.Tie as tie
 

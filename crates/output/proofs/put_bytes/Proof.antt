@@ -5,7 +5,7 @@ use native.Mathlib.Omega.{arith}
 use borrow.Author.Needs.{needs}
 use lib.ListN.{length, drop}
 use Rattle.hex.specs.Bytes.{hexOf}
-use Rattle.output.specs.Page.{page, written}
+use Rattle.output.specs.mirror.Page.{page, written}
 use Rattle.output.proofs.LineLaws.{bytes-turn, bytes-over}
 use Rattle.output.proofs.put_bytes.Statement.{statement}
 use Rattle.output.proofs.put_bytes.Tie as tie

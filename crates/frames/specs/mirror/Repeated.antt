@@ -6,9 +6,9 @@ use mathlib.Core.List.{List}
 use lib.Dec.{ltb, leb, eqb}
 use lib.ListN.{length, getD, set, drop}
 use Rattle.little_endian.specs.LittleEndian.{numberAt}
-use Rattle.hex.specs.Storing.{fits, stored}
+use Rattle.hex.specs.mirror.Storing.{fits, stored}
 use Rattle.frames.specs.declared.Case.{Case}
-use Rattle.frames.specs.Lines.{badLine, goodLine, metOf, lengthOf, counted, sized}
+use Rattle.frames.specs.mirror.Lines.{badLine, goodLine, metOf, lengthOf, counted, sized}
 
 pub record Variables : Type 0 where
   pub case : Case

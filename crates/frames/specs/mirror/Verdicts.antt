@@ -4,7 +4,7 @@ use mathlib.Core.Bool.{cond}
 use lib.Dec.{ltb}
 use Rattle.frames.specs.declared.Case.{Case}
 use Rattle.frames.specs.declared.Verdict.{Verdict}
-use Rattle.frames.specs.Lines.{metOf, lengthOf}
+use Rattle.frames.specs.mirror.Lines.{metOf, lengthOf}
 
 -- "absent means .. marks all 0", one for each byte of the buffer; a frame that is there has its own length, which may be another: 13
 unfoldable pub taintLength : ℕ → ℕ → Case → ℕ

@@ -4,9 +4,9 @@ use mathlib.Core.Bool.{cond}
 use mathlib.Core.List.{List, [], _∷_}
 use lib.Dec.{leb}
 use lib.ListN.{length}
-use Rattle.frames.specs.Reading.{Reading, only}
-use Rattle.frames.specs.Lines.{longLine}
-use Rattle.frames.specs.Frames.{lineRead}
+use Rattle.frames.specs.mirror.Reading.{Reading, only}
+use Rattle.frames.specs.mirror.Lines.{longLine}
+use Rattle.frames.specs.mirror.Frames.{lineRead}
 use Rattle.feeding.specs.LinesOf.{linesOf}
 
 -- a line of at most `limit` characters, or one that is too long

@@ -4,9 +4,10 @@ use mathlib.Core.Bool.{Bool, true, false, cond, _||_}
 use mathlib.Core.List.{List, [], _∷_}
 use lib.ListN.{length, set, take}
 use lib.Dec.{ltb, eqb}
-use Rattle.frames.specs.Reading.{Contents, Tables, Reading, reading, only}
-use Rattle.frames.specs.Lines.{nothing, longLine}
-use Rattle.frames.specs.Frames.{lineRead}
+use Rattle.frames.specs.declared.Case.{Case}
+use Rattle.frames.specs.mirror.Reading.{Contents, Tables, Reading, reading, only}
+use Rattle.frames.specs.mirror.Lines.{nothing, longLine}
+use Rattle.frames.specs.mirror.Frames.{lineRead}
 use Rattle.feeding.specs.declared.State.{State}
 
 -- the line begun: its buffer, how many characters stand in it, and whether there were more
@@ -21,6 +22,9 @@ pub record Machine : Type 0 where
 
 abbrev pub row : List ℕ → ℕ → Bool → Row
 row line used long = record { line = line; used = used; long = long }
+
+abbrev pub state : ℕ → Bool → Case → State
+state used long case = record { used = used; long = long; case = case }
 
 abbrev pub machine : List ℕ → State → Contents → Tables → Machine
 machine line s contents tables = record { row = row line (s .used) (s .long); reading = reading (s .case) contents tables }
@@ -41,9 +45,13 @@ ended m =
       reading = cond (m .row .long) (only (longLine (m .reading .case)) (m .reading)) (lineRead (take (m .row .used) (m .row .line)) (m .reading));
     }
 
--- "A line ends in 0x0a"
+-- "A line ends in 0x0a"; after the first bad line nothing counts
 unfoldable pub byteFed : ℕ → Machine → Machine
-byteFed b m = cond (eqb b 10) (ended m) (record { row = pushed b (m .row); reading = m .reading })
+byteFed b m = cond (ltb 0 (m .reading .case .bad)) m (cond (eqb b 10) (ended m) (record { row = pushed b (m .row); reading = m .reading }))
+
+-- where a block is read on: at its end once a line was bad
+unfoldable pub readOn : ℕ → ℕ → ℕ → ℕ
+readOn bad next end = cond (ltb 0 bad) end next
 
 unfoldable pub fed : List ℕ → Machine → Machine
 fed [] m = m

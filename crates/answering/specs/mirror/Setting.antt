@@ -9,9 +9,9 @@ use Rattle.tables.specs.Predicates.{predicates}
 use Rattle.tables.specs.Surfaces.{surfaces}
 use Rattle.tables.specs.Tables.{tables}
 use Rattle.frames.specs.declared.Case.{Case}
-use Rattle.frames.specs.Reading.{Contents, Tables}
-use Rattle.frames.specs.Lines.{metOf, lengthOf}
-use Rattle.frames.specs.Verdicts.{taintLength}
+use Rattle.frames.specs.mirror.Reading.{Contents, Tables}
+use Rattle.frames.specs.mirror.Lines.{metOf, lengthOf}
+use Rattle.frames.specs.mirror.Verdicts.{taintLength}
 use Rattle.step.specs.State.{Setup, setup, State, state}
 
 -- what does not change: each buffer up to where its frames filled it
@@ -20,7 +20,7 @@ setupOf c kernel t =
     setup
     (take (lengthOf 7 c) kernel)
     (tables (variables (take (metOf 2 c) (t .types)) (take (metOf 2 c) (t .starts)) (take (metOf 2 c) (t .counts))) (predicates (take (metOf 3 c) (t .predicates))) (surfaces (take (metOf 4 c) (t .lengths))))
-    (record { base = c .base; mask = c .mask })
+    (record { base = c .settings .base; mask = c .settings .mask })
 
 -- "absent means .. marks all 0"; the buffer has this size
 unfoldable pub taintOf : ℕ → ℕ → Case → List ℕ → List ℕ

@@ -4,19 +4,19 @@ use mathlib.Core.Bool.{cond}
 use mathlib.Core.List.{List}
 use lib.Dec.{ltb}
 use lib.ListN.{replicate}
-use Rattle.frames.specs.Reading.{Reading, reading, contents, tables}
-use Rattle.frames.specs.Lines.{nothing}
-use Rattle.frames.specs.Verdicts.{verdictOf}
-use Rattle.feeding.specs.Text.{textRead}
+use Rattle.frames.specs.mirror.Reading.{Reading, reading, contents, tables}
+use Rattle.frames.specs.mirror.Lines.{nothing}
+use Rattle.frames.specs.mirror.Verdicts.{verdictOf}
+use Rattle.feeding.specs.mirror.Text.{textRead}
 use Rattle.output.specs.Output.{answerLine}
 use Rattle.run.specs.Run.{run}
 use Rattle.answering.specs.Outcome.{outcomeOutput}
-use Rattle.answering.specs.Setting.{setupOf, stateOf}
+use Rattle.answering.specs.mirror.Setting.{setupOf, stateOf}
 
 -- a case that is good is run
 unfoldable pub goodOutput : Reading → List ℕ
 goodOutput r =
-    outcomeOutput (r .case .base)
+    outcomeOutput (r .case .settings .base)
     (run (setupOf (r .case) (r .contents .kernel) (r .tables)) (stateOf (r .case) (r .contents) (r .tables .surfaces)))
 
 -- 14 for a bad line, 13 for what had no room

@@ -1,0 +1,9 @@
+-- A case is answered only if its file was read to the input's end.
+use mathlib.Core.Bool.{Bool, cond}
+use mathlib.Core.List.{List, []}
+use Prim.Native.Nat.{ℕ}
+use Rattle.frames.specs.mirror.Reading.{Reading}
+use Rattle.answering.specs.mirror.Bench.{caseOutput}
+
+unfoldable pub endedOutput : Bool → Reading → List ℕ
+endedOutput ended r = cond ended (caseOutput r) []
