@@ -10,8 +10,8 @@
 //!
 //! Document 02, request 1, kernels as text: `spelling`, `print`, `ways`, `read`, `listed`, `assembled`.
 //!
-//! Beside the interpreter stand the case generator (`assemble`, `generate`), the comparison (`source`,
-//! `command`, `difference`, `comparison`) and the programs (`programs`, `panics`).
+//! Beside the interpreter stand the generators of cases and lines (`assemble`, `generate`), the comparisons (`source`,
+//! `command`, `difference`, `comparison`, `line_comparison`) and the programs (`programs`, `panics`).
 
 pub mod assemble;
 pub mod assembled;
@@ -34,6 +34,7 @@ pub mod generate;
 pub mod hex;
 pub mod instruction;
 pub mod lanes;
+pub mod line_comparison;
 pub mod listed;
 pub mod number;
 pub mod operands;

@@ -6,6 +6,8 @@
 pub mod by_line;
 pub mod cases;
 pub mod compare;
+pub mod compare_lines;
+pub mod lines;
 pub mod reference;
 
 /// A case file in, the bench program's output out.
