@@ -115,13 +115,26 @@ impl LineComparison {
             self.place(index),
             one.case.name,
             listing(&ended(&[&one.case.line]), self.whole),
-            listing(&ended(&one.expected), self.whole)
+            self.answer(&one.expected)
         );
         LineFailure {
             index,
             report,
             unjudged: false,
         }
+    }
+
+    /// An answer for reading: its first lines, unless all is wanted.
+    fn answer(&self, lines: &[String]) -> String {
+        let shown = match self.whole {
+            true => lines.len(),
+            false => lines.len().min(8),
+        };
+        let mut listed = listing(&ended(&lines[..shown]), self.whole);
+        if shown < lines.len() {
+            listed.push_str(&format!("      ... ({} lines)\n", lines.len()));
+        }
+        listed
     }
 
     /// The first line with a wrong answer and words for it, when one process gets all these lines.

@@ -177,11 +177,11 @@ fn types_of_immediates() {
 fn the_column_of_any_text() {
     let line = grammar::line();
     let mut refused = 0;
-    for index in 0..20000 {
+    for index in 0..10000 {
         let text = line_case(LineKind::Texts, 3, index).line;
         refused += u64::from(is_right_for(&line, &text).is_err());
     }
-    assert!((10000..17500).contains(&refused), "{refused}");
+    assert!((6000..8500).contains(&refused), "{refused}");
 }
 
 /// One character of some lines inserted, deleted and replaced, at each place, and the lines cut there.

@@ -16,13 +16,17 @@ pub fn text(random: &mut Random) -> (&'static str, Vec<u8>) {
     let mut text = line(random);
     let name = match random.below(100) {
         0..=14 => "a printed line",
-        15..=29 => {
+        15..=27 => {
             cut(random, &mut text);
             "a line cut"
         }
-        30..=39 => {
+        28..=33 => {
             extend(random, &mut text);
             "a line extended"
+        }
+        34..=39 => {
+            slip(random, &mut text);
+            "a likely slip"
         }
         40..=49 => {
             insert(random, &mut text);
@@ -202,6 +206,72 @@ fn other_region(random: &mut Random, text: &mut Vec<u8>) {
     let from = random.pick(&starts);
     let length = text[from..].iter().position(|c| *c == b'>').unwrap() + 1;
     text.splice(from..from + length, region.bytes());
+}
+
+/// What a reader may take though no line is so, or refuse one character too late.
+fn slip(random: &mut Random, text: &mut Vec<u8>) {
+    match random.below(5) {
+        0 => plain_predicate_0(text),
+        1 => braces_of_zeros(text),
+        2 => three_fields_for_one(random, text),
+        3 => type_of_32_bits(random, text),
+        _ => other_size(random, text),
+    }
+}
+
+/// `(P0)`, though a word of 0 means no predicate.
+fn plain_predicate_0(text: &mut Vec<u8>) {
+    if text[0] == b'(' {
+        let end = position_of(text, b") ").unwrap() + 2;
+        text.drain(..end);
+    }
+    text.splice(0..0, *b"(P0) ");
+}
+
+/// `{0,0}` or `{0}`, though braces stand only where one field is not zero.
+fn braces_of_zeros(text: &mut Vec<u8>) {
+    if let Some(at) = position_of(text, b" {") {
+        text.truncate(at);
+    }
+    match position_of(text, b"SVM") {
+        Some(_) => text.extend(b" {0}"),
+        None => text.extend(b" {0,0}"),
+    }
+}
+
+/// `<n;n,1>` for a destination's `<1>`.
+fn three_fields_for_one(random: &mut Random, text: &mut Vec<u8>) {
+    let at = position_of(text, b"<").map(|at| at + 1);
+    match at {
+        Some(at) if !text[at..].starts_with(b"n") => {
+            text.splice(at..at, *b"n;n,");
+        }
+        _ => other_region(random, text),
+    }
+}
+
+/// A number of up to 64 bits with a type of 32 bits.
+fn type_of_32_bits(random: &mut Random, text: &mut Vec<u8>) {
+    match position_of(text, b":uq") {
+        Some(at) => {
+            let name = random.pick(&[&b"ud"[..], b"d", b"uw", b"f"]);
+            text.splice(at + 1..at + 3, name.iter().copied());
+        }
+        None => other_number(random, text),
+    }
+}
+
+/// A size that is none, or none of a scatter's.
+fn other_size(random: &mut Random, text: &mut Vec<u8>) {
+    let mask = position_of(text, b"(M").unwrap();
+    let from = mask + position_of(&text[mask..], b",").unwrap() + 1;
+    let to = from + position_of(&text[from..], b")").unwrap();
+    let size = random.pick(&[&b"1"[..], b"2", b"3", b"4", b"32", b"64", b"0", b"08", b""]);
+    text.splice(from..to, size.iter().copied());
+}
+
+fn position_of(text: &[u8], word: &[u8]) -> Option<usize> {
+    text.windows(word.len()).position(|part| part == word)
 }
 
 fn two_changes(random: &mut Random, text: &mut Vec<u8>) {
