@@ -261,6 +261,7 @@ fn lines_are_spread() {
     let mut names = BTreeMap::new();
     let mut answers = BTreeMap::new();
     let mut columns = BTreeSet::new();
+    let mut read = 0;
     for index in 0..20_000 {
         let case = line_case(LineKind::Kernels, 1, index);
         *names.entry(case.name).or_insert(0) += 1;
@@ -274,15 +275,38 @@ fn lines_are_spread() {
         }
         let case = line_case(LineKind::Texts, 1, index);
         *names.entry(case.name).or_insert(0) += 1;
-        if let Err(column) = reference::read::read(&case.line) {
-            columns.insert(column);
+        match reference::read::read(&case.line) {
+            Ok(_) => read += 1,
+            Err(column) => {
+                columns.insert(column);
+            }
         }
     }
     assert_eq!(names.len(), 9 + 14);
     assert!(names.values().all(|count| *count > 100), "{names:?}");
-    let expected = ["1", "14", "2", "3", "4", "GAT", "SHL", "SVM", "raw"];
-    assert!(answers.keys().eq(expected.iter()), "{answers:?}");
-    assert!(answers.values().all(|count| *count > 200), "{answers:?}");
+    // The README has these numbers.
+    let (refused, listed): (Vec<_>, Vec<_>) = answers
+        .iter()
+        .partition(|(answer, _)| answer.parse::<u8>().is_ok());
+    let refused: Vec<(&str, u64)> = refused.iter().map(|(n, k)| (n.as_str(), **k)).collect();
+    let expected = [
+        ("1", 1582),
+        ("14", 2212),
+        ("2", 980),
+        ("3", 2098),
+        ("4", 308),
+    ];
+    assert_eq!(refused, expected);
+    assert!(listed
+        .iter()
+        .map(|(kind, _)| *kind)
+        .eq(["GAT", "SHL", "SVM", "raw"].iter()));
+    assert!(
+        listed.iter().all(|(_, count)| **count > 20_000),
+        "{listed:?}"
+    );
+    assert_eq!(listed.iter().map(|(_, count)| **count).sum::<u64>(), 98_960);
+    assert_eq!(read, 5912);
     // The longest line has 108 characters.
     assert!(columns.iter().copied().eq(1..=109), "{columns:?}");
 }
