@@ -39,8 +39,8 @@ fn same<'a>(a: impl Iterator<Item = &'a u8>, b: impl Iterator<Item = &'a u8>) ->
 }
 
 /// The lines of a family are alike before the changed field and behind it. Each start of one that ends in the field, or
-/// with it, goes on with a character exactly if the two together are a start of one. Of many starts one in `every` is
-/// tried, besides those at the field's limits.
+/// with it, goes on with a character exactly if the two together are a start of one. All starts are tried that end within
+/// three characters of the field, and of the longer ones those of one line in `every` and of the first and last lines.
 fn leaves_the_family_at_its_column(lines: &[Vec<u8>], every: usize) {
     let first = &lines[0];
     let before = lines
@@ -59,11 +59,10 @@ fn leaves_the_family_at_its_column(lines: &[Vec<u8>], every: usize) {
     assert!(lines.len() > 1 && starts.len() > lines.len());
     let mut tried = HashSet::new();
     for (k, line) in lines.iter().enumerate() {
-        let at_a_limit = k < 50 || k + 50 > lines.len();
-        if !at_a_limit && k % every != 0 {
-            continue;
-        }
-        for length in before..=line.len() - behind {
+        let whole = k % every == 0 || k < 50 || k + 50 > lines.len();
+        let end = line.len() - behind;
+        let end = if whole { end } else { end.min(before + 3) };
+        for length in before..=end {
             if tried.insert(&line[..length]) {
                 goes_on_as_the_family(&starts, &line[..length]);
             }
