@@ -3,6 +3,7 @@
 //! A line is document 01's bench line; the bytes that it spells are a frame, the kind being the first.
 
 use crate::case::{Case, Variable};
+use crate::hex;
 
 /// "one over 16,386 characters included"; the 0x0a is not counted.
 pub const LONGEST_LINE: usize = 16_386;
@@ -34,23 +35,10 @@ fn lines(input: &[u8]) -> Vec<&[u8]> {
 
 /// The bytes that a line spells, if it is of the right length and spells bytes at all.
 fn bytes_of(line: &[u8]) -> Option<Vec<u8>> {
-    if line.is_empty() || line.len() > LONGEST_LINE || line.len() % 2 != 0 {
+    if line.is_empty() || line.len() > LONGEST_LINE {
         return None;
     }
-    let mut bytes = Vec::new();
-    for pair in line.chunks(2) {
-        bytes.push(16 * digit(pair[0])? + digit(pair[1])?);
-    }
-    Some(bytes)
-}
-
-/// "lower-case hex"
-fn digit(character: u8) -> Option<u8> {
-    match character {
-        b'0'..=b'9' => Some(character - b'0'),
-        b'a'..=b'f' => Some(character - b'a' + 10),
-        _ => None,
-    }
+    hex::bytes_of(line)
 }
 
 fn uw(bytes: &[u8]) -> u16 {

@@ -1,6 +1,7 @@
 //! The case file writer: a case as lines, every frame present, in the order of the kinds.
 
 use crate::case::Case;
+use crate::hex::push_hex;
 
 /// A case file whose reading gives the case back.
 pub fn write_case(case: &Case) -> Vec<u8> {
@@ -43,17 +44,9 @@ pub fn memory_line(case: &Case) -> Vec<u8> {
 /// One line: the kind, then the parts of the frame, in lower-case hex.
 pub fn line(kind: u8, parts: &[&[u8]]) -> Vec<u8> {
     let mut text = Vec::new();
-    push_hex(&mut text, kind);
+    push_hex(&mut text, &[kind]);
     for part in parts {
-        for byte in *part {
-            push_hex(&mut text, *byte);
-        }
+        push_hex(&mut text, part);
     }
     text
-}
-
-fn push_hex(text: &mut Vec<u8>, byte: u8) {
-    const DIGITS: &[u8; 16] = b"0123456789abcdef";
-    text.push(DIGITS[usize::from(byte >> 4)]);
-    text.push(DIGITS[usize::from(byte & 15)]);
 }

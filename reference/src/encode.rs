@@ -20,7 +20,7 @@ pub fn encode(instruction: &Instruction, buffer: &mut [u8]) -> Result<usize, u8>
 }
 
 /// The instruction's bytes, fields judged in their order.
-fn encoding(instruction: &Instruction) -> Result<Vec<u8>, u8> {
+pub fn encoding(instruction: &Instruction) -> Result<Vec<u8>, u8> {
     let mut bytes = vec![instruction.opcode];
     match instruction.opcode {
         SHL => {

@@ -6,12 +6,15 @@
 //! - "Which channels, which results" and "How marks move": `lanes`, `element`, `shl`, `gather`,
 //!   `scatter`, `show`
 //! - "The numbers given back": `number`, `run_checks`, `run`
-//! - "The bench table" (the bench program): `case_file`, `case_writer`, `bench`, `batch`
+//! - "The bench table" (the bench program): `case_file`, `case_writer`, `hex`, `bench`, `batch`
 //!
-//! Beside the interpreter stand the case generator (`assemble`, `generate`), the comparison (`source`,
-//! `command`, `difference`, `comparison`) and the programs (`programs`, `panics`).
+//! Document 02, request 1, kernels as text: `spelling`, `print`, `ways`, `read`, `listed`, `assembled`.
+//!
+//! Beside the interpreter stand the generators of cases and lines (`assemble`, `generate`), the comparisons (`source`,
+//! `command`, `difference`, `comparison`, `line_comparison`) and the programs (`programs`, `panics`).
 
 pub mod assemble;
+pub mod assembled;
 pub mod batch;
 pub mod bench;
 pub mod case;
@@ -28,12 +31,17 @@ pub mod encode;
 pub mod fields;
 pub mod gather;
 pub mod generate;
+pub mod hex;
 pub mod instruction;
 pub mod lanes;
+pub mod line_comparison;
+pub mod listed;
 pub mod number;
 pub mod operands;
 pub mod panics;
+pub mod print;
 pub mod programs;
+pub mod read;
 pub mod region;
 pub mod run;
 pub mod run_checks;
@@ -42,3 +50,5 @@ pub mod shl;
 pub mod show;
 pub mod sizes;
 pub mod source;
+pub mod spelling;
+pub mod ways;

@@ -1,5 +1,5 @@
-//! The numbers, one constant for each line of document 01's table "The numbers given back". A refusal is a
-//! number that is not 0.
+//! The numbers, one constant for each line of document 01's table "The numbers given back", and those that document
+//! 02 adds. A refusal is a number that is not 0.
 
 /// "done"
 pub const DONE: u8 = 0;
@@ -34,3 +34,5 @@ pub const SIZES: u8 = 13;
 pub const BAD_LINE: u8 = 14;
 /// "encoder's buffer shorter than the encoding"
 pub const SHORT_BUFFER: u8 = 15;
+/// Document 02, request 1: "text that is no printed line"
+pub const NO_LINE: u8 = 16;

@@ -1,4 +1,5 @@
-//! The case generator: case files in five modes, each determined by a seed and an index.
+//! The generators: case files in five modes, and lines for kernels as text (`line_cases`), each determined by a seed and
+//! an index.
 
 pub mod accepted;
 pub mod address_faults;
@@ -6,8 +7,11 @@ pub mod bad_lines;
 pub mod far_rows;
 pub mod fault;
 pub mod faults;
+pub mod instructions;
+pub mod kernel_lines;
 pub mod largest_kernel;
 pub mod limits;
+pub mod line_cases;
 pub mod lines;
 pub mod near_misses;
 pub mod operand_faults;
@@ -18,6 +22,7 @@ pub mod report;
 pub mod scene;
 pub mod slip_one;
 pub mod table_faults;
+pub mod texts;
 pub mod two_faults;
 pub mod valid;
 

@@ -1,16 +1,29 @@
-//! A program of the tests: one of the three programs with an interpreter that is wrong on purpose.
+//! A program of the tests: one of the programs with an interpreter or a line program that is wrong on purpose.
 //!
 //! `wrong WAY PROGRAM ARGUMENTS`, the way being one of `number`, `completed`, `taint`, `end`, `silent` and
-//! `panic`.
+//! `panic`, or for a line program one of those in `lines`.
+
+mod lines;
 
 use reference::bench::bench;
-use reference::programs::{cases, compare, reference as answer, Interpreter};
+use reference::programs::{
+    by_line, cases, compare, compare_lines, reference as answer, Interpreter,
+};
 use std::process::ExitCode;
 
 fn main() -> ExitCode {
     let mut arguments = std::env::args().skip(1);
     let way = arguments.next().expect("a way of being wrong");
     let program = arguments.next().expect("a program");
+    match program.as_str() {
+        "listing" => return by_line::main("wrong", arguments, lines::listing(&way)),
+        "assembler" => return by_line::main("wrong", arguments, lines::assembler(&way)),
+        "compare-lines" => {
+            let (listing, assembler) = (lines::listing(&way), lines::assembler(&way));
+            return compare_lines::main(arguments, listing, assembler);
+        }
+        _ => {}
+    }
     let interpreter: Interpreter = match way.as_str() {
         "number" => |case| changed(case, answers_0_always),
         "completed" => |case| changed(case, invents_the_count),
