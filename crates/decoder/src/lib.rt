@@ -53,7 +53,7 @@ pub struct RawSend {
     pub destination: Raw,
 }
 
-// A decoded instruction: the numbers of its fields, each as stored. Opcodes and tags are told by the variants.
+// A decoded instruction: the numbers of its fields. Opcodes and tags are told by the variants.
 pub enum Instruction {
     Shl(Shl),
     Gather(Gather),

@@ -27,7 +27,7 @@ returns-4 : tie.Need-returns-4
 unfolding byteRefusal
 returns-4 c =
     let a = c .before in
-    rw (a .enum-told4 .given .1, ← c .judge3 .ensures)
+    rw (a .enum-told4 .given .1) (c .judge3 .ensures)
 
 returns-5 : tie.Need-returns-5
 unfolding byteRefusal
@@ -40,7 +40,7 @@ returns-6 : tie.Need-returns-6
 unfolding byteRefusal
 returns-6 c =
     let a = c .before in
-    rw (a .enum-told6 .given .1, ← c .judge5 .ensures)
+    rw (a .enum-told6 .given .1) (c .judge5 .ensures)
 
 returns-7 : tie.Need-returns-7
 unfolding byteRefusal
@@ -53,7 +53,7 @@ returns-8 : tie.Need-returns-8
 unfolding byteRefusal
 returns-8 c =
     let a = c .before in
-    rw (a .enum-told8 .given .1, ← c .judge7 .ensures)
+    rw (a .enum-told8 .given .1) (c .judge7 .ensures)
 
 returns-9 : tie.Need-returns-9
 unfolding byteRefusal

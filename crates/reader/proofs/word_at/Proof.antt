@@ -9,7 +9,7 @@ use Rattle.reader.proofs.word_at.Tie as tie
 mul-result : tie.Need-mul-result
 mul-result c =
     let a = c .before .before .before .before .before .args in
-    omega (arith, c .word-of2 .ensures, c .before .shared-slice-known3 .given (a .at + 1))
+    omega (arith, c .word-of2 .ensures, c .before .shared-slice-known3 .given (a .at + 1), c .before .shared-slice-known3 .given (a .at))
 
 add-result : tie.Need-add-result
 add-result c =
