@@ -44,7 +44,7 @@ module _ (frames : List (List ℕ)) where
   refuted (predicates h) e = omega (arith, h, counted _ _ e .predicates-few, length-map dwordOf (ofKind 3 frames))
   refuted (surfaces h) e = omega (arith, h, counted _ _ e .surfaces-few, length-map {A = List ℕ} length (ofKind 4 frames))
   refuted (surface k h m) e =
-      omega (arith, m, length-is (map length (ofKind 4 frames)) k, surface-small _ _ e k (rw (length-map {A = List ℕ} length (ofKind 4 frames)) h))
+      omega (arith, m, length-is (record { lengths = map length (ofKind 4 frames) }) k, surface-small _ _ e k (rw (length-map {A = List ℕ} length (ofKind 4 frames)) h))
   refuted (memory h) e = omega (arith, h, limited _ _ e .memory-small)
   refuted (kernel h) e = omega (arith, h, limited _ _ e .kernel-small)
   refuted (registerTaint h) e = let l = limited _ _ e in marks-long 4096 (ofKind 8 frames) _ h (l .registers-taint) (l .registers-small)

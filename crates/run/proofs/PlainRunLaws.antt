@@ -14,7 +14,8 @@ use Rattle.tables.proofs.Laws.{limited, surfaces-small}
 use Rattle.step.specs.State.{Setup, State, state, lengthsOf}
 use Rattle.run.specs.declared.Answer.{Answer}
 use Rattle.run.specs.Run.{outcome, run}
-use Rattle.run.specs.PlainRun.{plainRun, plainOutcome, withoutMarks, tooLong}
+use Rattle.run.specs.PlainRun.{plainRun, plainOutcome, withoutMarks}
+use Rattle.run.specs.mirror.TooLong.{tooLong}
 use Rattle.run.proofs.Whole.{tables-refused, plain-run-is}
 
 -- the first of equal elements, whatever they are

@@ -1,4 +1,5 @@
 pub mod Run
+pub mod mirror
 pub mod PlainRun
 pub mod Ran
 pub mod WholeRun

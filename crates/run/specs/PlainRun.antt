@@ -1,9 +1,7 @@
 -- The plain run. Document 01, "What the bench runs": "A plain run equals a marked run with no marks."
 use Prim.Native.Nat.{ℕ}
-use mathlib.Core.Bool.{Bool, _||_}
 use mathlib.Core.List.{List}
 use lib.ListN.{length, replicate}
-use lib.Dec.{ltb}
 use Rattle.cells.specs.Buffer.{Buffer}
 use Rattle.step.specs.State.{Setup}
 use Rattle.run.specs.declared.Answer.{Answer}
@@ -27,8 +25,3 @@ plainOutcome answer registers memory = record { answer = answer; registers = reg
 
 abbrev pub withoutMarks : Outcome → PlainOutcome
 withoutMarks o = plainOutcome (o .answer) (o .state .registers .bytes) (o .state .memory .bytes)
-
--- buffers that no tables can make good, by their lengths: "Register file: .. at most 4,096. Kernel and memory: at most 4,096 each. .. 8 surfaces
--- of at most 1,024 bytes"
-unfoldable pub tooLong : ℕ → ℕ → ℕ → Bool
-tooLong registers surfaces memory = ltb 4096 registers || (ltb 8192 surfaces || ltb 4096 memory)

@@ -8,7 +8,8 @@ ghost use Rattle.tables.specs.Borrowed.{variableTable, predicateTable, surfaceT
 ghost use Rattle.step.specs.State.{setup};
 ghost use Rattle.step.specs.Borrowed.{lent};
 ghost use Rattle.run.specs.Run.{outcome, runThrough, run};
-ghost use Rattle.run.specs.PlainRun.{plainRun, plainOutcome, withoutMarks, tooLong};
+ghost use Rattle.run.specs.PlainRun.{plainRun, plainOutcome, withoutMarks};
+ghost use Rattle.run.specs.mirror.TooLong.{tooLong};
 
 // What a run gives back: the number, how many instructions were completed, and the byte position of the refused one or of the end.
 pub struct Answer {
@@ -33,7 +34,10 @@ fn run_kernel(
     memory: &mut [u8],
     memory_taint: &mut [u8],
 ) -> Answer
-    ensures { λ r. let s = lent registers «register_taint» surfaces «surface_taint» memory «memory_taint» in ⌜ outcome r (s .exit) ≡ runThrough (setup (now (kernel .entry)) (tables (variableTable types starts counts) (predicateTable predicates) (surfaceTable «surface_lengths»)) constants) (s .entry) ⌝ }
+    ensures { λ r.
+        let x = setup (now (kernel .entry)) (tables (variableTable types starts counts) (predicateTable predicates) (surfaceTable «surface_lengths»)) constants in
+        let s = lent registers «register_taint» surfaces «surface_taint» memory «memory_taint» in
+        ⌜ outcome r (s .exit) ≡ runThrough x (s .entry) ⌝ }
 {
     let mut completed: usize = 0;
     let mut at: usize = 0;
@@ -87,7 +91,10 @@ pub fn run(
     memory: &mut [u8],
     memory_taint: &mut [u8],
 ) -> Answer
-    ensures { λ r. let s = lent registers «register_taint» surfaces «surface_taint» memory «memory_taint» in ⌜ outcome r (s .exit) ≡ run (setup (now (kernel .entry)) (tables (variableTable types starts counts) (predicateTable predicates) (surfaceTable «surface_lengths»)) constants) (s .entry) ⌝ }
+    ensures { λ r.
+        let x = setup (now (kernel .entry)) (tables (variableTable types starts counts) (predicateTable predicates) (surfaceTable «surface_lengths»)) constants in
+        let s = lent registers «register_taint» surfaces «surface_taint» memory «memory_taint» in
+        ⌜ outcome r (s .exit) ≡ run x (s .entry) ⌝ }
 {
     let taint = TaintLengths {
         registers: register_taint.len(),
@@ -146,7 +153,9 @@ pub fn plain_run(
     registers: &mut [u8],
     memory: &mut [u8],
 ) -> Answer
-    ensures { λ r. ⌜ plainOutcome r (now (registers .exit)) (now (memory .exit)) ≡ withoutMarks (plainRun (setup (now (kernel .entry)) (tables (variableTable types starts counts) (predicateTable predicates) (surfaceTable «surface_lengths»)) constants) (now (registers .entry)) (now (surfaces .entry)) (now (memory .entry))) ⌝ }
+    ensures { λ r.
+        let x = setup (now (kernel .entry)) (tables (variableTable types starts counts) (predicateTable predicates) (surfaceTable «surface_lengths»)) constants in
+        ⌜ plainOutcome r (now (registers .exit)) (now (memory .exit)) ≡ withoutMarks (plainRun x (now (registers .entry)) (now (surfaces .entry)) (now (memory .entry))) ⌝ }
 {
     let register_count = registers.len();
     let surface_count = surfaces.len();

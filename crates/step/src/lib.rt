@@ -35,7 +35,10 @@ fn perform(
     memory_taint: &mut [u8],
 ) -> u8
     requires { ⌜ Fits plan ⌝ }
-    ensures { λ r. let s = lent registers «register_taint» surfaces «surface_taint» memory «memory_taint» in let e = planEffect constants plan (s .entry) in ⌜ (r ≡ e .number) × (s .exit ≡ after e (s .entry)) ⌝ }
+    ensures { λ r.
+        let s = lent registers «register_taint» surfaces «surface_taint» memory «memory_taint» in
+        let e = planEffect constants plan (s .entry) in
+        ⌜ (r ≡ e .number) × (s .exit ≡ after e (s .entry)) ⌝ }
 {
     if 0 < plan.number {
         return plan.number;
@@ -81,7 +84,11 @@ pub fn step(
     memory: &mut [u8],
     memory_taint: &mut [u8],
 ) -> Progress
-    ensures { λ r. let s = lent registers «register_taint» surfaces «surface_taint» memory «memory_taint» in let t = stepAt (setup (now (kernel .entry)) (tables (variableTable types starts counts) (predicateTable predicates) (surfaceTable «surface_lengths»)) constants) at (s .entry) in ⌜ (r .number ≡ t .effect .number) × (r .next ≡ t .next) × (s .exit ≡ after (t .effect) (s .entry)) ⌝ }
+    ensures { λ r.
+        let x = setup (now (kernel .entry)) (tables (variableTable types starts counts) (predicateTable predicates) (surfaceTable «surface_lengths»)) constants in
+        let s = lent registers «register_taint» surfaces «surface_taint» memory «memory_taint» in
+        let t = stepAt x at (s .entry) in
+        ⌜ (r .number ≡ t .effect .number) × (r .next ≡ t .next) × (s .exit ≡ after (t .effect) (s .entry)) ⌝ }
 {
     match decoder::decode(kernel, at) {
         Decoded::Accepted(instruction, cursor) => {

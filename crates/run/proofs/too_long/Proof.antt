@@ -1,6 +1,6 @@
 -- `run::too_long` meets its contract.
 use mathlib.Core.Path.{refl}
-use Rattle.run.specs.PlainRun.{tooLong}
+use Rattle.run.specs.mirror.TooLong.{tooLong}
 use Rattle.run.proofs.too_long.Statement.{statement}
 use Rattle.run.proofs.too_long.Tie as tie
 
