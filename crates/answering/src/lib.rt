@@ -4,7 +4,6 @@ use run::Answer;
 use step::Constants;
 ghost use mathlib.Core.Path.{_≡_};
 ghost use Prim.Native.Nat.{_≤_, min};
-ghost use lib.ListN.{length};
 ghost use Rattle.frames.specs.mirror.Reading.{contents, reading};
 ghost use Rattle.frames.specs.mirror.Lent.{lentTables};
 ghost use Rattle.frames.specs.mirror.Lines.{lengthOf};

@@ -14,18 +14,16 @@ use Rattle.case_file.specs.Frames.{ofKind, firstOf}
 use Rattle.case_file.specs.Case.{typeOf, dwordOf, memoryOf, marksOf, caseSetup, caseState}
 use Rattle.case_file.proofs.Padded.{length-map}
 use Rattle.case_file.proofs.ByKind.{Kinds, kindsOf, added, one-more}
+use Rattle.case_file.proofs.Plain as plain
+use Rattle.case_file.proofs.Plain.{Plain, sizeOf}
 
 pub data Broken (g : Kinds) : Type 0 where
-  registers : 4096 < length (firstOf (g 1)) → Broken g
+  content : (k : ℕ) (p : Plain k) → sizeOf k p < length (firstOf (g k)) → Broken g
   variables : 256 < length (g 2) → Broken g
   predicates : 64 < length (g 3) → Broken g
   surfaces : 8 < length (g 4) → Broken g
   surface : (k : ℕ) → k < length (g 4) → 1024 < getD (map length (g 4)) k 0 → Broken g
   memory : 4096 < length (memoryOf (firstOf (g 5))) → Broken g
-  kernel : 4096 < length (firstOf (g 7)) → Broken g
-  registerTaint : 4096 < length (firstOf (g 8)) → Broken g
-  surfaceTaint : 8192 < length (firstOf (g 9)) → Broken g
-  memoryTaint : 4096 < length (firstOf (g 10)) → Broken g
 
 -- marks that are there have their own length
 marks-long : (most : ℕ) (cs : List (List ℕ)) (bytes : List ℕ) → most < length (firstOf cs) → length (marksOf cs bytes) ≡ length bytes → length bytes ≤ most → ⊥
@@ -37,19 +35,23 @@ module _ (frames : List (List ℕ)) where
   abbrev good : Bool
   good = tablesGood (lengthsOf (caseSetup frames) (caseState frames)) (caseSetup frames .tables)
 
+  content-refuted : (k : ℕ) (p : Plain k) → sizeOf k p < length (firstOf (ofKind k frames)) → good ≡ true → ⊥
+  unfolding caseSetup caseState
+  content-refuted k plain.registers h e = omega (arith, h, limited _ _ e .registers-small)
+  content-refuted k plain.kernel h e = omega (arith, h, limited _ _ e .kernel-small)
+  content-refuted k plain.registerTaint h e = let l = limited _ _ e in marks-long 4096 (ofKind 8 frames) _ h (l .registers-taint) (l .registers-small)
+  content-refuted k plain.surfaceTaint h e = marks-long 8192 (ofKind 9 frames) _ h (limited _ _ e .surfaces-taint) (surfaces-small _ _ e)
+  content-refuted k plain.memoryTaint h e = let l = limited _ _ e in marks-long 4096 (ofKind 10 frames) _ h (l .memory-taint) (l .memory-small)
+
   refuted : Broken (kindsOf frames) → good ≡ true → ⊥
   unfolding caseSetup caseState
-  refuted (registers h) e = omega (arith, h, limited _ _ e .registers-small)
+  refuted (content k p h) e = content-refuted k p h e
   refuted (variables h) e = omega (arith, h, counted _ _ e .variables-few, length-map typeOf (ofKind 2 frames))
   refuted (predicates h) e = omega (arith, h, counted _ _ e .predicates-few, length-map dwordOf (ofKind 3 frames))
   refuted (surfaces h) e = omega (arith, h, counted _ _ e .surfaces-few, length-map {A = List ℕ} length (ofKind 4 frames))
   refuted (surface k h m) e =
       omega (arith, m, length-is (record { lengths = map length (ofKind 4 frames) }) k, surface-small _ _ e k (rw (length-map {A = List ℕ} length (ofKind 4 frames)) h))
   refuted (memory h) e = omega (arith, h, limited _ _ e .memory-small)
-  refuted (kernel h) e = omega (arith, h, limited _ _ e .kernel-small)
-  refuted (registerTaint h) e = let l = limited _ _ e in marks-long 4096 (ofKind 8 frames) _ h (l .registers-taint) (l .registers-small)
-  refuted (surfaceTaint h) e = marks-long 8192 (ofKind 9 frames) _ h (limited _ _ e .surfaces-taint) (surfaces-small _ _ e)
-  refuted (memoryTaint h) e = let l = limited _ _ e in marks-long 4096 (ofKind 10 frames) _ h (l .memory-taint) (l .memory-small)
 
   pub broken-bad : Broken (kindsOf frames) → good ≡ false
   broken-bad b = told good refl
@@ -89,13 +91,9 @@ unfolding memoryOf
 no-memory h = omega arith
 
 pub broken-more : (kind : ℕ) (c : List ℕ) (g : Kinds) → Broken g → Broken (added kind c g)
-broken-more kind c g (registers x) = registers (long-more (eqb kind 1) c 4096 (g 1) x)
+broken-more kind c g (content k p x) = content k p (long-more (eqb kind k) c (sizeOf k p) (g k) x)
 broken-more kind c g (variables x) = variables (count-more (eqb kind 2) c 256 (g 2) x)
 broken-more kind c g (predicates x) = predicates (count-more (eqb kind 3) c 64 (g 3) x)
 broken-more kind c g (surfaces x) = surfaces (count-more (eqb kind 4) c 8 (g 4) x)
 broken-more kind c g (surface k x y) = surface k (count-more (eqb kind 4) c k (g 4) x) (rw (length-stays (eqb kind 4) c k (g 4) x) y)
 broken-more kind c g (memory x) = memory (first-more (eqb kind 5) c (λ (l : List ℕ). 4096 < length (memoryOf l)) (g 5) no-memory x)
-broken-more kind c g (kernel x) = kernel (long-more (eqb kind 7) c 4096 (g 7) x)
-broken-more kind c g (registerTaint x) = registerTaint (long-more (eqb kind 8) c 4096 (g 8) x)
-broken-more kind c g (surfaceTaint x) = surfaceTaint (long-more (eqb kind 9) c 8192 (g 9) x)
-broken-more kind c g (memoryTaint x) = memoryTaint (long-more (eqb kind 10) c 4096 (g 10) x)

@@ -5,7 +5,7 @@ use mathlib.Core.List.{List, [], _∷_, _++_}
 use Prim.Native.Nat.{ℕ, suc, _+_}
 use lib.Dec.{eqb}
 use lib.ListN.{length, length-append}
-use borrow.Author.Tests.{eqb-true}
+use borrow.Author.Tests.{eqb-true, eq-eqb}
 use native.Mathlib.Omega.{arith}
 use Rattle.case_file.specs.Frames.{kindOf, contentOf, ofKind, firstOf}
 
@@ -41,6 +41,9 @@ one-more l a = length-append l (a ∷ [])
 pub first-new : (l : List (List ℕ)) (c : List ℕ) → l ≡ [] → firstOf (l ++ (c ∷ [])) ≡ c
 unfolding firstOf
 first-new l c e = rw e refl
+
+pub first-added : (k : ℕ) (c : List ℕ) (g : Kinds) → g k ≡ [] → firstOf (added k c g k) ≡ c
+first-added k c g e = rw (eq-eqb k k refl) (first-new (g k) c e)
 
 pub none-yet : (l : List (List ℕ)) → eqb (length l) 0 ≡ true → l ≡ []
 none-yet [] e = refl

@@ -19,6 +19,8 @@ use Rattle.frames.specs.mirror.Frames.{frameRead}
 use Rattle.case_file.specs.Frames.{kindOf, contentOf}
 use Rattle.case_file.specs.BadLine.{repeats}
 use Rattle.case_file.proofs.ByKind.{Kinds, added, none-yet}
+use Rattle.case_file.proofs.Plain as plain
+use Rattle.case_file.proofs.Plain.{Plain, plain-listed, plain-once, either-true}
 use Rattle.case_file.proofs.Good as good
 use Rattle.case_file.proofs.Good.{Good}
 
@@ -93,18 +95,22 @@ module _ (r : Reading) where
       (λ _. with-size 4 (r .case) _ (again 4 _ (r .case) refl) 4 _) (λ _. uncounted 4 (r .case) refl))
       (λ _. uncounted 4 (r .case) refl)
 
+  plain-made : (k : ℕ) (p : Plain k) (c : List ℕ) → metOf k (r .case) ≡ 0 → M k (frameRead k (k ∷ c) r .case)
+  unfolding frameRead onceRead contentRead
+  plain-made k plain.registers c none = rw none (content-made 1 (length c) _)
+  plain-made k plain.kernel c none = rw none (content-made 7 (length c) _)
+  plain-made k plain.registerTaint c none = rw none (content-made 8 (length c) _)
+  plain-made k plain.surfaceTaint c none = rw none (content-made 9 (length c) _)
+  plain-made k plain.memoryTaint c none = rw none (content-made 10 (length c) _)
+
   frame-made : (f : List ℕ) → Good f → (repeats (kindOf f) ≡ false → metOf (kindOf f) (r .case) ≡ 0) → M (kindOf f) (frameRead (kindOf f) f r .case)
   unfolding frameRead onceRead contentRead memoryRead maskRead repeats
-  frame-made f (good.registers c) none = rw (none refl) (content-made 1 (length c) _)
+  frame-made f (good.content k p c) none = plain-made k p c (none (plain-once k p))
   frame-made f (good.variable c five) none = variable-made c five
   frame-made f (good.predicate c four) none = predicate-made c four
   frame-made f (good.surface c) none = surface-made c
   frame-made f (good.memory c eight) none = rw (none refl, le-ltb (length c) 8 eight) (with-base 5 (r .case) _ (content-made 5 _ _) _)
   frame-made f (good.mask c four) none = rw (none refl, four) (with-mask 6 (r .case) _ (first 6 true (r .case)) _)
-  frame-made f (good.kernel c) none = rw (none refl) (content-made 7 (length c) _)
-  frame-made f (good.registerTaint c) none = rw (none refl) (content-made 8 (length c) _)
-  frame-made f (good.surfaceTaint c) none = rw (none refl) (content-made 9 (length c) _)
-  frame-made f (good.memoryTaint c) none = rw (none refl) (content-made 10 (length c) _)
 
 -- what decides which line is bad: how many lines there were, and how many frames of the kinds that come once at most
 pub record Judges (g : Kinds) (n : ℕ) (c : Case) : Type 0 where
@@ -114,16 +120,12 @@ pub record Judges (g : Kinds) (n : ℕ) (c : Case) : Type 0 where
   pub lines : c .lines ≡ n
 
 listed : (f : List ℕ) → Good f → kindOf f < KINDS
-listed f (good.registers c) = omega arith
+listed f (good.content k p c) = plain-listed k p
 listed f (good.variable c e) = omega arith
 listed f (good.predicate c e) = omega arith
 listed f (good.surface c) = omega arith
 listed f (good.memory c e) = omega arith
 listed f (good.mask c e) = omega arith
-listed f (good.kernel c) = omega arith
-listed f (good.registerTaint c) = omega arith
-listed f (good.surfaceTaint c) = omega arith
-listed f (good.memoryTaint c) = omega arith
 
 met-at : (k : ℕ) (c : Case) → k < KINDS → metOf k c ≡ getD (c .met) k 0
 unfolding metOf
@@ -152,9 +154,6 @@ module _ (kind : ℕ) (content : List ℕ) (g : Kinds) (n : ℕ) (c d : Case) (j
         bad = m .bad ∙ j .bad;
         lines = m .lines ∙ ap next (j .lines);
       }
-
-either-true : (a b : Bool) → (a || b) ≡ true → a ≡ false → b ≡ true
-either-true a b e h = rw h at e
 
 module _ (g : Kinds) (n : ℕ) (r : Reading) (j : Judges g n (r .case)) (f : List ℕ) (good : Good f) (once : (repeats (kindOf f) || eqb (length (g (kindOf f))) 0) ≡ true) where
   none-before : repeats (kindOf f) ≡ false → g (kindOf f) ≡ []

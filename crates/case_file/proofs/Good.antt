@@ -1,4 +1,4 @@
--- A good frame is one of ten.
+-- A good frame is of one of ten kinds.
 use mathlib.Core.Path.{_≡_, sym, _∙_}
 use mathlib.Core.Bool.{true, false, true≢false}
 use mathlib.Core.List.{List, [], _∷_}
@@ -8,18 +8,16 @@ use lib.ListN.{length}
 use borrow.Author.Tests.{eqb-true, leb-true, ne-eqb, le-leb, lt-leb}
 use Rattle.case_file.specs.Frames.{kindOf, contentOf}
 use Rattle.case_file.specs.BadLine.{contentGood}
+use Rattle.case_file.proofs.Plain as plain
+use Rattle.case_file.proofs.Plain.{Plain}
 
 pub data Good : List ℕ → Type 0 where
-  registers : (c : List ℕ) → Good (1 ∷ c)
+  content : (k : ℕ) → Plain k → (c : List ℕ) → Good (k ∷ c)
   variable : (c : List ℕ) → length c ≡ 5 → Good (2 ∷ c)
   predicate : (c : List ℕ) → length c ≡ 4 → Good (3 ∷ c)
   surface : (c : List ℕ) → Good (4 ∷ c)
   memory : (c : List ℕ) → 8 ≤ length c → Good (5 ∷ c)
   mask : (c : List ℕ) → length c ≡ 4 → Good (6 ∷ c)
-  kernel : (c : List ℕ) → Good (7 ∷ c)
-  registerTaint : (c : List ℕ) → Good (8 ∷ c)
-  surfaceTaint : (c : List ℕ) → Good (9 ∷ c)
-  memoryTaint : (c : List ℕ) → Good (10 ∷ c)
 
 -- a kind past 0x0a
 late : (k : ℕ) (c : List ℕ) → 10 < k → contentGood k c ≡ false
@@ -31,15 +29,15 @@ pub good-frame : (f : List ℕ) → contentGood (kindOf f) (contentOf f) ≡ tru
 unfolding contentGood
 good-frame [] e = absurd (true≢false (sym e))
 good-frame (zero ∷ c) e = absurd (true≢false (sym e))
-good-frame (suc zero ∷ c) e = registers c
+good-frame (suc zero ∷ c) e = content 1 plain.registers c
 good-frame (suc (suc zero) ∷ c) e = variable c (eqb-true (length c) 5 e)
 good-frame (suc (suc (suc zero)) ∷ c) e = predicate c (eqb-true (length c) 4 e)
 good-frame (suc (suc (suc (suc zero))) ∷ c) e = surface c
 good-frame (suc (suc (suc (suc (suc zero)))) ∷ c) e = memory c (leb-true 8 (length c) e)
 good-frame (suc (suc (suc (suc (suc (suc zero))))) ∷ c) e = mask c (eqb-true (length c) 4 e)
-good-frame (suc (suc (suc (suc (suc (suc (suc zero)))))) ∷ c) e = kernel c
-good-frame (suc (suc (suc (suc (suc (suc (suc (suc zero))))))) ∷ c) e = registerTaint c
-good-frame (suc (suc (suc (suc (suc (suc (suc (suc (suc zero)))))))) ∷ c) e = surfaceTaint c
-good-frame (suc (suc (suc (suc (suc (suc (suc (suc (suc (suc zero))))))))) ∷ c) e = memoryTaint c
+good-frame (suc (suc (suc (suc (suc (suc (suc zero)))))) ∷ c) e = content 7 plain.kernel c
+good-frame (suc (suc (suc (suc (suc (suc (suc (suc zero))))))) ∷ c) e = content 8 plain.registerTaint c
+good-frame (suc (suc (suc (suc (suc (suc (suc (suc (suc zero)))))))) ∷ c) e = content 9 plain.surfaceTaint c
+good-frame (suc (suc (suc (suc (suc (suc (suc (suc (suc (suc zero))))))))) ∷ c) e = content 10 plain.memoryTaint c
 good-frame (suc (suc (suc (suc (suc (suc (suc (suc (suc (suc (suc k)))))))))) ∷ c) e =
     absurd (true≢false (sym e ∙ late (suc (suc (suc (suc (suc (suc (suc (suc (suc (suc (suc k))))))))))) c (omega arith)))

@@ -16,9 +16,11 @@ use Rattle.case_file.specs.Frames.{kindOf, contentOf, firstOf}
 use Rattle.case_file.specs.BadLine.{repeats}
 use Rattle.case_file.specs.Case.{memoryOf}
 use Rattle.case_file.proofs.Padded.{length-map}
-use Rattle.case_file.proofs.ByKind.{Kinds, added, one-more, first-new, none-yet}
+use Rattle.case_file.proofs.ByKind.{Kinds, added, one-more, first-new, first-added, none-yet}
+use Rattle.case_file.proofs.Plain as plain
+use Rattle.case_file.proofs.Plain.{Plain, bufferOf, sizeOf, plain-first}
 use Rattle.case_file.proofs.Loaded.{readingAt}
-use Rattle.case_file.proofs.Room.{flatten-more, registers-read, registers-full, kernel-read, kernel-full, register-taint-read, register-taint-full, surface-taint-read, surface-taint-full, memory-taint-read, memory-taint-full, memory-read, memory-full, mask-read, variable-read, variable-full, predicate-read, predicate-full, surface-read, surface-long, surface-full}
+use Rattle.case_file.proofs.Room.{flatten-more, content-read, content-full, memory-read, memory-full, mask-read, variable-read, variable-full, predicate-read, predicate-full, surface-read, surface-long, surface-full}
 use Rattle.case_file.proofs.Good as good
 use Rattle.case_file.proofs.Good.{Good}
 use Rattle.case_file.proofs.Broken as broken
@@ -26,12 +28,8 @@ use Rattle.case_file.proofs.Broken.{Broken}
 
 -- the buffers are of document 01's sizes
 pub record Sizes (z : Contents) (t : Tables) : Type 0 where
-  pub registers : length (z .registers) ≡ 4096
+  pub contents : (k : ℕ) (p : Plain k) → length (bufferOf k p z) ≡ sizeOf k p
   pub memory : length (z .memory) ≡ 4096
-  pub kernel : length (z .kernel) ≡ 4096
-  pub registerTaint : length (z .registerTaint) ≡ 4096
-  pub surfaceTaint : length (z .surfaceTaint) ≡ 8192
-  pub memoryTaint : length (z .memoryTaint) ≡ 4096
   pub types : length (t .types) ≡ 256
   pub starts : length (t .starts) ≡ 256
   pub counts : length (t .counts) ≡ 256
@@ -132,33 +130,20 @@ module _ (z : Contents) (t : Tables) (s : Sizes z t) (g : Kinds) (n : ℕ) (few 
       told true e = let x = room (leb-true size most e) in inl (record { lines = next n; same = x .0; few = x .1 })
       told false e = inr (none (leb-false size most e))
 
+  few-content : (c : List ℕ) (k : ℕ) (p : Plain k) → g k ≡ [] → length c ≤ sizeOf k p → Few (added k c g)
+  few-content c k plain.registers e x = few-registers g c few e x
+  few-content c k plain.kernel e x = few
+  few-content c k plain.registerTaint e x = few
+  few-content c k plain.surfaceTaint e x = few
+  few-content c k plain.memoryTaint e x = few
+
   read-held : (f : List ℕ) → Good f → (repeats (kindOf f) || eqb (length (g (kindOf f))) 0) ≡ true → Held z t (added (kindOf f) (contentOf f) g) (frameRead (kindOf f) f (readingAt z t g n))
   unfolding repeats
-  read-held f (good.registers c) q =
-      let e = none-yet (g 1) q in
-      held-by _ _ (length c) 4096
-      (λ x. (registers-read z t g n c e (omega (arith, x, s .registers)), few-registers g c few e x))
-      (λ x. (registers-full z t g n c e (omega (arith, x, s .registers)), broken.registers (rw (first-new (g 1) c e) x)))
-  read-held f (good.kernel c) q =
-      let e = none-yet (g 7) q in
-      held-by _ _ (length c) 4096
-      (λ x. (kernel-read z t g n c e (omega (arith, x, s .kernel)), few))
-      (λ x. (kernel-full z t g n c e (omega (arith, x, s .kernel)), broken.kernel (rw (first-new (g 7) c e) x)))
-  read-held f (good.registerTaint c) q =
-      let e = none-yet (g 8) q in
-      held-by _ _ (length c) 4096
-      (λ x. (register-taint-read z t g n c e (omega (arith, x, s .registerTaint)), few))
-      (λ x. (register-taint-full z t g n c e (omega (arith, x, s .registerTaint)), broken.registerTaint (rw (first-new (g 8) c e) x)))
-  read-held f (good.surfaceTaint c) q =
-      let e = none-yet (g 9) q in
-      held-by _ _ (length c) 8192
-      (λ x. (surface-taint-read z t g n c e (omega (arith, x, s .surfaceTaint)), few))
-      (λ x. (surface-taint-full z t g n c e (omega (arith, x, s .surfaceTaint)), broken.surfaceTaint (rw (first-new (g 9) c e) x)))
-  read-held f (good.memoryTaint c) q =
-      let e = none-yet (g 10) q in
-      held-by _ _ (length c) 4096
-      (λ x. (memory-taint-read z t g n c e (omega (arith, x, s .memoryTaint)), few))
-      (λ x. (memory-taint-full z t g n c e (omega (arith, x, s .memoryTaint)), broken.memoryTaint (rw (first-new (g 10) c e) x)))
+  read-held f (good.content k p c) q =
+      let e = plain-first k (g k) p q in
+      held-by _ _ (length c) (sizeOf k p)
+      (λ x. (content-read z t g n c k p e (omega (arith, x, s .contents k p)), few-content c k p e x))
+      (λ x. (content-full z t g n c k p e (omega (arith, x, s .contents k p)), broken.content k p (subst (λ (l : List ℕ). sizeOf k p < length l) (sym (first-added k c g e)) x)))
   read-held f (good.memory c eight) q =
       let e = none-yet (g 5) q in
       held-by _ _ (length (memoryOf c)) 4096

@@ -1,5 +1,6 @@
 pub mod Padded
 pub mod ByKind
+pub mod Plain
 pub mod Good
 pub mod Loaded
 pub mod Room

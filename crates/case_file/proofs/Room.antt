@@ -17,6 +17,8 @@ use Rattle.case_file.specs.Frames.{firstOf}
 use Rattle.case_file.specs.Case.{typeOf, startOf, countOf, dwordOf, baseOf, memoryOf}
 use Rattle.case_file.proofs.Padded.{padded, fits-padded, stored-padded, fits-once, stored-once, no-room, length-table, set-table}
 use Rattle.case_file.proofs.ByKind.{Kinds, added, one-more}
+use Rattle.case_file.proofs.Plain as plain
+use Rattle.case_file.proofs.Plain.{Plain, bufferOf}
 use Rattle.case_file.proofs.Loaded.{readingAt}
 
 -- the loader reads a content where it stands behind its kind
@@ -59,45 +61,22 @@ flatten-more [] c = append-nil c
 flatten-more (x ∷ cs) c = ap (λ (l : List ℕ). x ++ l) (flatten-more cs c) ∙ sym (append-assoc x (flatten cs) c)
 
 module _ (z : Contents) (t : Tables) (g : Kinds) (n : ℕ) (c : List ℕ) where
-  pub registers-read : g 1 ≡ [] → length c ≤ length (z .registers) → frameRead 1 (1 ∷ c) (readingAt z t g n) ≡ readingAt z t (added 1 c g) (next n)
+  -- a content of bytes, with room for it and without
+  pub content-read : (k : ℕ) (p : Plain k) → g k ≡ [] → length c ≤ length (bufferOf k p z) → frameRead k (k ∷ c) (readingAt z t g n) ≡ readingAt z t (added k c g) (next n)
   unfolding frameRead onceRead contentRead metOf counted sized goodLine firstOf
-  registers-read e room = rw (e, fits-once (z .registers) c room, stored-once (z .registers) c room) refl
+  content-read k plain.registers e room = rw (e, fits-once (z .registers) c room, stored-once (z .registers) c room) refl
+  content-read k plain.kernel e room = rw (e, fits-once (z .kernel) c room, stored-once (z .kernel) c room) refl
+  content-read k plain.registerTaint e room = rw (e, fits-once (z .registerTaint) c room, stored-once (z .registerTaint) c room) refl
+  content-read k plain.surfaceTaint e room = rw (e, fits-once (z .surfaceTaint) c room, stored-once (z .surfaceTaint) c room) refl
+  content-read k plain.memoryTaint e room = rw (e, fits-once (z .memoryTaint) c room, stored-once (z .memoryTaint) c room) refl
 
-  pub registers-full : g 1 ≡ [] → length (z .registers) < length c → frameRead 1 (1 ∷ c) (readingAt z t g n) .case .full ≡ true
+  pub content-full : (k : ℕ) (p : Plain k) → g k ≡ [] → length (bufferOf k p z) < length c → frameRead k (k ∷ c) (readingAt z t g n) .case .full ≡ true
   unfolding frameRead onceRead contentRead metOf counted sized goodLine firstOf
-  registers-full e h = rw (e, no-room (z .registers) c h) refl
-
-  pub kernel-read : g 7 ≡ [] → length c ≤ length (z .kernel) → frameRead 7 (7 ∷ c) (readingAt z t g n) ≡ readingAt z t (added 7 c g) (next n)
-  unfolding frameRead onceRead contentRead metOf counted sized goodLine firstOf
-  kernel-read e room = rw (e, fits-once (z .kernel) c room, stored-once (z .kernel) c room) refl
-
-  pub kernel-full : g 7 ≡ [] → length (z .kernel) < length c → frameRead 7 (7 ∷ c) (readingAt z t g n) .case .full ≡ true
-  unfolding frameRead onceRead contentRead metOf counted sized goodLine firstOf
-  kernel-full e h = rw (e, no-room (z .kernel) c h) refl
-
-  pub register-taint-read : g 8 ≡ [] → length c ≤ length (z .registerTaint) → frameRead 8 (8 ∷ c) (readingAt z t g n) ≡ readingAt z t (added 8 c g) (next n)
-  unfolding frameRead onceRead contentRead metOf counted sized goodLine firstOf
-  register-taint-read e room = rw (e, fits-once (z .registerTaint) c room, stored-once (z .registerTaint) c room) refl
-
-  pub register-taint-full : g 8 ≡ [] → length (z .registerTaint) < length c → frameRead 8 (8 ∷ c) (readingAt z t g n) .case .full ≡ true
-  unfolding frameRead onceRead contentRead metOf counted sized goodLine firstOf
-  register-taint-full e h = rw (e, no-room (z .registerTaint) c h) refl
-
-  pub surface-taint-read : g 9 ≡ [] → length c ≤ length (z .surfaceTaint) → frameRead 9 (9 ∷ c) (readingAt z t g n) ≡ readingAt z t (added 9 c g) (next n)
-  unfolding frameRead onceRead contentRead metOf counted sized goodLine firstOf
-  surface-taint-read e room = rw (e, fits-once (z .surfaceTaint) c room, stored-once (z .surfaceTaint) c room) refl
-
-  pub surface-taint-full : g 9 ≡ [] → length (z .surfaceTaint) < length c → frameRead 9 (9 ∷ c) (readingAt z t g n) .case .full ≡ true
-  unfolding frameRead onceRead contentRead metOf counted sized goodLine firstOf
-  surface-taint-full e h = rw (e, no-room (z .surfaceTaint) c h) refl
-
-  pub memory-taint-read : g 10 ≡ [] → length c ≤ length (z .memoryTaint) → frameRead 10 (10 ∷ c) (readingAt z t g n) ≡ readingAt z t (added 10 c g) (next n)
-  unfolding frameRead onceRead contentRead metOf counted sized goodLine firstOf
-  memory-taint-read e room = rw (e, fits-once (z .memoryTaint) c room, stored-once (z .memoryTaint) c room) refl
-
-  pub memory-taint-full : g 10 ≡ [] → length (z .memoryTaint) < length c → frameRead 10 (10 ∷ c) (readingAt z t g n) .case .full ≡ true
-  unfolding frameRead onceRead contentRead metOf counted sized goodLine firstOf
-  memory-taint-full e h = rw (e, no-room (z .memoryTaint) c h) refl
+  content-full k plain.registers e h = rw (e, no-room (z .registers) c h) refl
+  content-full k plain.kernel e h = rw (e, no-room (z .kernel) c h) refl
+  content-full k plain.registerTaint e h = rw (e, no-room (z .registerTaint) c h) refl
+  content-full k plain.surfaceTaint e h = rw (e, no-room (z .surfaceTaint) c h) refl
+  content-full k plain.memoryTaint e h = rw (e, no-room (z .memoryTaint) c h) refl
 
   pub memory-read : g 5 ≡ [] → 8 ≤ length c → length (memoryOf c) ≤ length (z .memory) → frameRead 5 (5 ∷ c) (readingAt z t g n) ≡ readingAt z t (added 5 c g) (next n)
   unfolding frameRead onceRead memoryRead contentRead metOf counted sized based goodLine firstOf

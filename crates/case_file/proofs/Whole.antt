@@ -35,6 +35,8 @@ use Rattle.case_file.specs.Case.{typeOf, startOf, countOf, dwordOf, base
 use Rattle.case_file.specs.Output.{framesOutput, positionOf, answered, caseFileOutput}
 use Rattle.case_file.proofs.Padded.{padded, padded-none, take-padded, take-table}
 use Rattle.case_file.proofs.ByKind.{Kinds, kindsOf}
+use Rattle.case_file.proofs.Plain as plain
+use Rattle.case_file.proofs.Plain.{Plain, bufferOf, sizeOf}
 use Rattle.case_file.proofs.Loaded.{caseAt, contentsAt, tablesAt, readingAt}
 use Rattle.case_file.proofs.Broken.{Broken, broken-bad}
 use Rattle.case_file.proofs.Held.{Sizes, Few, Held}
@@ -114,15 +116,18 @@ module _ (z : Contents) (t : Tables) (s : Sizes z t) where
       told zero e = held-output (map hexBytes lines) (linesRead 16386 lines start) (w .bad ∙ ap positionOf e) (w .held e)
       told (suc n) e = bad-output (linesRead 16386 lines start) n (w .bad ∙ ap positionOf e)
 
+content-sizes : (k : ℕ) (p : Plain k) → length (bufferOf k p (unread .contents)) ≡ sizeOf k p
+content-sizes k plain.registers = length-replicate {A = ℕ} 4096 0
+content-sizes k plain.kernel = length-replicate {A = ℕ} 4096 0
+content-sizes k plain.registerTaint = length-replicate {A = ℕ} 4096 0
+content-sizes k plain.surfaceTaint = length-replicate {A = ℕ} 8192 0
+content-sizes k plain.memoryTaint = length-replicate {A = ℕ} 4096 0
+
 sizes : Sizes (unread .contents) (unread .tables)
 sizes =
     record {
-      registers = length-replicate {A = ℕ} 4096 0;
+      contents = content-sizes;
       memory = length-replicate {A = ℕ} 4096 0;
-      kernel = length-replicate {A = ℕ} 4096 0;
-      registerTaint = length-replicate {A = ℕ} 4096 0;
-      surfaceTaint = length-replicate {A = ℕ} 8192 0;
-      memoryTaint = length-replicate {A = ℕ} 4096 0;
       types = length-replicate {A = ℕ} 256 0;
       starts = length-replicate {A = ℕ} 256 0;
       counts = length-replicate {A = ℕ} 256 0;

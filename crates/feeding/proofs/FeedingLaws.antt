@@ -1,5 +1,5 @@
 -- Feeding is a fold: how a text is cut into blocks does not matter.
-use mathlib.Core.Path.{_≡_, refl, sym, ap, _∙_}
+use mathlib.Core.Path.{_≡_, refl, sym, ap, ap₂, _∙_}
 use mathlib.Core.Bool.{Bool, true, false, cond}
 use mathlib.Core.List.{List, [], _∷_, _++_, flatten}
 use Prim.Native.Nat.{ℕ, _+_, _-_, _^_, _≤_, _<_}
@@ -7,43 +7,39 @@ use native.Mathlib.Omega.{arith}
 use native.Mathlib.Numerals.{add-one}
 use lib.ListN.{length, getD, take, drop, drop-of-length-le}
 use lib.Dec.{ltb}
-use lib.Seq.{drop-cons}
+use lib.Seq.{drop-cons, drop-drop}
 use mir.Val.{Fits}
 use mir.Syntax.{w64}
-use borrow.Author.Tests.{eq-eqb, ne-eqb}
+use borrow.Author.Tests.{eq-eqb}
 use Rattle.frames.specs.mirror.Reading.{Reading}
 use Rattle.frames.specs.mirror.Frames.{lineRead}
-use Rattle.feeding.specs.mirror.Feeding.{Row, Machine, pushed, ended, byteFed, readOn, fed}
+use Rattle.feeding.specs.mirror.Feeding.{Row, Machine, allPushed, lineLength, ended, byteFed, readOn, fed}
 use Rattle.feeding.proofs.EndLaws.{lineOver, line-ended}
+use Rattle.feeding.proofs.PartLaws.{part-inside, line-pushed}
 use Rattle.feeding.proofs.KeptLaws.{Told, Kept, kept-none, kept-more}
 
 -- the place after one inside a block
 pub next-fits : (i n : ℕ) → i < n → n < 2 ^ 64 → Fits w64 (i + 1)
 next-fits i n h f = omega (arith, h, f)
 
-pub next-nearer : (i n : ℕ) → i < n → n - (i + 1) < n - i
-next-nearer i n h = omega (arith, h)
+pub end-nearer : (i k n : ℕ) → i < n → n ≤ k → n - k < n - i
+end-nearer i k n h l = omega (arith, h, l)
 
--- or the block's end
-pub on-nearer : (i j n bad : ℕ) → i < n → j ≡ readOn bad (i + 1) n → n - j < n - i
+-- nearer to the block's end: at it, or past the line's end
+pub on-nearer : (i k j n bad : ℕ) → i < n → i ≤ k → k < n → j ≡ readOn bad (k + 1) n → n - j < n - i
 unfolding readOn
-on-nearer i j n bad h e = told (ltb 0 bad) e
+on-nearer i k j n bad h l m e = told (ltb 0 bad) e
   where
-    told : (q : Bool) → j ≡ cond q n (i + 1) → n - j < n - i
+    told : (q : Bool) → j ≡ cond q n (k + 1) → n - j < n - i
     told true e = omega (arith, h, e)
-    told false e = omega (arith, h, e)
+    told false e = omega (arith, l, m, e)
 
 -- one byte more of those from i on
 fed-turn : (block : List ℕ) (i : ℕ) (m n : Machine) → i < length block → n ≡ byteFed (getD block i 0) m → fed (drop (i + 1) block) n ≡ fed (drop i block) m
 unfolding fed
 fed-turn block i m n h e = rw (add-one i, drop-cons block i 0 h, e)
 
--- a byte is a character of the line begun, or the line's end
-character-fed : (b : ℕ) (m : Machine) (w : Row) → ltb 0 (m .reading .case .bad) ≡ false → (b ≡ 10 → ⊥) → w ≡ pushed b (m .row) →
-    record { row = w; reading = m .reading } ≡ byteFed b m
-unfolding byteFed
-character-fed b m w g n e = rw (g, ne-eqb b 10 n, e)
-
+-- the line's end
 end-fed : (b : ℕ) (m n : Machine) → ltb 0 (m .reading .case .bad) ≡ false → b ≡ 10 → n ≡ ended m → n ≡ byteFed b m
 unfolding byteFed
 end-fed b m n g t e = rw (g, eq-eqb b 10 t, e)
@@ -95,12 +91,16 @@ pub none-fed : (block : List ℕ) (i : ℕ) (m : Machine) → i ≡ readOn (m .r
 none-fed block i m e = on-fed block 0 i m m (omega arith) refl refl (kept-none (m .reading) (m .reading .case)) e
 
 module _ (block : List ℕ) (i : ℕ) (m n : Machine) (f : Fed block i m n) (h : i < length block) where
-  pub character-more : (w : Row) → (getD block i 0 ≡ 10 → ⊥) → w ≡ pushed (getD block i 0) (n .row) → length (w .line) ≡ length (n .row .line) →
-      Fed block (i + 1) m (record { row = w; reading = n .reading })
-  character-more w t e l =
+  -- the characters up to the next 0x0a
+  pub part-more : (end : ℕ) (w : Row) → end ≡ i + lineLength (drop i block) → w ≡ allPushed (take (end - i) (drop i block)) (n .row) → length (w .line) ≡ length (n .row .line) →
+      Fed block end m (record { row = w; reading = n .reading })
+  part-more end w e we l =
+      let k : end - i ≡ lineLength (drop i block) = omega (arith, e) in
+      let rowIs : w ≡ allPushed (take (lineLength (drop i block)) (drop i block)) (n .row) = we ∙ ap (λ (j : ℕ). allPushed (take j (drop i block)) (n .row)) k in
+      let restIs : drop end block ≡ drop (lineLength (drop i block)) (drop i block) = ap (λ (j : ℕ). drop j block) e ∙ sym (drop-drop (lineLength (drop i block)) i block) in
       record {
-        inside = omega (arith, h);
-        rest = fed-turn block i n (record { row = w; reading = n .reading }) h (character-fed (getD block i 0) n w (f .good h) t e) ∙ f .rest;
+        inside = part-inside block i end h e;
+        rest = ap₂ (λ (x : List ℕ) (y : Row). fed x (record { row = y; reading = n .reading })) restIs rowIs ∙ (sym (line-pushed (drop i block) n (f .good h)) ∙ f .rest);
         good = λ _. f .good h;
         line = l ∙ f .line;
         kept = f .kept;

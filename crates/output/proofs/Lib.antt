@@ -1,4 +1,5 @@
 pub mod PageLaws
+pub mod PlaceLaws
 pub mod NumberLaws
 pub mod LineLaws
 pub mod WholeLaws

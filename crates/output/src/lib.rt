@@ -1,8 +1,11 @@
 // The bench's output: lines of lower-case hex, written into a buffer of the caller's.
 ghost use mathlib.Core.Path.{_≡_};
 ghost use mathlib.Core.List.{[], _∷_, _++_};
+ghost use Prim.Native.Nat.{_+_, _*_, _≤_};
+ghost use lib.ListN.{length};
 ghost use Rattle.little_endian.specs.LittleEndian.{bytesOf};
 ghost use Rattle.hex.specs.Bytes.{hexOf};
+ghost use Rattle.hex.specs.mirror.Storing.{placed};
 ghost use Rattle.output.specs.mirror.Page.{page, written};
 ghost use Rattle.output.specs.Output.{answerLine, contentLine, memoryLine, bufferLines, outputBytes};
 ghost use Rattle.output.specs.mirror.Numbers.{fourBytes};
@@ -26,7 +29,7 @@ fn put_byte(out: &mut [u8], at: usize, byte: u8) -> usize
     put(out, middle, hex::character(byte % 16))
 }
 
-fn put_bytes(out: &mut [u8], at: usize, bytes: &[u8]) -> usize
+fn put_each(out: &mut [u8], at: usize, bytes: &[u8]) -> usize
     ensures { λ r. ⌜ page (now (out .exit)) r ≡ written (hexOf (now (bytes .entry))) (page (now (out .entry)) at) ⌝ }
 {
     let mut to = at;
@@ -37,6 +40,35 @@ fn put_bytes(out: &mut [u8], at: usize, bytes: &[u8]) -> usize
         i += 1;
     }
     to
+}
+
+// The digits of bytes for which there is room: a loop that asks nothing takes several bytes at a time.
+fn place(out: &mut [u8], at: usize, bytes: &[u8])
+    requires { ⌜ at + 2 * length (now bytes) ≤ length (now out) ⌝ }
+    ensures { λ _. ⌜ now (out .exit) ≡ placed (now (out .entry)) at (hexOf (now (bytes .entry))) ⌝ }
+{
+    let mut i = 0;
+    while i < bytes.len() {
+        let byte = bytes[i];
+        out[at + 2 * i] = hex::character(byte / 16);
+        out[at + 2 * i + 1] = hex::character(byte % 16);
+        i += 1;
+    }
+}
+
+fn put_bytes(out: &mut [u8], at: usize, bytes: &[u8]) -> usize
+    ensures { λ r. ⌜ page (now (out .exit)) r ≡ written (hexOf (now (bytes .entry))) (page (now (out .entry)) at) ⌝ }
+{
+    if at <= out.len() {
+        if bytes.len() <= (out.len() - at) / 2 {
+            place(out, at, bytes);
+            at + 2 * bytes.len()
+        } else {
+            put_each(out, at, bytes)
+        }
+    } else {
+        put_each(out, at, bytes)
+    }
 }
 
 fn put_word(out: &mut [u8], at: usize, value: u16) -> usize

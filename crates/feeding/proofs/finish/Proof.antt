@@ -1,6 +1,6 @@
 -- `feeding::finish` meets its contract.
 use Rattle.feeding.proofs.EndLaws.{last-finished, none-finished}
-use Rattle.feeding.proofs.KeptLaws.{Kept, line-kept}
+use Rattle.feeding.proofs.KeptLaws.{line-kept}
 use Rattle.feeding.proofs.finish.Statement.{statement}
 use Rattle.feeding.proofs.finish.Tie as tie
 

@@ -1,5 +1,5 @@
 -- What a case file says, byte by byte, with a line buffer of some length.
-use Prim.Native.Nat.{ℕ, _+_}
+use Prim.Native.Nat.{ℕ, suc, _+_}
 use mathlib.Core.Bool.{Bool, true, false, cond, _||_}
 use mathlib.Core.List.{List, [], _∷_}
 use lib.ListN.{length, set, take}
@@ -37,6 +37,15 @@ pushed b w =
     cond (ltb (w .used) (length (w .line)))
     (row (set (w .line) (w .used) b) (w .used + 1) (w .long))
     (row (w .line) (w .used) true)
+
+unfoldable pub allPushed : List ℕ → Row → Row
+allPushed [] w = w
+allPushed (b ∷ bs) w = allPushed bs (pushed b w)
+
+-- how many characters stand before the first 0x0a
+unfoldable pub lineLength : List ℕ → ℕ
+lineLength [] = 0
+lineLength (b ∷ bs) = cond (eqb b 10) 0 (suc (lineLength bs))
 
 unfoldable pub ended : Machine → Machine
 ended m =
