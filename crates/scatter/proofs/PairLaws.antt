@@ -1,7 +1,7 @@
 -- Where the loops over lanes and channels begin, in the words of `FromRoom`; and what one pair writes.
 use Prim.Native.Nat.{ℕ, _+_, _*_, _-_}
-use mathlib.Core.Path.{_≡_, sym, ap}
-use mathlib.Core.Bool.{Bool, true, false, cond, _&&_}
+use mathlib.Core.Path.{_≡_, sym}
+use mathlib.Core.Bool.{Bool, true, false, cond}
 use mathlib.Core.List.{List, []}
 use lib.ListN.{getD}
 use Rattle.cells.specs.Buffer.{Buffer}
@@ -18,9 +18,6 @@ use Rattle.scatter.specs.declared.Pairs.{Pairs}
 use Rattle.scatter.specs.mirror.Rules.{breaks}
 use Rattle.scatter.specs.mirror.FromRoom.{enabledLanes, targetFrom, rowPlace, pairWrites, rowWrites, allWrites, rowBreaks, someBreaks, someTainted}
 
-pub and-told : (a b p : Bool) → b ≡ p → (a && b) ≡ (a && p)
-and-told a b p e = ap (λ (t : Bool). a && t) e
-
 pub tainted-begun : (taint : List ℕ) (s : Layout) (on : List Bool) → some (eitherStaged taint s) (amongFrom (λ k. getD on k false) 0 (s .lanes - 0)) ≡ someTainted taint s on
 unfolding someTainted enabledLanes
 tainted-begun taint s on = some-begun (eitherStaged taint s) (λ k. getD on k false) (s .lanes)
@@ -34,9 +31,9 @@ module _ (rule : Rule) (on : List Bool) (sums : List ℕ) where
   unfolding someBreaks
   rows-begun s = some-begun (rowBreaks rule on sums (s .lanes)) (bit (s .channels)) 4
 
-pub pair-written : (base : ℕ) (room : Buffer) (begin sum c lane address to : ℕ) (b b′ : Buffer) → address ≡ targetFrom sum c → to ≡ address - base → b′ ≡ writtenAll (copyWrites room (begin + 4 * lane) to 4) b → b′ ≡ writtenAll (pairWrites base room begin sum c lane) b
+pub pair-written : (base : ℕ) (room : Buffer) (begin sum c lane address to : ℕ) (b b′ : Buffer) → b′ ≡ writtenAll (copyWrites room (begin + 4 * lane) to 4) b → address ≡ targetFrom sum c → to ≡ address - base → b′ ≡ writtenAll (pairWrites base room begin sum c lane) b
 unfolding pairWrites
-pair-written base room begin sum c lane address to b b′ a t made = rw (← a, ← t) made
+pair-written base room begin sum c lane address to b b′ made a t = rw (← a, ← t) made
 
 module _ (base : ℕ) (room : Buffer) where
   pub row-written : (begin : ℕ) (on : List Bool) (sums : List ℕ) (lanes c : ℕ) (b : Buffer) → writtenAll (each (λ i. pairWrites base room begin (getD sums i 0) c i) (amongFrom (λ k. getD on k false) 0 (lanes - 0))) b ≡ writtenAll (rowWrites base room begin on sums lanes c) b

@@ -14,6 +14,7 @@ ghost use Rattle.cells.specs.Writes.{writtenAll};
 ghost use Rattle.cells.specs.Effect.{MemoryDone};
 ghost use Rattle.channels.specs.Bits.{bit};
 ghost use Rattle.plan.specs.Needed.{enabledBelow};
+ghost use Rattle.staging.specs.mirror.Room.{eitherStaged};
 ghost use Rattle.scatter.specs.Scatter.{outside};
 ghost use Rattle.scatter.specs.mirror.Guarded.{scatterFits, window, scatterGuarded};
 ghost use Rattle.scatter.specs.mirror.Rules.{breaks};
@@ -113,6 +114,12 @@ fn target_from(sum: u64, channel: u8) -> u64
     std::num::wrapping_add_u64(sum, 4 * (channel as u64))
 }
 
+fn lane_tainted(taint: &[u8], layout: Layout, on: bool, lane: u8) -> bool
+    ensures { λ r. ⌜ r ≡ (on && eitherStaged (now (taint .entry)) layout lane) ⌝ }
+{
+    on & staging::either_taint(taint, layout, lane)
+}
+
 // Whether an address is doubtful, over all enabled lanes. No address is looked at.
 fn some_tainted(taint: &[u8], layout: Layout, on: &[bool; 16]) -> bool
     requires { ⌜ layout .lanes ≤ 16 ⌝ }
@@ -122,7 +129,7 @@ fn some_tainted(taint: &[u8], layout: Layout, on: &[bool; 16]) -> bool
     let mut lane: u8 = 0;
     while lane < layout.lanes {
         let index = lane as usize;
-        found |= on[index] & staging::either_taint(taint, layout, lane);
+        found |= lane_tainted(taint, layout, on[index], lane);
         lane += 1;
     }
     found
@@ -246,13 +253,13 @@ fn write_row(
 {
     let mut lane: u8 = 0;
     while lane < lanes {
-        let index = lane as usize;
+        let place = lane as usize;
         write_lane(
             room,
             room_taint,
             begin,
-            on[index],
-            sums[index],
+            on[place],
+            sums[place],
             base,
             channel,
             lane,

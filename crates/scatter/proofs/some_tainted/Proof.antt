@@ -11,7 +11,7 @@ use Rattle.cells.specs.Over.{amongFrom, some}
 use Rattle.cells.proofs.SearchLaws.{some-more, some-all}
 use Rattle.staging.specs.mirror.Room.{eitherStaged}
 use Rattle.scatter.specs.mirror.FromRoom.{someTainted}
-use Rattle.scatter.proofs.PairLaws.{tainted-begun, and-told}
+use Rattle.scatter.proofs.PairLaws.{tainted-begun}
 
 abbrev Inv-loop : tie.InvT-loop
 Inv-loop taint layout on found₀ lane₀ found lane =
@@ -28,7 +28,7 @@ loop-again : tie.Need-loop-again Inv-loop μ-loop
 loop-again c =
     let t = c .before .before in
     let l = t .before .before .loop in
-    (omega arith, some-more _ _ (l .lane) _ (l .found) _ _ (t .if1 .taken) (and-told (getD (t .before .before .before .before .args .on .now) (l .lane) false) _ _ (c .either-taint .ensures)) (l .inv .1))
+    (omega arith, some-more _ _ (l .lane) _ (l .found) _ _ (t .if1 .taken) (c .lane-tainted .ensures) (l .inv .1))
 
 returns : tie.Need-returns Inv-loop μ-loop
 returns c =
