@@ -135,7 +135,7 @@ pub fn channel_stride(exec: u8) -> u8
     if size < 8 { 8 } else { size }
 }
 
-fn scatter_needed(exec: u8, channels: u8) -> u32
+pub fn scatter_needed(exec: u8, channels: u8) -> u32
     ensures { λ r. ⌜ r ≡ scatterNeeded exec channels ⌝ }
 {
     let size = channels::split(exec).size as u32;

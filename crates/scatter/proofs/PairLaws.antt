@@ -1,29 +1,52 @@
--- Where the searches over lanes and channels begin, in the words of `FromRoom`.
-use Prim.Native.Nat.{ℕ, _-_}
-use mathlib.Core.Path.{_≡_, ap, _∙_}
-use mathlib.Core.Bool.{Bool}
-use mathlib.Core.List.{List}
-use Rattle.cells.specs.Over.{amongFrom, among, some}
+-- Where the loops over lanes and channels begin, in the words of `FromRoom`; and what one pair writes.
+use Prim.Native.Nat.{ℕ, _+_, _*_, _-_}
+use mathlib.Core.Path.{_≡_, sym}
+use mathlib.Core.Bool.{Bool, true, false, cond}
+use mathlib.Core.List.{List, []}
+use lib.ListN.{getD}
+use Rattle.cells.specs.Buffer.{Buffer}
+use Rattle.cells.specs.Writes.{Write, writtenAll, copyWrites}
+use Rattle.cells.specs.Over.{amongFrom, each, some}
+use Rattle.cells.proofs.EffectLaws.{nothing-written}
+use Rattle.cells.proofs.LaneLaws.{lanes-begun}
 use Rattle.cells.proofs.SearchLaws.{some-begun}
 use Rattle.channels.specs.Bits.{bit}
-use Rattle.channels.specs.Exec.{execSize}
-use Rattle.channels.specs.mirror.Prepared.{isOn}
-use Rattle.channels.specs.declared.Lanes.{Lanes}
-use Rattle.plan.specs.declared.Plan.{Plan}
+use Rattle.staging.specs.declared.Layout.{Layout}
+use Rattle.staging.specs.mirror.Room.{eitherStaged}
 use Rattle.scatter.specs.declared.Rule.{Rule}
-use Rattle.scatter.specs.Scatter.{channelsOn}
-use Rattle.scatter.specs.Rules.{breaks}
-use Rattle.scatter.specs.FromRoom.{roomTarget, preparedOn, rowBreaks, someBreaks}
+use Rattle.scatter.specs.declared.Pairs.{Pairs}
+use Rattle.scatter.specs.mirror.Rules.{breaks}
+use Rattle.scatter.specs.mirror.FromRoom.{enabledLanes, targetFrom, rowPlace, pairWrites, rowWrites, allWrites, rowBreaks, someBreaks, someTainted}
 
-module _ (p : Plan) (lanes : Lanes) (count : ℕ) (size : count ≡ execSize (p .control .exec)) where
-  pub lanes-search : (test : ℕ → Bool) → some test (amongFrom (isOn lanes) 0 (count - 0)) ≡ some test (preparedOn p lanes)
-  unfolding preparedOn
-  lanes-search test = some-begun test (isOn lanes) count ∙ ap (λ (n : ℕ). some test (among (isOn lanes) n)) size
+pub tainted-begun : (taint : List ℕ) (s : Layout) (on : List Bool) → some (eitherStaged taint s) (amongFrom (λ k. getD on k false) 0 (s .lanes - 0)) ≡ someTainted taint s on
+unfolding someTainted enabledLanes
+tainted-begun taint s on = some-begun (eitherStaged taint s) (λ k. getD on k false) (s .lanes)
 
-  pub row-search : (rule : Rule) (room : List ℕ) (c : ℕ) → some (λ i. breaks rule (roomTarget room p c i)) (amongFrom (isOn lanes) 0 (count - 0)) ≡ rowBreaks rule room p lanes c
-  unfolding rowBreaks
-  row-search rule room c = lanes-search (λ i. breaks rule (roomTarget room p c i))
+module _ (rule : Rule) (on : List Bool) (sums : List ℕ) where
+  pub row-begun : (lanes c : ℕ) → some (λ i. breaks rule (targetFrom (getD sums i 0) c)) (amongFrom (λ k. getD on k false) 0 (lanes - 0)) ≡ rowBreaks rule on sums lanes c
+  unfolding rowBreaks enabledLanes
+  row-begun lanes c = some-begun (λ i. breaks rule (targetFrom (getD sums i 0) c)) (λ k. getD on k false) lanes
 
-pub channel-search : (rule : Rule) (room : List ℕ) (p : Plan) (lanes : Lanes) → some (rowBreaks rule room p lanes) (amongFrom (bit (p .channels)) 0 (4 - 0)) ≡ someBreaks rule room p lanes
-unfolding someBreaks channelsOn
-channel-search rule room p lanes = some-begun (rowBreaks rule room p lanes) (bit (p .channels)) 4
+  pub rows-begun : (s : Pairs) → some (rowBreaks rule on sums (s .lanes)) (amongFrom (bit (s .channels)) 0 (4 - 0)) ≡ someBreaks rule s on sums
+  unfolding someBreaks
+  rows-begun s = some-begun (rowBreaks rule on sums (s .lanes)) (bit (s .channels)) 4
+
+pub pair-written : (base : ℕ) (room : Buffer) (begin sum c lane address to : ℕ) (b b′ : Buffer) → b′ ≡ writtenAll (copyWrites room (begin + 4 * lane) to 4) b → address ≡ targetFrom sum c → to ≡ address - base → b′ ≡ writtenAll (pairWrites base room begin sum c lane) b
+unfolding pairWrites
+pair-written base room begin sum c lane address to b b′ made a t = rw (← a, ← t) made
+
+module _ (base : ℕ) (room : Buffer) where
+  pub row-written : (begin : ℕ) (on : List Bool) (sums : List ℕ) (lanes c : ℕ) (b : Buffer) → writtenAll (each (λ i. pairWrites base room begin (getD sums i 0) c i) (amongFrom (λ k. getD on k false) 0 (lanes - 0))) b ≡ writtenAll (rowWrites base room begin on sums lanes c) b
+  unfolding rowWrites enabledLanes
+  row-written begin on sums lanes c b = lanes-begun (λ i. pairWrites base room begin (getD sums i 0) c i) (λ k. getD on k false) lanes b
+
+  pub rows-written : (s : Pairs) (on : List Bool) (sums : List ℕ) (b : Buffer) → writtenAll (each (λ c. rowWrites base room (rowPlace s c) on sums (s .lanes) c) (amongFrom (bit (s .channels)) 0 (4 - 0))) b ≡ writtenAll (allWrites base room s on sums) b
+  unfolding allWrites
+  rows-written s on sums b = lanes-begun (λ c. rowWrites base room (rowPlace s c) on sums (s .lanes) c) (bit (s .channels)) 4 b
+
+  -- a channel that is enabled, and one that is not
+  pub channel-written : (s : Pairs) (on : List Bool) (sums : List ℕ) (c begin : ℕ) (asked : Bool) (b b′ : Buffer) → asked ≡ bit (s .channels) c → asked ≡ true → begin ≡ rowPlace s c → b′ ≡ writtenAll (rowWrites base room begin on sums (s .lanes) c) b → b′ ≡ writtenAll (cond (bit (s .channels) c) (rowWrites base room (rowPlace s c) on sums (s .lanes) c) []) b
+  channel-written s on sums c begin asked b b′ told taken there made = rw (← told, taken, ← there) made
+
+pub channel-skipped : (ws : List Write) (asked on : Bool) (b : Buffer) → asked ≡ on → asked ≡ false → b ≡ writtenAll (cond on ws []) b
+channel-skipped ws asked on b told left = rw (← told, left) (sym (nothing-written b))

@@ -11,7 +11,7 @@ use Rattle.plan.specs.declared.Plan.{Plan}
 use Rattle.plan.specs.declared.Operation.the-variants as operation
 use Rattle.plan.proofs.InstructionLaws.{Keeps}
 use Rattle.staging.proofs.FitLaws.{elements-fit}
-use Rattle.scatter.specs.Guarded.{scatterFits}
+use Rattle.scatter.specs.mirror.Guarded.{scatterFits}
 
 pub sound-fits : (p : Plan) (c : Control) → execSize (c .exec) ≤ 16 → Keeps operation.Scatter c rule.Address rule.Dword p → scatterFits p ≡ true
 unfolding scatterFits
@@ -20,6 +20,6 @@ sound-fits p c sixteen k =
     let few : lanes ≤ 16 = rw (k .control) sixteen in
     rw (
       le-leb lanes 16 few,
-      elements-fit 8 (p .left) lanes (omega arith) (omega (arith, k .left)) (omega arith),
-      elements-fit 8 (p .right) lanes (omega arith) (omega (arith, k .right)) (omega arith),
+      elements-fit 8 (p .left) lanes (omega arith) (omega (arith, k .left)),
+      elements-fit 8 (p .right) lanes (omega arith) (omega (arith, k .right)),
     )

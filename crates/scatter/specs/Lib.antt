@@ -1,5 +1,3 @@
 pub mod Scatter
-pub mod Guarded
-pub mod Rules
-pub mod FromRoom
 pub mod Results
+pub mod mirror

@@ -2,27 +2,23 @@
 use channels::Lanes;
 use operands::Elements;
 use plan::Plan;
+use staging::Layout;
 use staging::Room;
 ghost use mathlib.Core.Path.{_≡_};
-ghost use mathlib.Core.Bool.{cond, _&&_};
+ghost use mathlib.Core.Bool.{true, cond, _&&_};
 ghost use mathlib.Core.List.{[]};
 ghost use Prim.Native.Nat.{_-_, _≤_};
 ghost use lib.ListN.{length, getD};
 ghost use Rattle.cells.specs.Buffer.{buffer};
 ghost use Rattle.cells.specs.Writes.{writtenAll};
-ghost use Rattle.cells.specs.Over.{each, some};
+ghost use Rattle.cells.specs.Effect.{MemoryDone};
 ghost use Rattle.channels.specs.Bits.{bit};
-ghost use Rattle.channels.specs.mirror.Prepared.{isOn};
 ghost use Rattle.plan.specs.Needed.{enabledBelow};
-ghost use Rattle.scatter.specs.Scatter.{channelsOn, outside};
-ghost use Rattle.scatter.specs.Guarded.{scatterFits, scatterGuarded};
-ghost use Rattle.scatter.specs.Rules.{breaks};
-ghost use Rattle.scatter.specs.FromRoom.{roomTarget, roomTainted, roomByte, roomPair, preparedOn, rowWrites, someBreaks, sourcesStaged, roomEffect};
-
-// Where the sources stand in the room: Address from byte 0 on, and these two.
-const OFFSETS: u16 = 128;
-
-const SOURCE: usize = 256;
+ghost use Rattle.staging.specs.mirror.Room.{eitherStaged};
+ghost use Rattle.scatter.specs.Scatter.{outside};
+ghost use Rattle.scatter.specs.mirror.Guarded.{scatterFits, window, scatterGuarded};
+ghost use Rattle.scatter.specs.mirror.Rules.{breaks};
+ghost use Rattle.scatter.specs.mirror.FromRoom.{layoutFor, pairsOf, sourcesStaged, laneSum, WorkedOut, targetFrom, rowPlace, pairWrites, rowWrites, allWrites, rowBreaks, someBreaks, someTainted, roomEffect};
 
 // What every target address has to meet. The window is given by its base and its length.
 enum Rule {
@@ -52,74 +48,133 @@ fn breaks(rule: Rule, address: u64) -> bool
     }
 }
 
-// The address that a channel of a lane goes to, modulo 2^64.
-fn target_of(room: &[u8], plan: Plan, channel: u8, lane: u8) -> u64
-    ensures { λ r. ⌜ r ≡ roomTarget (now (room .entry)) plan channel lane ⌝ }
-{
-    let left = plan.left;
-    let right = plan.right;
-    let address = staging::staged_number(room, left, staging::LEFT, lane);
-    let element = staging::staged_number(room, right, staging::RIGHT, lane);
-    let first = std::num::wrapping_add_u64(address, element);
-    std::num::wrapping_add_u64(first, 4 * (channel as u64))
+// What of the plan is asked of each pair: the lanes, the enabled channels, the dwords from a channel's data to the next channel's, and the byte
+// of the room where the data begin.
+struct Pairs {
+    lanes: u8,
+    channels: u8,
+    stride: u8,
+    first: u32,
 }
 
-fn lane_tainted(taint: &[u8], plan: Plan, lanes: Lanes, lane: u8) -> bool
-    ensures { λ r. ⌜ r ≡ (isOn lanes lane && roomTainted (now (taint .entry)) plan lane) ⌝ }
+fn layout_for(plan: Plan) -> Layout
+    ensures { λ r. ⌜ r ≡ layoutFor plan ⌝ }
 {
     let left = plan.left;
     let right = plan.right;
-    if lanes.on(lane as usize) {
-        staging::staged_taint(taint, left, staging::LEFT, lane)
-            | staging::staged_taint(taint, right, staging::RIGHT, lane)
-    } else {
-        false
+    staging::layout_of(left, right, channels::split(plan.control.exec).size)
+}
+
+fn pairs_of(plan: Plan) -> Pairs
+    ensures { λ r. ⌜ r ≡ pairsOf plan ⌝ }
+{
+    Pairs {
+        lanes: channels::split(plan.control.exec).size,
+        channels: plan.channels,
+        stride: plan::channel_stride(plan.control.exec),
+        first: staging::data_place(layout_for(plan)),
     }
 }
 
-// Whether an address is doubtful, over all enabled lanes. No address is looked at.
-fn some_tainted(taint: &[u8], plan: Plan, lanes: Lanes) -> bool
-    ensures { λ r. ⌜ r ≡ some (roomTainted (now (taint .entry)) plan) (preparedOn plan lanes) ⌝ }
+// What is worked out once for each lane: whether it is on, and the sum of its address and its element offset.
+struct Targets {
+    on: [bool; 16],
+    sums: [u64; 16],
+}
+
+// The sum of a lane's address and its element offset, modulo 2^64.
+fn lane_sum(room: &[u8], layout: Layout, lane: u8) -> u64
+    ensures { λ r. ⌜ r ≡ laneSum (now (room .entry)) layout lane ⌝ }
 {
-    let count = channels::split(plan.control.exec).size;
+    let address = staging::first_number(room, layout, lane);
+    let element = staging::second_number(room, layout, lane);
+    std::num::wrapping_add_u64(address, element)
+}
+
+fn targets_of(room: &[u8], layout: Layout, lanes: Lanes) -> Targets
+    requires { ⌜ layout .lanes ≤ 16 ⌝ }
+    ensures { λ r. ⌜ WorkedOut (now (room .entry)) layout lanes (r .on) (r .sums) ⌝ }
+{
+    let mut on = [false; 16];
+    let mut sums = [0u64; 16];
+    let mut lane: u8 = 0;
+    while lane < layout.lanes {
+        let index = lane as usize;
+        on[index] = lanes.on(index);
+        sums[index] = lane_sum(room, layout, lane);
+        lane += 1;
+    }
+    Targets { on, sums }
+}
+
+// The address that a channel of a lane goes to, modulo 2^64.
+fn target_from(sum: u64, channel: u8) -> u64
+    ensures { λ r. ⌜ r ≡ targetFrom sum channel ⌝ }
+{
+    std::num::wrapping_add_u64(sum, 4 * (channel as u64))
+}
+
+fn lane_tainted(taint: &[u8], layout: Layout, on: bool, lane: u8) -> bool
+    ensures { λ r. ⌜ r ≡ (on && eitherStaged (now (taint .entry)) layout lane) ⌝ }
+{
+    on & staging::either_taint(taint, layout, lane)
+}
+
+// Whether an address is doubtful, over all enabled lanes. No address is looked at.
+fn some_tainted(taint: &[u8], layout: Layout, on: &[bool; 16]) -> bool
+    requires { ⌜ layout .lanes ≤ 16 ⌝ }
+    ensures { λ r. ⌜ r ≡ someTainted (now (taint .entry)) layout (now (on .entry)) ⌝ }
+{
     let mut found = false;
     let mut lane: u8 = 0;
-    while lane < count {
-        found |= lane_tainted(taint, plan, lanes, lane);
+    while lane < layout.lanes {
+        let index = lane as usize;
+        found |= lane_tainted(taint, layout, on[index], lane);
         lane += 1;
     }
     found
 }
 
-fn lane_breaks(room: &[u8], plan: Plan, lanes: Lanes, rule: Rule, channel: u8, lane: u8) -> bool
-    ensures { λ r. ⌜ r ≡ (isOn lanes lane && breaks rule (roomTarget (now (room .entry)) plan channel lane)) ⌝ }
+fn lane_breaks(rule: Rule, on: bool, sum: u64, channel: u8) -> bool
+    ensures { λ r. ⌜ r ≡ (on && breaks rule (targetFrom sum channel)) ⌝ }
 {
-    if lanes.on(lane as usize) {
-        breaks(rule, target_of(room, plan, channel, lane))
+    on & breaks(rule, target_from(sum, channel))
+}
+
+fn row_breaks(rule: Rule, on: &[bool; 16], sums: &[u64; 16], lanes: u8, channel: u8) -> bool
+    requires { ⌜ lanes ≤ 16 ⌝ }
+    ensures { λ r. ⌜ r ≡ rowBreaks rule (now (on .entry)) (now (sums .entry)) lanes channel ⌝ }
+{
+    let mut found = false;
+    let mut lane: u8 = 0;
+    while lane < lanes {
+        let index = lane as usize;
+        found |= lane_breaks(rule, on[index], sums[index], channel);
+        lane += 1;
+    }
+    found
+}
+
+fn channel_breaks(rule: Rule, pairs: Pairs, on: &[bool; 16], sums: &[u64; 16], channel: u8) -> bool
+    requires { ⌜ pairs .lanes ≤ 16 ⌝ }
+    ensures { λ r. ⌜ r ≡ (bit (pairs .channels) channel && rowBreaks rule (now (on .entry)) (now (sums .entry)) (pairs .lanes) channel) ⌝ }
+{
+    if channels::bit_at(pairs.channels as u32, channel as usize) {
+        row_breaks(rule, on, sums, pairs.lanes, channel)
     } else {
         false
     }
 }
 
-// Whether an enabled pair of a channel and a lane breaks a rule: the first that does ends the search.
-fn some_breaks(room: &[u8], plan: Plan, lanes: Lanes, rule: Rule) -> bool
-    ensures { λ r. ⌜ r ≡ someBreaks rule (now (room .entry)) plan lanes ⌝ }
+// Whether an enabled pair of a channel and a lane breaks a rule.
+fn some_breaks(rule: Rule, pairs: Pairs, on: &[bool; 16], sums: &[u64; 16]) -> bool
+    requires { ⌜ pairs .lanes ≤ 16 ⌝ }
+    ensures { λ r. ⌜ r ≡ someBreaks rule pairs (now (on .entry)) (now (sums .entry)) ⌝ }
 {
-    let count = channels::split(plan.control.exec).size;
-    let enabled = plan.channels as u32;
     let mut found = false;
     let mut channel: u8 = 0;
-    'search: while channel < 4 {
-        if channels::bit_at(enabled, channel as usize) {
-            let mut lane: u8 = 0;
-            while lane < count {
-                if lane_breaks(room, plan, lanes, rule, channel, lane) {
-                    found = true;
-                    break 'search;
-                }
-                lane += 1;
-            }
-        }
+    while channel < 4 {
+        found |= channel_breaks(rule, pairs, on, sums, channel);
         channel += 1;
     }
     found
@@ -139,14 +194,13 @@ fn rank(channels: u8, channel: u8) -> u8
     count
 }
 
-// The byte of the room where the dword of a channel and a lane begins.
-fn source_place(plan: Plan, channel: u8, lane: u8) -> usize
+// The byte of the room where the data of a channel begin.
+fn row_place(pairs: Pairs, channel: u8) -> usize
     requires { ⌜ channel ≤ 4 ⌝ }
-    ensures { λ r. ⌜ r ≡ roomByte plan channel lane ⌝ }
+    ensures { λ r. ⌜ (r ≡ rowPlace pairs channel) × (r ≤ 8589934592) ⌝ }
 {
-    let below = rank(plan.channels, channel) as usize;
-    let stride = plan::channel_stride(plan.control.exec) as usize;
-    SOURCE + 4 * (below * stride + (lane as usize))
+    let below = rank(pairs.channels, channel) as usize;
+    (pairs.first as usize) + 4 * (below * (pairs.stride as usize))
 }
 
 // The byte of memory at an address; 0 before the base.
@@ -163,20 +217,21 @@ fn memory_place(base: u64, address: u64) -> usize
 fn write_lane(
     room: &[u8],
     room_taint: &[u8],
-    plan: Plan,
-    lanes: Lanes,
+    begin: usize,
+    on: bool,
+    sum: u64,
     base: u64,
     channel: u8,
     lane: u8,
     memory: &mut [u8],
     memory_taint: &mut [u8],
 )
-    requires { ⌜ channel ≤ 4 ⌝ }
-    ensures { λ _. ⌜ buffer (now (memory .exit)) (now («memory_taint» .exit)) ≡ writtenAll (cond (isOn lanes lane) (roomPair base (buffer (now (room .entry)) (now («room_taint» .entry))) plan channel lane) []) (buffer (now (memory .entry)) (now («memory_taint» .entry))) ⌝ }
+    requires { ⌜ begin ≤ 8589934592 ⌝ }
+    ensures { λ _. ⌜ buffer (now (memory .exit)) (now («memory_taint» .exit)) ≡ writtenAll (cond on (pairWrites base (buffer (now (room .entry)) (now («room_taint» .entry))) begin sum channel lane) []) (buffer (now (memory .entry)) (now («memory_taint» .entry))) ⌝ }
 {
-    if lanes.on(lane as usize) {
-        let from = source_place(plan, channel, lane);
-        let to = memory_place(base, target_of(room, plan, channel, lane));
+    if on {
+        let from = begin + 4 * (lane as usize);
+        let to = memory_place(base, target_from(sum, channel));
         cells::copy(room, room_taint, from, memory, memory_taint, to, 4);
     }
 }
@@ -184,24 +239,27 @@ fn write_lane(
 fn write_row(
     room: &[u8],
     room_taint: &[u8],
-    plan: Plan,
-    lanes: Lanes,
+    begin: usize,
+    on: &[bool; 16],
+    sums: &[u64; 16],
+    lanes: u8,
     base: u64,
     channel: u8,
     memory: &mut [u8],
     memory_taint: &mut [u8],
 )
-    requires { ⌜ channel ≤ 4 ⌝ }
-    ensures { λ _. ⌜ buffer (now (memory .exit)) (now («memory_taint» .exit)) ≡ writtenAll (rowWrites base (buffer (now (room .entry)) (now («room_taint» .entry))) plan lanes channel) (buffer (now (memory .entry)) (now («memory_taint» .entry))) ⌝ }
+    requires { ⌜ (lanes ≤ 16) × (begin ≤ 8589934592) ⌝ }
+    ensures { λ _. ⌜ buffer (now (memory .exit)) (now («memory_taint» .exit)) ≡ writtenAll (rowWrites base (buffer (now (room .entry)) (now («room_taint» .entry))) begin (now (on .entry)) (now (sums .entry)) lanes channel) (buffer (now (memory .entry)) (now («memory_taint» .entry))) ⌝ }
 {
-    let count = channels::split(plan.control.exec).size;
     let mut lane: u8 = 0;
-    while lane < count {
+    while lane < lanes {
+        let place = lane as usize;
         write_lane(
             room,
             room_taint,
-            plan,
-            lanes,
+            begin,
+            on[place],
+            sums[place],
             base,
             channel,
             lane,
@@ -215,22 +273,26 @@ fn write_row(
 fn write_channel(
     room: &[u8],
     room_taint: &[u8],
-    plan: Plan,
-    lanes: Lanes,
+    pairs: Pairs,
+    on: &[bool; 16],
+    sums: &[u64; 16],
     base: u64,
     channel: u8,
     memory: &mut [u8],
     memory_taint: &mut [u8],
 )
-    requires { ⌜ channel ≤ 4 ⌝ }
-    ensures { λ _. ⌜ buffer (now (memory .exit)) (now («memory_taint» .exit)) ≡ writtenAll (cond (bit (plan .channels) channel) (rowWrites base (buffer (now (room .entry)) (now («room_taint» .entry))) plan lanes channel) []) (buffer (now (memory .entry)) (now («memory_taint» .entry))) ⌝ }
+    requires { ⌜ (channel ≤ 4) × (pairs .lanes ≤ 16) ⌝ }
+    ensures { λ _. ⌜ buffer (now (memory .exit)) (now («memory_taint» .exit)) ≡ writtenAll (cond (bit (pairs .channels) channel) (rowWrites base (buffer (now (room .entry)) (now («room_taint» .entry))) (rowPlace pairs channel) (now (on .entry)) (now (sums .entry)) (pairs .lanes) channel) []) (buffer (now (memory .entry)) (now («memory_taint» .entry))) ⌝ }
 {
-    if channels::bit_at(plan.channels as u32, channel as usize) {
+    if channels::bit_at(pairs.channels as u32, channel as usize) {
+        let begin = row_place(pairs, channel);
         write_row(
             room,
             room_taint,
-            plan,
-            lanes,
+            begin,
+            on,
+            sums,
+            pairs.lanes,
             base,
             channel,
             memory,
@@ -243,21 +305,24 @@ fn write_channel(
 fn write_pairs(
     room: &[u8],
     room_taint: &[u8],
-    plan: Plan,
-    lanes: Lanes,
+    pairs: Pairs,
+    on: &[bool; 16],
+    sums: &[u64; 16],
     base: u64,
     memory: &mut [u8],
     memory_taint: &mut [u8],
 )
-    ensures { λ _. ⌜ buffer (now (memory .exit)) (now («memory_taint» .exit)) ≡ writtenAll (each (rowWrites base (buffer (now (room .entry)) (now («room_taint» .entry))) plan lanes) (channelsOn plan)) (buffer (now (memory .entry)) (now («memory_taint» .entry))) ⌝ }
+    requires { ⌜ pairs .lanes ≤ 16 ⌝ }
+    ensures { λ _. ⌜ buffer (now (memory .exit)) (now («memory_taint» .exit)) ≡ writtenAll (allWrites base (buffer (now (room .entry)) (now («room_taint» .entry))) pairs (now (on .entry)) (now (sums .entry))) (buffer (now (memory .entry)) (now («memory_taint» .entry))) ⌝ }
 {
     let mut channel: u8 = 0;
     while channel < 4 {
         write_channel(
             room,
             room_taint,
-            plan,
-            lanes,
+            pairs,
+            on,
+            sums,
             base,
             channel,
             memory,
@@ -271,25 +336,37 @@ fn write_pairs(
 fn from_room(
     room: &[u8],
     room_taint: &[u8],
-    plan: Plan,
-    lanes: Lanes,
+    layout: Layout,
+    pairs: Pairs,
+    on: &[bool; 16],
+    sums: &[u64; 16],
     base: u64,
     memory: &mut [u8],
     memory_taint: &mut [u8],
 ) -> u8
-    ensures { λ r. ⌜ (r ≡ roomEffect (record { base = base; length = length (now (memory .entry)) }) plan lanes (buffer (now (room .entry)) (now («room_taint» .entry))) .number) × (buffer (now (memory .exit)) (now («memory_taint» .exit)) ≡ writtenAll (roomEffect (record { base = base; length = length (now (memory .entry)) }) plan lanes (buffer (now (room .entry)) (now («room_taint» .entry))) .memory) (buffer (now (memory .entry)) (now («memory_taint» .entry)))) ⌝ }
+    requires { ⌜ (layout .lanes ≤ 16) × (pairs .lanes ≤ 16) ⌝ }
+    ensures { λ r. ⌜ MemoryDone (roomEffect (window base (now (memory .entry))) layout pairs (now (on .entry)) (now (sums .entry)) (buffer (now (room .entry)) (now («room_taint» .entry)))) r (buffer (now (memory .entry)) (now («memory_taint» .entry))) (buffer (now (memory .exit)) (now («memory_taint» .exit))) ⌝ }
 {
-    if some_tainted(room_taint, plan, lanes) {
+    if some_tainted(room_taint, layout, on) {
         return 10;
     }
-    if some_breaks(room, plan, lanes, Rule::Aligned) {
+    if some_breaks(Rule::Aligned, pairs, on, sums) {
         return 11;
     }
-    let window = Rule::Inside(base, memory.len() as u64);
-    if some_breaks(room, plan, lanes, window) {
+    let inside = Rule::Inside(base, memory.len() as u64);
+    if some_breaks(inside, pairs, on, sums) {
         return 12;
     }
-    write_pairs(room, room_taint, plan, lanes, base, memory, memory_taint);
+    write_pairs(
+        room,
+        room_taint,
+        pairs,
+        on,
+        sums,
+        base,
+        memory,
+        memory_taint,
+    );
     0
 }
 
@@ -311,7 +388,7 @@ fn first_byte(elements: Elements) -> u32
     at[0]
 }
 
-// All sources: the addresses' elements, and the 64 dwords that are the most that four channels take, in two halves.
+// All sources: the addresses' elements, and the dwords of Src that the enabled channels need.
 fn stage_sources(registers: &[u8], register_taint: &[u8], plan: Plan) -> Room
     ensures { λ r. ⌜ buffer (r .bytes) (r .taint) ≡ sourcesStaged (buffer (now (registers .entry)) (now («register_taint» .entry))) plan ⌝ }
 {
@@ -319,29 +396,44 @@ fn stage_sources(registers: &[u8], register_taint: &[u8], plan: Plan) -> Room
     let left = plan.left;
     let right = plan.right;
     let source = plan.payload;
-    let at = first_byte(source) as usize;
-    let room = staging::stage_both(registers, register_taint, left, right, lanes);
-    let mut bytes = room.bytes;
-    let mut taint = room.taint;
-    cells::copy(
-        registers,
-        register_taint,
-        at,
-        &mut bytes,
-        &mut taint,
-        SOURCE,
-        128,
-    );
-    cells::copy(
-        registers,
-        register_taint,
-        at + 128,
-        &mut bytes,
-        &mut taint,
-        SOURCE + 128,
-        128,
-    );
-    Room { bytes, taint }
+    let from = first_byte(source) as usize;
+    let needed = plan::scatter_needed(plan.control.exec, plan.channels) as usize;
+    staging::stage_with_data(registers, register_taint, left, right, lanes, from, needed)
+}
+
+// A scatter of a plan that fits.
+fn scatter_fitting(
+    plan: Plan,
+    mask: u32,
+    base: u64,
+    registers: &[u8],
+    register_taint: &[u8],
+    memory: &mut [u8],
+    memory_taint: &mut [u8],
+) -> u8
+    requires { ⌜ scatterFits plan ≡ true ⌝ }
+    ensures { λ r. ⌜ MemoryDone (scatterGuarded (window base (now (memory .entry))) mask plan (buffer (now (registers .entry)) (now («register_taint» .entry)))) r (buffer (now (memory .entry)) (now («memory_taint» .entry))) (buffer (now (memory .exit)) (now («memory_taint» .exit))) ⌝ }
+{
+    let control = plan.control;
+    let lanes = channels::lanes_of(control.exec, control.pred, mask, plan.bits);
+    let layout = layout_for(plan);
+    let room = stage_sources(registers, register_taint, plan);
+    let bytes = room.bytes;
+    let taint = room.taint;
+    let targets = targets_of(&bytes, layout, lanes);
+    let on = targets.on;
+    let sums = targets.sums;
+    from_room(
+        &bytes,
+        &taint,
+        layout,
+        pairs_of(plan),
+        &on,
+        &sums,
+        base,
+        memory,
+        memory_taint,
+    )
 }
 
 // The number of a refusal, or 0 with the dwords written; 7 for a plan that no check makes.
@@ -354,15 +446,19 @@ pub fn scatter(
     memory: &mut [u8],
     memory_taint: &mut [u8],
 ) -> u8
-    ensures { λ r. ⌜ (r ≡ scatterGuarded (record { base = base; length = length (now (memory .entry)) }) mask plan (buffer (now (registers .entry)) (now («register_taint» .entry))) .number) × (buffer (now (memory .exit)) (now («memory_taint» .exit)) ≡ writtenAll (scatterGuarded (record { base = base; length = length (now (memory .entry)) }) mask plan (buffer (now (registers .entry)) (now («register_taint» .entry))) .memory) (buffer (now (memory .entry)) (now («memory_taint» .entry)))) ⌝ }
+    ensures { λ r. ⌜ MemoryDone (scatterGuarded (window base (now (memory .entry))) mask plan (buffer (now (registers .entry)) (now («register_taint» .entry)))) r (buffer (now (memory .entry)) (now («memory_taint» .entry))) (buffer (now (memory .exit)) (now («memory_taint» .exit))) ⌝ }
 {
-    if !fits(plan) {
-        return 7;
+    if fits(plan) {
+        scatter_fitting(
+            plan,
+            mask,
+            base,
+            registers,
+            register_taint,
+            memory,
+            memory_taint,
+        )
+    } else {
+        7
     }
-    let control = plan.control;
-    let lanes = channels::lanes_of(control.exec, control.pred, mask, plan.bits);
-    let room = stage_sources(registers, register_taint, plan);
-    let bytes = room.bytes;
-    let taint = room.taint;
-    from_room(&bytes, &taint, plan, lanes, base, memory, memory_taint)
 }

@@ -1,15 +1,21 @@
--- What the test of fitting elements says: how many lanes there are, and how large their elements; and which elements pass it.
-use Prim.Native.Nat.{ℕ, _*_, _≤_}
+-- What the test of fitting elements says: how many lanes there are, how large their elements, and that both sources have room; and which
+-- elements pass it.
+use Prim.Native.Nat.{ℕ, _+_, _*_, _≤_}
 use mathlib.Core.Path.{_≡_, refl}
 use mathlib.Core.Bool.{Bool, true, false, _&&_, false≢true}
 use lib.Dec.{leb}
-use native.Mathlib.Nat.{mul-le-mul-left}
+use native.Mathlib.Nat.{mul-le-mul-right, mul-le-mul-left}
 use native.Mathlib.Omega.{arith}
 use borrow.Author.Tests.{leb-true, le-leb}
 use Rattle.operands.specs.declared.Elements.{Elements}
-use Rattle.staging.specs.Staged.{elementsFit}
+use Rattle.staging.specs.mirror.Room.{elementsFit}
 
--- the parts of a test in three parts
+-- the parts of a test in two parts, and in three
+pub both-parts : (a b : Bool) → (a && b) ≡ true → (a ≡ true) × (b ≡ true)
+both-parts true true e = (refl, refl)
+both-parts true false e = absurd (false≢true e)
+both-parts false b e = absurd (false≢true e)
+
 pub all-three : (a b c : Bool) → (a && b && c) ≡ true → (a ≡ true) × (b ≡ true) × (c ≡ true)
 all-three true true true e = (refl, refl, refl)
 all-three true true false e = absurd (false≢true e)
@@ -17,9 +23,9 @@ all-three true false c e = absurd (false≢true e)
 all-three false b c e = absurd (false≢true e)
 
 module _ (size : ℕ) (e : Elements) (lanes : ℕ) (fit : elementsFit size e lanes ≡ true) where
-  parts : (leb lanes 32 ≡ true) × (leb (e .size) size ≡ true) × (leb (lanes * e .size) 128 ≡ true)
+  parts : (leb lanes 32 ≡ true) × (leb (e .size) size ≡ true)
   unfolding elementsFit
-  parts = all-three (leb lanes 32) (leb (e .size) size) (leb (lanes * e .size) 128) fit
+  parts = both-parts (leb lanes 32) (leb (e .size) size) fit
 
   pub fit-lanes : lanes ≤ 32
   fit-lanes = leb-true lanes 32 (parts .0)
@@ -27,12 +33,11 @@ module _ (size : ℕ) (e : Elements) (lanes : ℕ) (fit : elementsFit size e lan
   pub fit-size : e .size ≤ size
   fit-size = leb-true (e .size) size (parts .1)
 
-  pub fit-bytes : lanes * e .size ≤ 128
-  fit-bytes = leb-true (lanes * e .size) 128 (parts .2)
+-- the bytes of so many lanes
+pub fit-bytes : (e : Elements) (size lanes most : ℕ) → lanes ≤ most → e .size ≤ size → lanes * e .size ≤ most * size
+fit-bytes e size lanes most few small = omega (arith, mul-le-mul-right (e .size) few, mul-le-mul-left most small)
 
--- elements of at most this size, in lanes for which there is room if they have all of it
-pub elements-fit : (size : ℕ) (e : Elements) (lanes : ℕ) → lanes ≤ 32 → e .size ≤ size → lanes * size ≤ 128 → elementsFit size e lanes ≡ true
+-- elements of at most this size, in at most 32 lanes
+pub elements-fit : (size : ℕ) (e : Elements) (lanes : ℕ) → lanes ≤ 32 → e .size ≤ size → elementsFit size e lanes ≡ true
 unfolding elementsFit
-elements-fit size e lanes few small room =
-    let bytes : lanes * e .size ≤ 128 = omega (arith, mul-le-mul-left lanes small) in
-    rw (le-leb lanes 32 few, le-leb (e .size) size small, le-leb (lanes * e .size) 128 bytes)
+elements-fit size e lanes few small = rw (le-leb lanes 32 few, le-leb (e .size) size small)

@@ -2,9 +2,10 @@ pub mod LanesOnLaws
 pub mod LaneTurnLaws
 pub mod Products
 pub mod StageLaws
+pub mod ReadLaws
 pub mod StagedLaws
 pub mod FitLaws
-pub mod BothLaws
+pub mod RoomLaws
 pub mod SourceLaws
 pub mod ResultLaws
 pub mod Untainted

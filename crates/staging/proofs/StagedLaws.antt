@@ -21,7 +21,7 @@ use Rattle.cells.proofs.StayLaws.{writesAt, stays}
 use Rattle.cells.proofs.LaneStayLaws.{lanes-outside, lane-stays}
 use Rattle.operands.specs.declared.Elements.{Elements}
 use Rattle.staging.specs.Sources.{elementValue, elementTainted}
-use Rattle.staging.specs.Staged.{stageLane, staged}
+use Rattle.staging.specs.mirror.Room.{stageLane, staged}
 
 -- a lane's element stands in the room
 pub record Stands (registers : Buffer) (e : Elements) (base lane : ℕ) (room : Buffer) : Type 0 where

@@ -1,7 +1,7 @@
 -- `scatter::breaks` meets its contract: one case for each rule.
 use borrow.Author.Needs.{needs}
 use Rattle.scatter.specs.Scatter.{misaligned}
-use Rattle.scatter.specs.Rules.{breaks}
+use Rattle.scatter.specs.mirror.Rules.{breaks}
 use Rattle.scatter.proofs.breaks.Statement.{statement}
 use Rattle.scatter.proofs.breaks.Tie as tie
 

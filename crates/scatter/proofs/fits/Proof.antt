@@ -4,7 +4,7 @@ use Rattle.scatter.proofs.fits.Statement.{statement}
 use Rattle.scatter.proofs.fits.Tie as tie
 use mathlib.Core.Path.{ap}
 use Rattle.channels.specs.declared.Exec.{Exec}
-use Rattle.scatter.specs.Guarded.{scatterFits}
+use Rattle.scatter.specs.mirror.Guarded.{scatterFits}
 
 returns : tie.Need-returns
 unfolding scatterFits

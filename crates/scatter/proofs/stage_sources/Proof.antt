@@ -1,32 +1,16 @@
--- `scatter::stage_sources` meets its contract: what the calls say, put together.
-use mathlib.Core.Path.{ap}
+-- `scatter::stage_sources` meets its contract.
 use borrow.Author.Needs.{needs}
-use Rattle.channels.specs.declared.Exec.{Exec}
-use Rattle.scatter.proofs.SourceLaws.{sources-told}
 use Rattle.scatter.proofs.stage_sources.Statement.{statement}
 use Rattle.scatter.proofs.stage_sources.Tie as tie
+use mathlib.Core.Path.{ap}
+use Rattle.channels.specs.declared.Exec.{Exec}
+use Rattle.scatter.proofs.PlanLaws.{sources-told}
 
 returns : tie.Need-returns
 returns c =
-    let d = c .before .before in
-    let e = d .before .before .before .before .before in
-    let s = e .before .before .before .before .before in
-    sources-told _ _ _ _ _ _ _ (ap (λ (x : Exec). x .size) (s .before .before .before .before .before .split .ensures)) (s .before .first-byte .ensures) (s .stage-both .ensures) (e .copy .ensures) (d .copy2 .ensures)
+    let n = c .before in
+    let f = n .before in
+    sources-told _ _ _ _ _ _ (ap (λ (e : Exec). e .size) (f .before .before .before .before .split .ensures)) (f .first-byte .ensures) (n .scatter-needed .ensures) (c .stage-with-data .ensures)
 
 pub stage-sources-spec : {M : Type 1} → statement M
-stage-sources-spec =
-    tie.close
-    (tie.spec
-    (λ c κs. search needs)
-    (λ c κs. search needs)
-    (λ c. search needs)
-    (λ c κs. search needs)
-    (λ c. search needs)
-    (λ c. search needs)
-    (λ c κs. search needs)
-    (λ c. search needs)
-    (λ c. search needs)
-    (λ c. search needs)
-    (λ c. search needs)
-    (λ c κs. search needs)
-    returns)
+stage-sources-spec = tie.close (tie.spec (λ c κs. search needs) (λ c κs. search needs) (λ c. search needs) (λ c κs. search needs) (λ c. search needs) (λ c κs. search needs) returns)

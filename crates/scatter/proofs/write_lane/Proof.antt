@@ -1,30 +1,18 @@
--- `scatter::write_lane` meets its contract: a lane that is on writes its dword, one that is off nothing.
+-- `scatter::write_lane` meets its contract: a lane that is on copies its dword.
 use borrow.Author.Needs.{needs}
 use Rattle.scatter.proofs.write_lane.Statement.{statement}
 use Rattle.scatter.proofs.write_lane.Tie as tie
-use Rattle.scatter.proofs.WrittenLaws.{on-written, off-written, pair-written}
+use Rattle.scatter.proofs.PairLaws.{pair-written}
+use Rattle.cells.proofs.LaneLaws.{lane-on, lane-off}
 
 returns : tie.Need-returns
 returns c =
-    let m = c .before .before .before .before in
-    let a = m .before .before .before in
-    let t = a .before .before .before in
-    on-written _ _ _ _ _ (t .before .on .ensures) (t .if1 .taken)
-    (pair-written _ _ _ _ _ _ _ _ _ _ (a .before .before .source-place .ensures) (a .before .target-of .ensures) (a .memory-place .ensures) (m .copy .ensures))
+    let w = c .before .before .before .before in
+    let p = w .before .before .before in
+    lane-on _ _ _ _ (p .before .before .if1 .taken) (pair-written _ _ _ _ _ _ _ _ _ _ (w .copy .ensures) (p .before .target-from .ensures) (p .memory-place .ensures))
 
 returns-2 : tie.Need-returns-2
-returns-2 c = off-written _ _ _ _ (c .before .on .ensures) (c .if1 .left)
+returns-2 c = lane-off _ _ _ (c .if1 .left)
 
 pub write-lane-spec : {M : Type 1} → statement M
-write-lane-spec =
-    tie.close
-    (tie.spec
-    (λ c κs. search needs)
-    (λ c κs. search needs)
-    (λ c κs. search needs)
-    (λ c κs. search needs)
-    (λ c κs. search needs)
-    (λ c. search needs)
-    (λ c. search needs)
-    returns
-    returns-2)
+write-lane-spec = tie.close (tie.spec (λ c. search needs) (λ c. search needs) (λ c κs. search needs) (λ c κs. search needs) (λ c κs. search needs) (λ c. search needs) (λ c. search needs) returns returns-2)

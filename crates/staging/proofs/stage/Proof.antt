@@ -9,7 +9,7 @@ use Rattle.cells.specs.Buffer.{buffer}
 use Rattle.cells.specs.Writes.{writtenAll}
 use Rattle.cells.specs.Over.{amongFrom, each}
 use Rattle.cells.proofs.LaneLaws.{lanes-begun, lanes-turn-on, lanes-over}
-use Rattle.staging.specs.Staged.{stageLane, staged}
+use Rattle.staging.specs.mirror.Room.{stageLane, staged}
 use Rattle.staging.proofs.stage.Statement.{statement}
 use Rattle.staging.proofs.stage.Tie as tie
 

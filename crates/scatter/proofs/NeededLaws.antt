@@ -1,0 +1,42 @@
+-- The dwords of Src that the enabled channels need: those of an enabled channel are among them, and they have room.
+use Prim.Native.Nat.{ℕ, zero, suc, _+_, _*_, _-_, _/_, _%_, _^_, _≤_, _<_}
+use mathlib.Core.Path.{_≡_}
+use mathlib.Core.Bool.{true}
+use native.Mathlib.Nat.{mul-le-mul-right, mul-le-mul-left}
+use native.Mathlib.Omega.{arith}
+use borrow.Author.Tests.{eqb-true}
+use Rattle.element_types.specs.Types.{sizeOf}
+use Rattle.channels.specs.Bits.{bit}
+use Rattle.channels.specs.Exec.{execSize}
+use Rattle.plan.specs.Needed.{enabledBelow, channelStride, scatterNeeded}
+use Rattle.plan.proofs.ChannelLaws.{enabled-next, enabled-at-most, stride-at-most}
+
+module _ (channels : ℕ) where
+  enabled-more : (c d : ℕ) → enabledBelow channels c ≤ enabledBelow channels (c + d)
+  enabled-more c zero = let e : c + 0 ≡ c = omega arith in rw e (omega arith)
+  enabled-more c (suc d) =
+      let e : c + suc d ≡ c + d + 1 = omega arith in
+      rw (e, enabled-next channels (c + d)) (omega (arith, enabled-more c d))
+
+  is-one : (c : ℕ) → bit channels c ≡ true → channels / 2 ^ c % 2 ≡ 1
+  unfolding bit
+  is-one c on = eqb-true (channels / 2 ^ c % 2) 1 on
+
+  -- an enabled channel is counted
+  enabled-counted : (c n : ℕ) → c < n → bit channels c ≡ true → enabledBelow channels c + 1 ≤ enabledBelow channels n
+  enabled-counted c n h on =
+      let e : n ≡ c + 1 + (n - (c + 1)) = omega arith in
+      rw e (omega (arith, enabled-next channels c, is-one c on, enabled-more (c + 1) (n - (c + 1))))
+
+  pub dword-needed : (exec c lane k : ℕ) → c < 4 → bit channels c ≡ true → lane < execSize exec → k < 4 → 4 * (enabledBelow channels c * channelStride exec) + 4 * lane + k < scatterNeeded exec channels
+  unfolding scatterNeeded sizeOf
+  dword-needed exec c lane k h on g l =
+      let e : enabledBelow channels c ≤ enabledBelow channels 4 - 1 = omega (arith, enabled-counted c 4 h on) in
+      omega (arith, mul-le-mul-right (channelStride exec) e)
+
+  pub needed-at-most : (exec : ℕ) → execSize exec ≤ 16 → scatterNeeded exec channels ≤ 256
+  unfolding scatterNeeded sizeOf
+  needed-at-most exec few =
+      let e : enabledBelow channels 4 - 1 ≤ 3 = omega (arith, enabled-at-most channels 4) in
+      let s = stride-at-most exec 16 (omega arith) few in
+      omega (arith, mul-le-mul-right (channelStride exec) e)

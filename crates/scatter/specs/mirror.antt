@@ -1,0 +1,3 @@
+pub mod Guarded
+pub mod Rules
+pub mod FromRoom
