@@ -14,9 +14,9 @@ use Rattle.shl.specs.declared.Shape.{Shape}
 use Rattle.shl.specs.mirror.FromRoom.{shapeOf, roomValue, roomWrites}
 
 module _ (room : Buffer) (s : Shape) (at lane : ℕ) (on : Bool) where
-  pub lane-written : (value : ℕ) (tainted : Bool) (b b′ : Buffer) → on ≡ true → value ≡ roomValue (room .bytes) s lane → tainted ≡ eitherStaged (room .taint) (s .layout) lane → b′ ≡ writtenAll (numberWrites at (s .size) (markOf tainted) value) b → b′ ≡ writtenAll (cond on (roomWrites room s at lane) []) b
+  pub lane-written : (value : ℕ) (tainted : Bool) (b b′ : Buffer) → b′ ≡ writtenAll (numberWrites at (s .size) (markOf tainted) value) b → on ≡ true → value ≡ roomValue (room .bytes) s lane → tainted ≡ eitherStaged (room .taint) (s .layout) lane → b′ ≡ writtenAll (cond on (roomWrites room s at lane) []) b
   unfolding roomWrites
-  lane-written value tainted b b′ taken v t made = rw (taken, ← v, ← t) made
+  lane-written value tainted b b′ made taken v t = rw (taken, ← v, ← t) made
 
 -- the shape, as code makes it
 pub shape-told : (p : Plan) (exec : Exec) (layout : Layout) → exec ≡ execOf (p .control .exec) → layout ≡ layoutOf (p .left) (p .right) (exec .size) → record { layout = layout; signed = p .left .signed; size = p .payload .size } ≡ shapeOf p

@@ -10,7 +10,7 @@ returns c =
     let s = c .before .before .before .before in
     let t = s .before .before .before in
     let v = t .before .before in
-    lane-written _ _ _ _ _ _ _ _ _ (v .before .if1 .taken) (v .lane-value .ensures) (t .either-taint .ensures) (s .set-number .ensures)
+    lane-written _ _ _ _ _ _ _ _ _ (s .set-number .ensures) (v .before .if1 .taken) (v .lane-value .ensures) (t .either-taint .ensures)
 
 returns-2 : tie.Need-returns-2
 returns-2 c = lane-skipped _ _ _ (c .if1 .left)
