@@ -118,6 +118,7 @@ module _ (surfaces : Buffer) (from n at : ℕ) (b : Buffer) where
   unfolding dwordWrites
   doubtful-written doubtful value b′ made taken v = rw (taken, ← v) made
 
-  pub read-written : (doubtful : Bool) (c b′ : Buffer) → b′ ≡ writtenAll (numberWrites (at + n) (4 - n) (markOf false) 0) c → c ≡ writtenAll (copyWrites surfaces from at n) b → doubtful ≡ false → b′ ≡ writtenAll (dwordWrites surfaces from n doubtful at) b
+  pub read-written : (doubtful : Bool) (m : ℕ) (c b′ : Buffer) → b′ ≡ writtenAll (numberWrites (at + n) m (markOf false) 0) c → m ≡ 4 - n → c ≡ writtenAll (copyWrites surfaces from at n) b → doubtful ≡ false → b′ ≡ writtenAll (dwordWrites surfaces from n doubtful at) b
   unfolding dwordWrites
-  read-written doubtful c b′ made copied left = rw (left, written-append (copyWrites surfaces from at n) (numberWrites (at + n) (4 - n) (markOf false) 0) b, ← copied) made
+  read-written doubtful m c b′ made rest copied left =
+      rw (left, written-append (copyWrites surfaces from at n) (numberWrites (at + n) (4 - n) (markOf false) 0) b, ← copied, ← rest) made
