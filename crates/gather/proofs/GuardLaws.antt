@@ -1,64 +1,69 @@
 -- A plan that does not fit writes nothing, and one that fits has the effect of its definition.
-use Prim.Native.Nat.{ℕ, _<_}
-use mathlib.Core.Path.{_≡_, sym, ap, ap₂, _∙_}
-use mathlib.Core.Bool.{Bool, true, false, true≢false, false≢true, not, _&&_}
-use native.Mathlib.Omega.{arith}
+use Prim.Native.Nat.{ℕ}
+use mathlib.Core.Path.{_≡_, refl, sym, ap, _∙_}
+use mathlib.Core.Bool.{Bool, true, false, not, _&&_}
+use borrow.Author.Tests.{not-true, not-false}
+use Rattle.little_endian.specs.LittleEndian.{Bytes}
 use Rattle.cells.specs.Buffer.{Buffer}
 use Rattle.cells.specs.Writes.{writtenAll}
-use Rattle.cells.specs.Over.{each}
-use Rattle.cells.specs.Effect.{refused}
+use Rattle.cells.specs.Over.{among, each}
+use Rattle.cells.specs.Effect.{refused, RegistersDone}
 use Rattle.cells.proofs.EffectLaws.{unless-refused, unless-passed, nothing-written}
 use Rattle.cells.proofs.LaneLaws.{lanes-alike}
 use Rattle.channels.specs.Exec.{execSize, execOf}
+use Rattle.channels.specs.Lanes.{laneOn}
 use Rattle.channels.specs.declared.Exec.{Exec}
+use Rattle.channels.specs.declared.Lanes.{Lanes}
+use Rattle.channels.specs.mirror.Prepared.{lanesOf, isOn}
 use Rattle.plan.specs.declared.Plan.{Plan}
 use Rattle.staging.specs.Lanes.{lanesOn}
-use Rattle.staging.specs.Staged.{elementsFit, bothStaged}
-use Rattle.staging.proofs.LanesOnLaws.{lanes-on-are}
+use Rattle.staging.specs.mirror.Room.{elementsFit, bothStaged}
+use Rattle.staging.proofs.LanesOnLaws.{lanes-on-are, prepared-lanes-are}
+use Rattle.gather.specs.declared.Shape.{Shape}
 use Rattle.gather.specs.Gather.{gatherLane, gatherEffect}
-use Rattle.gather.specs.Guarded.{gatherFits, gatherGuarded}
-use Rattle.gather.specs.FromRoom.{roomLane}
-use Rattle.gather.proofs.RoomLaws.{lane-stands}
+use Rattle.gather.specs.mirror.Guarded.{gatherFits, gatherGuarded}
+use Rattle.gather.specs.mirror.FromRoom.{shapeOf, roomLane}
+use Rattle.gather.proofs.RoomLaws.{room-lane-is}
 
-size-told : (exec : ℕ) (parts : Exec) → parts ≡ execOf exec → parts .size ≡ execSize exec
-size-told exec parts told = ap (λ (e : Exec). e .size) told
-
-pub below-size : (exec : ℕ) (parts : Exec) (lane : ℕ) → parts ≡ execOf exec → lane < parts .size → lane < execSize exec
-below-size exec parts lane told h = omega (arith, size-told exec parts told)
-
--- what the two tests answered
-pub fits-told : (p : Plan) (parts : Exec) (a b : Bool) → parts ≡ execOf (p .control .exec) → a ≡ elementsFit 4 (p .left) (parts .size) → b ≡ elementsFit 4 (p .right) (parts .size) → (a && b) ≡ gatherFits p
+-- the test as code asks it
+pub fits-told : (p : Plan) (exec : Exec) (l r : Bool) → exec ≡ execOf (p .control .exec) → l ≡ elementsFit 4 (p .left) (exec .size) → r ≡ elementsFit 4 (p .right) (exec .size) → (l && r) ≡ gatherFits p
 unfolding gatherFits
-fits-told p parts a b told l r = rw (← size-told (p .control .exec) parts told) (ap₂ _&&_ l r)
+fits-told p exec l r e f g = rw (f, g, e)
 
--- what the code's `!fits(plan)` answered
-module _ (p : Plan) where
-  pub told-refused : (answer : Bool) → answer ≡ gatherFits p → not answer ≡ true → gatherFits p ≡ false
-  told-refused true e t = absurd (false≢true t)
-  told-refused false e t = sym e
-
-  pub told-passed : (answer : Bool) → answer ≡ gatherFits p → not answer ≡ false → gatherFits p ≡ true
-  told-passed true e t = sym e
-  told-passed false e t = absurd (true≢false t)
-
-module _ (mask : ℕ) (p : Plan) (registers surfaces : Buffer) where
-  pub guard-refuses : gatherFits p ≡ false → gatherGuarded mask p registers surfaces ≡ refused 7
+module _ (mask : ℕ) (p : Plan) (b surfaces : Buffer) where
+  pub guard-refuses : gatherFits p ≡ false → gatherGuarded mask p b surfaces ≡ refused 7
   unfolding gatherGuarded
-  guard-refuses e = unless-refused (not (gatherFits p)) 7 (gatherEffect p (lanesOn mask p) registers surfaces) (rw e)
+  guard-refuses e = unless-refused _ 7 _ (ap not e)
 
   -- the guard is not the reason of an answer
-  pub guard-passes : gatherFits p ≡ true → gatherGuarded mask p registers surfaces ≡ gatherEffect p (lanesOn mask p) registers surfaces
+  pub guard-passes : gatherFits p ≡ true → gatherGuarded mask p b surfaces ≡ gatherEffect p (lanesOn mask p) b surfaces
   unfolding gatherGuarded
-  guard-passes e = unless-passed (not (gatherFits p)) 7 (gatherEffect p (lanesOn mask p) registers surfaces) (rw e)
+  guard-passes e = unless-passed _ 7 _ (ap not e)
 
-  pub nothing-gathered : gatherFits p ≡ false → (7 ≡ gatherGuarded mask p registers surfaces .number) × (registers ≡ writtenAll (gatherGuarded mask p registers surfaces .registers) registers)
-  nothing-gathered e = (rw (guard-refuses e), rw (guard-refuses e) (sym (nothing-written registers)))
+  pub gather-refused : (fit : Bool) → fit ≡ gatherFits p → not fit ≡ true → RegistersDone (gatherGuarded mask p b surfaces) 7 b b
+  gather-refused fit f e =
+      let g = guard-refuses (sym f ∙ not-true fit e) in
+      (rw g, rw g (sym (nothing-written b)))
 
-  lanes-stand : gatherFits p ≡ true → each (roomLane (bothStaged registers (p .left) (p .right) (execSize (p .control .exec))) surfaces p) (lanesOn mask p) ≡ each (gatherLane registers surfaces p) (lanesOn mask p)
-  lanes-stand fit = rw (lanes-on-are mask p) (lanes-alike _ _ _ _ (λ k h on. lane-stands p fit registers k h surfaces))
+  abbrev room : Buffer
+  room = bothStaged b (p .left) (p .right) (execSize (p .control .exec))
 
-  pub all-gathered : (parts : Exec) (room after : Buffer) → gatherFits p ≡ true → parts ≡ execOf (p .control .exec) → room ≡ bothStaged registers (p .left) (p .right) (parts .size) → after ≡ writtenAll (each (roomLane room surfaces p) (lanesOn mask p)) registers → (0 ≡ gatherGuarded mask p registers surfaces .number) × (after ≡ writtenAll (gatherGuarded mask p registers surfaces .registers) registers)
+  same-writes : Bytes (surfaces .bytes) → gatherFits p ≡ true → each (roomLane room surfaces (shapeOf p) (p .payload .at)) (lanesOn mask p) ≡ each (gatherLane b surfaces p) (lanesOn mask p)
+  same-writes bytes fit =
+      rw (lanes-on-are mask p)
+      (lanes-alike (roomLane room surfaces (shapeOf p) (p .payload .at)) (gatherLane b surfaces p) (laneOn (p .control .exec) (p .control .pred) mask (p .bits)) (execSize (p .control .exec)) (λ lane h on. room-lane-is p fit b surfaces bytes lane h))
+
+  effect-writes : gatherEffect p (lanesOn mask p) b surfaces .registers ≡ each (gatherLane b surfaces p) (lanesOn mask p)
   unfolding gatherEffect
-  all-gathered parts room after fit told staged made =
-      let e : room ≡ bothStaged registers (p .left) (p .right) (execSize (p .control .exec)) = staged ∙ ap (λ (n : ℕ). bothStaged registers (p .left) (p .right) n) (size-told (p .control .exec) parts told) in
-      (rw (guard-passes fit), rw (guard-passes fit, ← lanes-stand fit, ← e) made)
+  effect-writes = refl
+
+  effect-number : gatherEffect p (lanesOn mask p) b surfaces .number ≡ 0
+  unfolding gatherEffect
+  effect-number = refl
+
+  -- all lanes, as the code worked them out: with the plan's shape and lanes, from the room
+  pub gather-done : Bytes (surfaces .bytes) → (fit : Bool) (s : Shape) (lanes : Lanes) (staged b′ : Buffer) → fit ≡ gatherFits p → not fit ≡ false → s ≡ shapeOf p → lanes ≡ lanesOf (p .control .exec) (p .control .pred) mask (p .bits) → staged ≡ bothStaged b (p .left) (p .right) (s .layout .lanes) → b′ ≡ writtenAll (each (roomLane staged surfaces s (p .payload .at)) (among (isOn lanes) (s .layout .lanes))) b → RegistersDone (gatherGuarded mask p b surfaces) 0 b b′
+  gather-done bytes fit s lanes staged b′ f e shaped prepared there made =
+      let fits = sym f ∙ not-false fit e in
+      let g = guard-passes fits in
+      (rw (g, effect-number), rw (g, effect-writes, ← same-writes bytes fits, ← prepared-lanes-are mask p) (rw (there, shaped, prepared) at made))

@@ -2,6 +2,7 @@ pub mod Untainted
 pub mod Refusal
 pub mod Plain
 pub mod MarkLaws
+pub mod CountLaws
 pub mod DwordLaws
 pub mod AddressLaws
 pub mod RoomLaws

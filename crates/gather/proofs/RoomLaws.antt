@@ -1,57 +1,67 @@
 -- Where the offsets fit, the room holds them as the registers had them: what a lane writes by the room is what the definition says.
-use Prim.Native.Nat.{ℕ, _<_}
-use mathlib.Core.Path.{_≡_, refl, ap₂}
-use mathlib.Core.Bool.{Bool, true, false, _&&_, _||_, false≢true}
+use Prim.Native.Nat.{ℕ, _+_, _≤_, _<_}
+use mathlib.Core.Path.{_≡_}
+use mathlib.Core.Bool.{Bool, true, cond}
+use mathlib.Core.List.{[]}
 use native.Mathlib.Omega.{arith}
+use lib.ListN.{getD}
+use Rattle.little_endian.specs.LittleEndian.{Bytes}
 use Rattle.cells.specs.Buffer.{Buffer}
-use Rattle.channels.specs.Exec.{execSize}
+use Rattle.cells.specs.Writes.{writtenAll}
+use Rattle.channels.specs.Exec.{execSize, execOf}
+use Rattle.channels.specs.declared.Exec.{Exec}
 use Rattle.plan.specs.declared.Plan.{Plan}
+use Rattle.staging.specs.declared.Layout.{Layout}
 use Rattle.staging.specs.Sources.{elementValue, eitherTainted}
-use Rattle.staging.specs.Staged.{elementsFit, bothStaged}
-use Rattle.staging.proofs.FitLaws.{fit-lanes, fit-size}
-use Rattle.staging.proofs.SourceLaws.{either-is}
-use Rattle.staging.proofs.BothLaws.{stands-element, left-stands, right-stands}
+use Rattle.staging.specs.mirror.Room.{layoutOf, elementsFit, bothStaged, eitherStaged}
+use Rattle.staging.proofs.FitLaws.{both-parts, fit-lanes}
+use Rattle.staging.proofs.RoomLaws.{both-first, both-second, both-either}
+use Rattle.gather.specs.declared.Shape.{Shape}
 use Rattle.gather.specs.Gather.{gatherAddress, gatherLane}
-use Rattle.gather.specs.Guarded.{gatherFits}
-use Rattle.gather.specs.FromRoom.{Fitting, roomAddress, roomDoubtful, roomLane}
+use Rattle.gather.specs.mirror.Guarded.{gatherFits}
+use Rattle.gather.specs.mirror.FromRoom.{shapeOf, roomAddress, bytesRead, dwordWrites, roomWrites, roomLane}
+use Rattle.gather.proofs.CountLaws.{count-small, read-below}
+use Rattle.gather.proofs.DwordLaws.{dword-is}
 
-both : (a b : Bool) → (a && b) ≡ true → (a ≡ true) × (b ≡ true)
-both true b e = (refl, e)
-both false b e = absurd (false≢true e)
+-- the shape, as code makes it
+pub shape-told : (p : Plan) (exec : Exec) (layout : Layout) → exec ≡ execOf (p .control .exec) → layout ≡ layoutOf (p .left) (p .right) (exec .size) → record { layout = layout; start = p .start; length = p .length; block = p .bytes } ≡ shapeOf p
+shape-told p exec layout e l = rw (l, e)
+
+-- what the calls for a lane that is on answered is what it writes
+module _ (room surfaces : Buffer) (s : Shape) (at lane : ℕ) (on : Bool) where
+  pub lane-gathered : (address count : ℕ) (doubtful : Bool) (b b′ : Buffer) → b′ ≡ writtenAll (dwordWrites surfaces (s .start + address) count doubtful at) b → on ≡ true → doubtful ≡ eitherStaged (room .taint) (s .layout) lane → address ≡ roomAddress (room .bytes) (s .layout) lane → count ≡ bytesRead s address → b′ ≡ writtenAll (cond on (roomWrites room surfaces s at lane) []) b
+  unfolding roomWrites
+  lane-gathered address count doubtful b b′ made taken d a n = rw (taken, ← d, ← a, ← n) made
 
 module _ (p : Plan) (fit : gatherFits p ≡ true) where
-  fit-both : (elementsFit 4 (p .left) (execSize (p .control .exec)) ≡ true) × (elementsFit 4 (p .right) (execSize (p .control .exec)) ≡ true)
+  abbrev lanes : ℕ
+  lanes = execSize (p .control .exec)
+
+  parts : (elementsFit 4 (p .left) lanes ≡ true) × (elementsFit 4 (p .right) lanes ≡ true)
   unfolding gatherFits
-  fit-both = both _ _ fit
+  parts = both-parts _ _ fit
 
-  pub lane-fitting : (lane : ℕ) → lane < execSize (p .control .exec) → Fitting p lane
-  lane-fitting lane h =
-      record {
-        lane-small = omega (arith, fit-lanes 4 (p .left) _ (fit-both .0));
-        left-small = fit-size 4 (p .left) _ (fit-both .0);
-        right-small = fit-size 4 (p .right) _ (fit-both .1);
-      }
+  pub few-told : (s : Shape) → s ≡ shapeOf p → s .layout .lanes ≤ 32
+  few-told s told = rw told (fit-lanes 4 (p .left) lanes (parts .0))
 
-  module _ (registers : Buffer) (lane : ℕ) (h : lane < execSize (p .control .exec)) where
+  module _ (registers surfaces : Buffer) (bytes : Bytes (surfaces .bytes)) (lane : ℕ) (h : lane < lanes) where
     abbrev room : Buffer
-    room = bothStaged registers (p .left) (p .right) (execSize (p .control .exec))
+    room = bothStaged registers (p .left) (p .right) lanes
 
-    address-stands : roomAddress (room .bytes) p lane ≡ gatherAddress (elementValue (registers .bytes) (p .left) lane) (elementValue (registers .bytes) (p .right) lane)
+    address-stands : roomAddress (room .bytes) (layoutOf (p .left) (p .right) lanes) lane ≡ gatherAddress (elementValue (registers .bytes) (p .left) lane) (elementValue (registers .bytes) (p .right) lane)
     unfolding roomAddress
     address-stands =
-        let f = lane-fitting lane h in
-        ap₂ gatherAddress
-        (stands-element registers (p .left) 0 lane room (omega (arith, f .left-small)) (left-stands registers (p .left) (p .right) 4 _ (fit-both .0) (fit-both .1) lane h))
-        (stands-element registers (p .right) 128 lane room (omega (arith, f .right-small)) (right-stands registers (p .left) (p .right) 4 _ (fit-both .0) (fit-both .1) lane h))
+        rw (
+          both-first registers (p .left) (p .right) 4 lanes (omega arith) (parts .0) (parts .1) lane h,
+          both-second registers (p .left) (p .right) 4 lanes (omega arith) (parts .0) (parts .1) lane h,
+        )
 
-    doubt-stands : roomDoubtful (room .taint) p lane ≡ eitherTainted (registers .taint) (p .left) (p .right) lane
-    unfolding roomDoubtful
-    doubt-stands =
-        rw (either-is (registers .taint) (p .left) (p .right) lane)
-        (ap₂ _||_
-        (left-stands registers (p .left) (p .right) 4 _ (fit-both .0) (fit-both .1) lane h .taint)
-        (right-stands registers (p .left) (p .right) 4 _ (fit-both .0) (fit-both .1) lane h .taint))
+    doubt-stands : eitherStaged (room .taint) (layoutOf (p .left) (p .right) lanes) lane ≡ eitherTainted (registers .taint) (p .left) (p .right) lane
+    doubt-stands = both-either registers (p .left) (p .right) 4 lanes (omega arith) (parts .0) (parts .1) lane h
 
-    pub lane-stands : (surfaces : Buffer) → roomLane room surfaces p lane ≡ gatherLane registers surfaces p lane
-    unfolding roomLane gatherLane
-    lane-stands surfaces = rw (address-stands, doubt-stands)
+    pub room-lane-is : roomLane room surfaces (shapeOf p) (p .payload .at) lane ≡ gatherLane registers surfaces p lane
+    unfolding roomLane roomWrites gatherLane
+    room-lane-is =
+        let address = gatherAddress (elementValue (registers .bytes) (p .left) lane) (elementValue (registers .bytes) (p .right) lane) in
+        rw (address-stands, doubt-stands)
+        (dword-is surfaces p address (getD (p .payload .at) lane 0) (bytesRead (shapeOf p) address) (count-small (shapeOf p) address) (read-below p address) bytes (eitherTainted (registers .taint) (p .left) (p .right) lane))

@@ -10,7 +10,7 @@ use Rattle.plan.specs.declared.Plan.{Plan}
 use Rattle.plan.specs.declared.Operation.the-variants as operation
 use Rattle.plan.proofs.InstructionLaws.{Keeps}
 use Rattle.staging.proofs.FitLaws.{elements-fit}
-use Rattle.gather.specs.Guarded.{gatherFits}
+use Rattle.gather.specs.mirror.Guarded.{gatherFits}
 
 pub sound-fits : (p : Plan) (c : Control) → Keeps operation.Gather c rule.Offset rule.Dword p → gatherFits p ≡ true
 unfolding gatherFits
@@ -18,6 +18,6 @@ sound-fits p c k =
     let lanes = execSize (p .control .exec) in
     let few : lanes ≤ 32 = rw (k .control) (k .lanes) in
     rw (
-      elements-fit 4 (p .left) lanes few (omega (arith, k .left)) (omega arith),
-      elements-fit 4 (p .right) lanes few (omega (arith, k .right)) (omega arith),
+      elements-fit 4 (p .left) lanes few (omega (arith, k .left)),
+      elements-fit 4 (p .right) lanes few (omega (arith, k .right)),
     )

@@ -1,4 +1,3 @@
 pub mod Gather
-pub mod Guarded
-pub mod FromRoom
 pub mod Results
+pub mod mirror

@@ -5,20 +5,22 @@ use mathlib.Core.Bool.{Bool, true, false, not}
 use borrow.Author.Tests.{not-true, not-false}
 use Rattle.cells.specs.Buffer.{Buffer}
 use Rattle.cells.specs.Writes.{writtenAll}
-use Rattle.cells.specs.Over.{each}
-use Rattle.cells.specs.Effect.{refused}
+use Rattle.cells.specs.Over.{among, each}
+use Rattle.cells.specs.Effect.{refused, RegistersDone}
 use Rattle.cells.proofs.EffectLaws.{unless-refused, unless-passed, nothing-written}
 use Rattle.cells.proofs.LaneLaws.{lanes-alike}
-use Rattle.channels.specs.Exec.{execSize, execOf}
+use Rattle.channels.specs.Exec.{execSize}
 use Rattle.channels.specs.Lanes.{laneOn}
-use Rattle.channels.specs.declared.Exec.{Exec}
+use Rattle.channels.specs.declared.Lanes.{Lanes}
+use Rattle.channels.specs.mirror.Prepared.{lanesOf, isOn}
 use Rattle.plan.specs.declared.Plan.{Plan}
 use Rattle.staging.specs.Lanes.{lanesOn}
-use Rattle.staging.specs.Staged.{bothStaged}
-use Rattle.staging.proofs.LanesOnLaws.{lanes-on-are}
+use Rattle.staging.specs.mirror.Room.{bothStaged}
+use Rattle.staging.proofs.LanesOnLaws.{lanes-on-are, prepared-lanes-are}
+use Rattle.shl.specs.declared.Shape.{Shape}
 use Rattle.shl.specs.Shl.{shlLane, shlEffect}
-use Rattle.shl.specs.FromRoom.{roomLane}
-use Rattle.shl.specs.Guarded.{shlFits, shlGuarded}
+use Rattle.shl.specs.mirror.FromRoom.{shapeOf, roomLane}
+use Rattle.shl.specs.mirror.Guarded.{shlFits, shlGuarded}
 use Rattle.shl.proofs.RoomLaws.{room-lane-is}
 
 module _ (mask : ℕ) (p : Plan) (b : Buffer) where
@@ -31,7 +33,7 @@ module _ (mask : ℕ) (p : Plan) (b : Buffer) where
   unfolding shlGuarded
   guard-passes e = unless-passed _ 7 _ (ap not e)
 
-  pub shl-refused : (fit : Bool) → fit ≡ shlFits p → not fit ≡ true → (7 ≡ shlGuarded mask p b .number) × (b ≡ writtenAll (shlGuarded mask p b .registers) b)
+  pub shl-refused : (fit : Bool) → fit ≡ shlFits p → not fit ≡ true → RegistersDone (shlGuarded mask p b) 7 b b
   shl-refused fit f e =
       let g = guard-refuses (sym f ∙ not-true fit e) in
       (rw g, rw g (sym (nothing-written b)))
@@ -39,10 +41,10 @@ module _ (mask : ℕ) (p : Plan) (b : Buffer) where
   abbrev room : Buffer
   room = bothStaged b (p .left) (p .right) (execSize (p .control .exec))
 
-  same-writes : shlFits p ≡ true → each (roomLane room p) (lanesOn mask p) ≡ each (shlLane b p) (lanesOn mask p)
+  same-writes : shlFits p ≡ true → each (roomLane room (shapeOf p) (p .payload .at)) (lanesOn mask p) ≡ each (shlLane b p) (lanesOn mask p)
   same-writes fit =
       rw (lanes-on-are mask p)
-      (lanes-alike (roomLane room p) (shlLane b p) (laneOn (p .control .exec) (p .control .pred) mask (p .bits)) (execSize (p .control .exec)) (λ lane h on. room-lane-is p fit b lane h))
+      (lanes-alike (roomLane room (shapeOf p) (p .payload .at)) (shlLane b p) (laneOn (p .control .exec) (p .control .pred) mask (p .bits)) (execSize (p .control .exec)) (λ lane h on. room-lane-is p fit b lane h))
 
   effect-writes : shlEffect p (lanesOn mask p) b .registers ≡ each (shlLane b p) (lanesOn mask p)
   unfolding shlEffect
@@ -52,9 +54,9 @@ module _ (mask : ℕ) (p : Plan) (b : Buffer) where
   unfolding shlEffect
   effect-number = refl
 
-  pub shl-done : (fit : Bool) (exec : Exec) (staged b′ : Buffer) → fit ≡ shlFits p → not fit ≡ false → exec ≡ execOf (p .control .exec) → staged ≡ bothStaged b (p .left) (p .right) (exec .size) → b′ ≡ writtenAll (each (roomLane staged p) (lanesOn mask p)) b → (0 ≡ shlGuarded mask p b .number) × (b′ ≡ writtenAll (shlGuarded mask p b .registers) b)
-  shl-done fit exec staged b′ f e x s made =
+  -- all lanes, as the code worked them out: with the plan's shape and lanes, from the room
+  pub shl-done : (fit : Bool) (s : Shape) (lanes : Lanes) (staged b′ : Buffer) → fit ≡ shlFits p → not fit ≡ false → s ≡ shapeOf p → lanes ≡ lanesOf (p .control .exec) (p .control .pred) mask (p .bits) → staged ≡ bothStaged b (p .left) (p .right) (s .layout .lanes) → b′ ≡ writtenAll (each (roomLane staged s (p .payload .at)) (among (isOn lanes) (s .layout .lanes))) b → RegistersDone (shlGuarded mask p b) 0 b b′
+  shl-done fit s lanes staged b′ f e shaped prepared there made =
       let fits = sym f ∙ not-false fit e in
       let g = guard-passes fits in
-      let here : staged ≡ room = s ∙ ap (λ (y : Exec). bothStaged b (p .left) (p .right) (y .size)) x in
-      (rw (g, effect-number), rw (g, effect-writes, ← same-writes fits, ← here) made)
+      (rw (g, effect-number), rw (g, effect-writes, ← same-writes fits, ← prepared-lanes-are mask p) (rw (there, shaped, prepared) at made))

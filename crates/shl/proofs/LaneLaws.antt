@@ -1,15 +1,23 @@
--- What a lane that is on writes.
+-- What a lane that is on writes, and the shape that the code makes of a plan.
 use Prim.Native.Nat.{ℕ}
 use mathlib.Core.Path.{_≡_}
 use mathlib.Core.Bool.{Bool, true, cond}
 use mathlib.Core.List.{[]}
-use lib.ListN.{getD}
 use Rattle.cells.specs.Buffer.{Buffer, markOf}
 use Rattle.cells.specs.Writes.{writtenAll, numberWrites}
+use Rattle.channels.specs.Exec.{execOf}
+use Rattle.channels.specs.declared.Exec.{Exec}
 use Rattle.plan.specs.declared.Plan.{Plan}
-use Rattle.shl.specs.FromRoom.{roomValue, roomTainted, roomLane}
+use Rattle.staging.specs.declared.Layout.{Layout}
+use Rattle.staging.specs.mirror.Room.{layoutOf, eitherStaged}
+use Rattle.shl.specs.declared.Shape.{Shape}
+use Rattle.shl.specs.mirror.FromRoom.{shapeOf, roomValue, roomWrites}
 
-module _ (room : Buffer) (p : Plan) (lane : ℕ) (on : Bool) where
-  pub lane-written : (at value : ℕ) (tainted : Bool) (b b′ : Buffer) → on ≡ true → at ≡ getD (p .payload .at) lane 0 → value ≡ roomValue (room .bytes) p lane → tainted ≡ roomTainted (room .taint) p lane → b′ ≡ writtenAll (numberWrites at (p .payload .size) (markOf tainted) value) b → b′ ≡ writtenAll (cond on (roomLane room p lane) []) b
-  unfolding roomLane
-  lane-written at value tainted b b′ taken a v t made = rw (taken, ← a, ← v, ← t) made
+module _ (room : Buffer) (s : Shape) (at lane : ℕ) (on : Bool) where
+  pub lane-written : (value : ℕ) (tainted : Bool) (b b′ : Buffer) → b′ ≡ writtenAll (numberWrites at (s .size) (markOf tainted) value) b → on ≡ true → value ≡ roomValue (room .bytes) s lane → tainted ≡ eitherStaged (room .taint) (s .layout) lane → b′ ≡ writtenAll (cond on (roomWrites room s at lane) []) b
+  unfolding roomWrites
+  lane-written value tainted b b′ made taken v t = rw (taken, ← v, ← t) made
+
+-- the shape, as code makes it
+pub shape-told : (p : Plan) (exec : Exec) (layout : Layout) → exec ≡ execOf (p .control .exec) → layout ≡ layoutOf (p .left) (p .right) (exec .size) → record { layout = layout; signed = p .left .signed; size = p .payload .size } ≡ shapeOf p
+shape-told p exec layout e l = rw (l, e)

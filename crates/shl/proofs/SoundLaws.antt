@@ -2,7 +2,6 @@
 use Prim.Native.Nat.{_≤_}
 use mathlib.Core.Path.{_≡_}
 use mathlib.Core.Bool.{true}
-use native.Mathlib.Omega.{arith}
 use borrow.Author.Tests.{le-leb}
 use Rattle.channels.specs.Exec.{execSize}
 use Rattle.field_groups.specs.declared.Control.{Control}
@@ -11,7 +10,7 @@ use Rattle.plan.specs.declared.Plan.{Plan}
 use Rattle.plan.specs.declared.Operation.the-variants as operation
 use Rattle.plan.proofs.InstructionLaws.{Keeps}
 use Rattle.staging.proofs.FitLaws.{elements-fit}
-use Rattle.shl.specs.Guarded.{shlFits}
+use Rattle.shl.specs.mirror.Guarded.{shlFits}
 
 pub sound-fits : (p : Plan) (c : Control) → Keeps operation.Shl c rule.Shift rule.Shift p → shlFits p ≡ true
 unfolding shlFits
@@ -19,7 +18,7 @@ sound-fits p c k =
     let lanes = execSize (p .control .exec) in
     let few : lanes ≤ 32 = rw (k .control) (k .lanes) in
     rw (
-      elements-fit 4 (p .left) lanes few (k .left .1) (omega arith),
-      elements-fit 4 (p .right) lanes few (k .right .1) (omega arith),
+      elements-fit 4 (p .left) lanes few (k .left .1),
+      elements-fit 4 (p .right) lanes few (k .right .1),
       le-leb (p .payload .size) 4 (k .payload .1),
     )

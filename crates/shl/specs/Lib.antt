@@ -1,4 +1,3 @@
 pub mod Shl
-pub mod FromRoom
-pub mod Guarded
 pub mod Results
+pub mod mirror

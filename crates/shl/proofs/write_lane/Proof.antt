@@ -9,12 +9,11 @@ returns : tie.Need-returns
 returns c =
     let s = c .before .before .before .before in
     let t = s .before .before .before in
-    let v = t .before in
-    let p = v .before in
-    lane-written _ _ _ _ _ _ _ _ _ (p .before .before .if1 .taken) (p .position-of .ensures) (v .lane-value .ensures) (t .lane-taint .ensures) (s .set-number .ensures)
+    let v = t .before .before in
+    lane-written _ _ _ _ _ _ _ _ _ (s .set-number .ensures) (v .before .if1 .taken) (v .lane-value .ensures) (t .either-taint .ensures)
 
 returns-2 : tie.Need-returns-2
 returns-2 c = lane-skipped _ _ _ (c .if1 .left)
 
 pub write-lane-spec : {M : Type 1} → statement M
-write-lane-spec = tie.close (tie.spec (λ c κs. search needs) (λ c κs. search needs) (λ c κs. search needs) (λ c κs. search needs) (λ c. search needs) (λ c. search needs) returns returns-2)
+write-lane-spec = tie.close (tie.spec (λ c κs. search needs) (λ c κs. search needs) (λ c κs. search needs) (λ c. search needs) (λ c. search needs) returns returns-2)

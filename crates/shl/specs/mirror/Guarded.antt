@@ -8,7 +8,7 @@ use Rattle.cells.specs.Effect.{Effect, unless}
 use Rattle.channels.specs.Exec.{execSize}
 use Rattle.plan.specs.declared.Plan.{Plan}
 use Rattle.staging.specs.Lanes.{lanesOn}
-use Rattle.staging.specs.Staged.{elementsFit}
+use Rattle.staging.specs.mirror.Room.{elementsFit}
 use Rattle.shl.specs.Shl.{shlEffect}
 
 unfoldable pub shlFits : Plan → Bool

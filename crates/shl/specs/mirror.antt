@@ -1,0 +1,2 @@
+pub mod FromRoom
+pub mod Guarded
