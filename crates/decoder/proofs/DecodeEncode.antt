@@ -8,7 +8,7 @@ use native.Mathlib.Omega.{arith}
 use lib.Dec.{eqb}
 use borrow.Author.Tests.{eqb-true}
 use Rattle.little_endian.specs.LittleEndian.{Bytes}
-use Rattle.reader.specs.Answer.{Answer, refused, Read, got}
+use Rattle.reader.specs.Reply.{Reply, refused, Read, got}
 use Rattle.reader.proofs.Laws.{cond-then}
 use Rattle.fields.specs.declared.TagRule.the-variants as tag
 use Rattle.fields.specs.declared.ByteRule.the-variants as byte
@@ -84,7 +84,7 @@ module _ (s : List ℕ) (b : Bytes s) where
 
 -- from the start to the end stand exactly the instruction's bytes, and none of its fields is refused
 pub decode-encode : (s : List ℕ) (at : ℕ) (i : Instruction) (next : ℕ) → Bytes s → instructionAt s at ≡ got i next → Parsed s at next (instructionFields i)
-decode-encode s at i next b e = subst (λ (a : Answer (Read Instruction)). ParsedAs instructionFields s at a) e (instruction-given s b at .is)
+decode-encode s at i next b e = subst (λ (a : Reply (Read Instruction)). ParsedAs instructionFields s at a) e (instruction-given s b at .is)
 
 pub refusal-not-zero : (s : List ℕ) (at n : ℕ) → Bytes s → instructionAt s at ≡ refused n → n ≢ 0
-refusal-not-zero s at n b e = subst (λ (a : Answer (Read Instruction)). ParsedAs instructionFields s at a) e (instruction-given s b at .is)
+refusal-not-zero s at n b e = subst (λ (a : Reply (Read Instruction)). ParsedAs instructionFields s at a) e (instruction-given s b at .is)

@@ -7,7 +7,7 @@ use native.Mathlib.Omega.{arith}
 use lib.ListN.{length, take, drop, take-append-drop, length-drop}
 use lib.Seq.{drop-append-le, length-take-le, take-at}
 use Rattle.little_endian.specs.LittleEndian.{Bytes}
-use Rattle.reader.specs.Answer.{got}
+use Rattle.reader.specs.Reply.{got}
 use Rattle.fields.specs.declared.ByteRule.the-variants as byte
 use Rattle.fields.specs.Layout.{layoutBytes}
 use Rattle.fields.proofs.Laws.{byte-some}

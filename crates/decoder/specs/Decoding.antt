@@ -5,7 +5,7 @@ use mathlib.Core.List.{List, []}
 use mathlib.Core.Bool.{cond}
 use lib.ListN.{take, drop}
 use lib.Dec.{eqb}
-use Rattle.reader.specs.Answer.{Answer, refused, Read, got, onAnswer, andThen}
+use Rattle.reader.specs.Reply.{Reply, refused, Read, got, onReply, andThen}
 use Rattle.fields.specs.declared.TagRule.the-variants as tag
 use Rattle.fields.specs.declared.ByteRule.the-variants as byte
 use Rattle.fields.specs.declared.WordRule.the-variants as word
@@ -17,7 +17,7 @@ use Rattle.decoder.specs.declared.Decoded.{Decoded}
 use Rattle.decoder.specs.declared.Decoded.the-variants as decoded
 
 -- page 004: Exec_size, Pred, Dst, Src0, Src1
-unfoldable pub shlAt : List ℕ → ℕ → Answer (Read Instruction)
+unfoldable pub shlAt : List ℕ → ℕ → Reply (Read Instruction)
 shlAt s at =
     andThen (controlAt byte.Exec s at) (λ control.
     andThen (operandAt tag.Destination s (control .next)) (λ destination.
@@ -26,7 +26,7 @@ shlAt s at =
     got (Shl (record { control = control .value; destination = destination .value; source = source .value; count = count .value })) (count .next)))))
 
 -- page 001: Exec_size, Pred, Block_size, Num_blocks, Scale, Surface, Offset, Element_offset, Dst
-unfoldable pub gatherAt : List ℕ → ℕ → Answer (Read Instruction)
+unfoldable pub gatherAt : List ℕ → ℕ → Reply (Read Instruction)
 gatherAt s at =
     andThen (controlAt byte.Exec s at) (λ control.
     andThen (accessAt s (control .next)) (λ access.
@@ -40,7 +40,7 @@ gatherAt s at =
     })) (last .next))))
 
 -- page 000: Exec_size, Pred, Channels, Scale, Address, Element_offset, Src
-unfoldable pub scatterAt : List ℕ → ℕ → Answer (Read Instruction)
+unfoldable pub scatterAt : List ℕ → ℕ → Reply (Read Instruction)
 scatterAt s at =
     andThen (controlAt byte.ScatterExec s at) (λ control.
     andThen (byteFieldAt byte.Channels s (control .next)) (λ channels.
@@ -56,13 +56,13 @@ scatterAt s at =
     })) (last .next)))))
 
 -- "2: opcode, or SVM sub-opcode, not above"
-unfoldable pub svmAt : List ℕ → ℕ → Answer (Read Instruction)
+unfoldable pub svmAt : List ℕ → ℕ → Reply (Read Instruction)
 svmAt s at =
     andThen (byteFieldAt byte.Free s at) (λ opcode.
     cond (eqb (opcode .value) 0x07) (scatterAt s (opcode .next)) (refused 2))
 
 -- page 002: Modifiers, Exec_size, Pred, ExMsgDesc, NumSrc, NumDst, Desc, Src, Dst
-unfoldable pub rawSendAt : List ℕ → ℕ → Answer (Read Instruction)
+unfoldable pub rawSendAt : List ℕ → ℕ → Reply (Read Instruction)
 rawSendAt s at =
     andThen (byteFieldAt byte.Modifiers s at) (λ modifiers.
     andThen (controlAt byte.Exec s (modifiers .next)) (λ control.
@@ -78,7 +78,7 @@ rawSendAt s at =
     })) (last .next)))))
 
 -- "SHL (0x24 ..), GATHER_SCALED (0x78 ..), SVM SCATTER4_SCALED (0x4e 0x07 ..), RAW_SEND (0x5d ..)"
-unfoldable pub instructionAt : List ℕ → ℕ → Answer (Read Instruction)
+unfoldable pub instructionAt : List ℕ → ℕ → Reply (Read Instruction)
 instructionAt s at =
     andThen (byteFieldAt byte.Free s at) (λ opcode.
     cond (eqb (opcode .value) 0x24) (shlAt s (opcode .next))
@@ -88,10 +88,10 @@ instructionAt s at =
     (refused 2)))))
 
 -- number and values of each case
-abbrev pub decodedAnswer : Decoded → Answer (Read Instruction)
-decodedAnswer (decoded.Refused n) = refused n
-decodedAnswer (decoded.Accepted i c) = got i (c .at)
+abbrev pub decodedReply : Decoded → Reply (Read Instruction)
+decodedReply (decoded.Refused n) = refused n
+decodedReply (decoded.Accepted i c) = got i (c .at)
 
 -- "the decoder hands back the instruction's own bytes as a part of the kernel, an empty part on a refusal"
 unfoldable pub ownBytes : List ℕ → ℕ → List ℕ
-ownBytes s at = onAnswer (instructionAt s at) (λ n. []) (λ i. take (i .next - at) (drop at s))
+ownBytes s at = onReply (instructionAt s at) (λ n. []) (λ i. take (i .next - at) (drop at s))

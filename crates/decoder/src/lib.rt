@@ -16,8 +16,8 @@ use fields::WordField;
 use fields::WordRule;
 use reader::Cursor;
 ghost use mathlib.Core.Path.{_≡_};
-ghost use Rattle.reader.specs.Answer.{numberOf};
-ghost use Rattle.decoder.specs.Decoding.{shlAt, gatherAt, scatterAt, svmAt, rawSendAt, instructionAt, decodedAnswer, ownBytes};
+ghost use Rattle.reader.specs.Reply.{numberOf};
+ghost use Rattle.decoder.specs.Decoding.{shlAt, gatherAt, scatterAt, svmAt, rawSendAt, instructionAt, decodedReply, ownBytes};
 
 pub struct Shl {
     pub control: Control,
@@ -69,7 +69,7 @@ pub enum Decoded {
 
 // SHL after its opcode.
 fn shl_fields(kernel: &[u8], cursor: Cursor) -> Decoded
-    ensures { λ r. ⌜ decodedAnswer r ≡ shlAt (now (kernel .entry)) (cursor .at) ⌝ }
+    ensures { λ r. ⌜ decodedReply r ≡ shlAt (now (kernel .entry)) (cursor .at) ⌝ }
 {
     match field_groups::control_field(kernel, cursor, ByteRule::Exec) {
         ControlField::Got(control, c1) => {
@@ -102,7 +102,7 @@ fn shl_fields(kernel: &[u8], cursor: Cursor) -> Decoded
 
 // GATHER_SCALED after its opcode.
 fn gather_fields(kernel: &[u8], cursor: Cursor) -> Decoded
-    ensures { λ r. ⌜ decodedAnswer r ≡ gatherAt (now (kernel .entry)) (cursor .at) ⌝ }
+    ensures { λ r. ⌜ decodedReply r ≡ gatherAt (now (kernel .entry)) (cursor .at) ⌝ }
 {
     match field_groups::control_field(kernel, cursor, ByteRule::Exec) {
         ControlField::Got(control, c1) => {
@@ -132,7 +132,7 @@ fn gather_fields(kernel: &[u8], cursor: Cursor) -> Decoded
 
 // SVM SCATTER4_SCALED after its sub-opcode.
 fn scatter_fields(kernel: &[u8], cursor: Cursor) -> Decoded
-    ensures { λ r. ⌜ decodedAnswer r ≡ scatterAt (now (kernel .entry)) (cursor .at) ⌝ }
+    ensures { λ r. ⌜ decodedReply r ≡ scatterAt (now (kernel .entry)) (cursor .at) ⌝ }
 {
     match field_groups::control_field(kernel, cursor, ByteRule::ScatterExec) {
         ControlField::Got(control, c1) => {
@@ -168,7 +168,7 @@ fn scatter_fields(kernel: &[u8], cursor: Cursor) -> Decoded
 
 // SVM after its opcode.
 fn svm_fields(kernel: &[u8], cursor: Cursor) -> Decoded
-    ensures { λ r. ⌜ decodedAnswer r ≡ svmAt (now (kernel .entry)) (cursor .at) ⌝ }
+    ensures { λ r. ⌜ decodedReply r ≡ svmAt (now (kernel .entry)) (cursor .at) ⌝ }
 {
     match fields::byte_field(kernel, cursor, ByteRule::Free) {
         ByteField::Got(sub_opcode, c1) => {
@@ -184,7 +184,7 @@ fn svm_fields(kernel: &[u8], cursor: Cursor) -> Decoded
 
 // RAW_SEND after its opcode.
 fn raw_send_fields(kernel: &[u8], cursor: Cursor) -> Decoded
-    ensures { λ r. ⌜ decodedAnswer r ≡ rawSendAt (now (kernel .entry)) (cursor .at) ⌝ }
+    ensures { λ r. ⌜ decodedReply r ≡ rawSendAt (now (kernel .entry)) (cursor .at) ⌝ }
 {
     match fields::byte_field(kernel, cursor, ByteRule::Modifiers) {
         ByteField::Got(modifiers, c1) => {
@@ -220,7 +220,7 @@ fn raw_send_fields(kernel: &[u8], cursor: Cursor) -> Decoded
 
 // The instruction at a position, which may lie past the end.
 pub fn decode(kernel: &[u8], at: usize) -> Decoded
-    ensures { λ r. ⌜ decodedAnswer r ≡ instructionAt (now (kernel .entry)) at ⌝ }
+    ensures { λ r. ⌜ decodedReply r ≡ instructionAt (now (kernel .entry)) at ⌝ }
 {
     match fields::byte_field(kernel, Cursor { at }, ByteRule::Free) {
         ByteField::Got(opcode, c1) => {

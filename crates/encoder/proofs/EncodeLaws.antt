@@ -14,12 +14,12 @@ use Rattle.encoder.specs.declared.Draft.{Draft}
 use Rattle.encoder.specs.declared.Encoded.{Encoded}
 use Rattle.encoder.specs.declared.Encoded.the-variants as encoded
 use Rattle.encoder.specs.mirror.Draft.{emptyDraft, withFields}
-use Rattle.encoder.specs.Encoding.{encodedIn, encodedInto, encodedAnswer}
+use Rattle.encoder.specs.Encoding.{encodedIn, encodedInto, encodedReply}
 use Rattle.encoder.proofs.DraftLaws.{Holds, drafted-holds}
 
 -- the answer `r` and the buffer `m` that a call leaves of the buffer `l`
 abbrev pub Meets : Instruction → List ℕ → Encoded → List ℕ → Type 0
-Meets i l r m = (encodedAnswer r ≡ encodedIn (length l) i) × (m ≡ encodedInto l i)
+Meets i l r m = (encodedReply r ≡ encodedIn (length l) i) × (m ≡ encodedInto l i)
 
 module _ (i : Instruction) (d : Draft) (e : d ≡ withFields (instructionFields i) emptyDraft) where
   whole : Holds d (instructionRefusal i) (instructionBytes i)

@@ -11,7 +11,7 @@ use lib.Dec.{ltb, eqb}
 use borrow.Author.Tests.{le-ltb, ltb-false, eqb-true, eq-eqb}
 use Rattle.little_endian.specs.LittleEndian.{Bytes}
 use Rattle.little_endian.proofs.Parts.{bytes-before, bytes-drop}
-use Rattle.reader.specs.Answer.{refused, done, got}
+use Rattle.reader.specs.Reply.{refused, done, got}
 use Rattle.fields.specs.Layout.{layoutBytes}
 use Rattle.fields.proofs.FieldLaws.{LayoutFits, layout-fits, fits-layout}
 use Rattle.decoder.specs.declared.Instruction.{Instruction}

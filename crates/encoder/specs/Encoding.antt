@@ -6,14 +6,14 @@ use mathlib.Core.List.{List, _++_}
 use mathlib.Core.Bool.{cond}
 use lib.ListN.{length, drop}
 use lib.Dec.{ltb, eqb}
-use Rattle.reader.specs.Answer.{Answer, refused, done, onAnswer}
+use Rattle.reader.specs.Reply.{Reply, refused, done, onReply}
 use Rattle.decoder.specs.declared.Instruction.{Instruction}
 use Rattle.decoder.specs.Format.{instructionBytes, instructionRefusal}
 use Rattle.encoder.specs.declared.Encoded.{Encoded}
 use Rattle.encoder.specs.declared.Encoded.the-variants as encoded
 
 -- the first field that is refused decides; then "15: encoder's buffer shorter than the encoding"; else the number of bytes
-unfoldable pub encodedIn : ℕ → Instruction → Answer ℕ
+unfoldable pub encodedIn : ℕ → Instruction → Reply ℕ
 encodedIn room i =
     cond (eqb (instructionRefusal i) 0)
     (cond (ltb room (length (instructionBytes i))) (refused 15) (done (length (instructionBytes i))))
@@ -21,9 +21,9 @@ encodedIn room i =
 
 -- the buffer after it: untouched on a refusal, else the encoding and the bytes past it
 unfoldable pub encodedInto : List ℕ → Instruction → List ℕ
-encodedInto l i = onAnswer (encodedIn (length l) i) (λ n. l) (λ n. instructionBytes i ++ drop n l)
+encodedInto l i = onReply (encodedIn (length l) i) (λ n. l) (λ n. instructionBytes i ++ drop n l)
 
 -- number and values of each case
-abbrev pub encodedAnswer : Encoded → Answer ℕ
-encodedAnswer (encoded.Refused n) = refused n
-encodedAnswer (encoded.Wrote n) = done n
+abbrev pub encodedReply : Encoded → Reply ℕ
+encodedReply (encoded.Refused n) = refused n
+encodedReply (encoded.Wrote n) = done n

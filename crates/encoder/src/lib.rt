@@ -24,8 +24,8 @@ ghost use Rattle.field_groups.specs.declared.Operand.the-variants as operand;
 ghost use Rattle.field_groups.specs.Layout.{controlFields, highField, operandFields, rawFields, accessFields, messageFields};
 ghost use Rattle.decoder.specs.Format.{shlFields, gatherFields, scatterFields, rawSendFields, instructionFields};
 ghost use Rattle.encoder.specs.mirror.Draft.{emptyDraft, withByte, withBytes, withRefusal, withField, withFields};
-ghost use Rattle.reader.specs.Answer.{numberOf};
-ghost use Rattle.encoder.specs.Encoding.{encodedIn, encodedInto, encodedAnswer};
+ghost use Rattle.reader.specs.Reply.{numberOf};
+ghost use Rattle.encoder.specs.Encoding.{encodedIn, encodedInto, encodedReply};
 
 // How many bytes were written, or the number of the refusal.
 pub enum Encoded {
@@ -36,7 +36,7 @@ pub enum Encoded {
 impl Encoded {
     // The number given back: 0, or the refusal's.
     pub fn number(self) -> u8
-        ensures { λ r. ⌜ r ≡ numberOf (encodedAnswer self) ⌝ }
+        ensures { λ r. ⌜ r ≡ numberOf (encodedReply self) ⌝ }
     {
         match self {
             Encoded::Wrote(_) => 0,
@@ -275,7 +275,7 @@ fn copy(bytes: [u8; 64], count: usize, buffer: &mut [u8])
 
 // Encodes at the buffer's start. On a refusal the buffer is untouched; bytes past an encoding stay.
 pub fn encode(instruction: Instruction, buffer: &mut [u8]) -> Encoded
-    ensures { λ r. ⌜ (encodedAnswer r ≡ encodedIn (length (now (buffer .entry))) instruction) × (now (buffer .exit) ≡ encodedInto (now (buffer .entry)) instruction) ⌝ }
+    ensures { λ r. ⌜ (encodedReply r ≡ encodedIn (length (now (buffer .entry))) instruction) × (now (buffer .exit) ≡ encodedInto (now (buffer .entry)) instruction) ⌝ }
 {
     let draft = drafted(instruction);
     let number = draft.number;

@@ -5,7 +5,7 @@ use mathlib.Core.List.{List}
 use mathlib.Core.Bool.{Bool, cond}
 use lib.Dec.{eqb}
 use Rattle.element_types.specs.Types.{hasHighWord}
-use Rattle.reader.specs.Answer.{Answer, refused, Read, got, andThen}
+use Rattle.reader.specs.Reply.{Reply, refused, Read, got, andThen}
 use Rattle.fields.specs.declared.TagRule.{TagRule}
 use Rattle.fields.specs.declared.TagRule.the-variants as tag
 use Rattle.fields.specs.declared.ByteRule.{ByteRule}
@@ -33,14 +33,14 @@ use Rattle.field_groups.specs.declared.MessageField.{MessageField}
 use Rattle.field_groups.specs.declared.MessageField.the-variants as message
 
 -- Exec_size and Pred
-unfoldable pub controlAt : ByteRule → List ℕ → ℕ → Answer (Read Control)
+unfoldable pub controlAt : ByteRule → List ℕ → ℕ → Reply (Read Control)
 controlAt rule s at =
     andThen (byteFieldAt rule s at) (λ exec.
     andThen (wordFieldAt word.Predicate s (exec .next)) (λ pred.
     got (record { exec = exec .value; pred = pred .value }) (pred .next)))
 
 -- "General, class 0: index uw, row ub, column ub, region uw"
-unfoldable pub generalAt : List ℕ → ℕ → Answer (Read Operand)
+unfoldable pub generalAt : List ℕ → ℕ → Reply (Read Operand)
 generalAt s at =
     andThen (wordFieldAt word.Free s at) (λ index.
     andThen (byteFieldAt byte.Free s (index .next)) (λ row.
@@ -49,11 +49,11 @@ generalAt s at =
     got (General (record { index = index .value; row = row .value; column = column .value; region = region .value })) (region .next)))))
 
 -- the high word of an immediate: "high ud for UQ only", 0 where the type has none
-unfoldable pub highWordAt : Bool → List ℕ → ℕ → Answer (Read ℕ)
+unfoldable pub highWordAt : Bool → List ℕ → ℕ → Reply (Read ℕ)
 highWordAt wide s at = cond wide (dwordFieldAt s at) (got 0 at)
 
 -- "Immediate, class 5: type ub, low ud, and high ud for UQ only"
-unfoldable pub immediateAt : List ℕ → ℕ → Answer (Read Operand)
+unfoldable pub immediateAt : List ℕ → ℕ → Reply (Read Operand)
 immediateAt s at =
     andThen (byteFieldAt byte.ImmediateType s at) (λ code.
     andThen (dwordFieldAt s (code .next)) (λ low.
@@ -61,7 +61,7 @@ immediateAt s at =
     got (Immediate (record { code = code .value; low = low .value; high = high .value })) (high .next))))
 
 -- "Vector operand: tag (bits 0-2 class, 3-5 modifier)"; the rule of a tag leaves no class but these two
-unfoldable pub operandAt : TagRule → List ℕ → ℕ → Answer (Read Operand)
+unfoldable pub operandAt : TagRule → List ℕ → ℕ → Reply (Read Operand)
 operandAt rule s at =
     andThen (byteFieldAt (byte.Tag rule) s at) (λ tag.
     cond (eqb (tagOf (tag .value) .class) GENERAL) (generalAt s (tag .next))
@@ -69,7 +69,7 @@ operandAt rule s at =
     (refused 4)))
 
 -- "Raw: index uw, byte offset uw"
-unfoldable pub rawAt : List ℕ → ℕ → Answer (Read Raw)
+unfoldable pub rawAt : List ℕ → ℕ → Reply (Read Raw)
 rawAt s at =
     andThen (wordFieldAt word.Free s at) (λ index.
     andThen (wordFieldAt word.Free s (index .next)) (λ offset.
@@ -82,7 +82,7 @@ pub record ScalarAndRaws : Type 0 where
   pub second : Raw
 
 -- the last three operands of pages 000 (Address, Element_offset, Src), 001 (Offset, Element_offset, Dst) and 002 (Desc, Src, Dst)
-unfoldable pub scalarAndRawsAt : List ℕ → ℕ → Answer (Read ScalarAndRaws)
+unfoldable pub scalarAndRawsAt : List ℕ → ℕ → Reply (Read ScalarAndRaws)
 scalarAndRawsAt s at =
     andThen (operandAt tag.Scalar s at) (λ scalar.
     andThen (rawAt s (scalar .next)) (λ first.
@@ -90,7 +90,7 @@ scalarAndRawsAt s at =
     got (record { scalar = scalar .value; first = first .value; second = second .value }) (second .next))))
 
 -- page 001: Block_size, Num_blocks, Scale, Surface
-unfoldable pub accessAt : List ℕ → ℕ → Answer (Read Access)
+unfoldable pub accessAt : List ℕ → ℕ → Reply (Read Access)
 accessAt s at =
     andThen (byteFieldAt byte.Free s at) (λ size.
     andThen (byteFieldAt byte.NumBlocks s (size .next)) (λ blocks.
@@ -99,7 +99,7 @@ accessAt s at =
     got (record { «block_size» = size .value; «num_blocks» = blocks .value; scale = scale .value; surface = surface .value }) (surface .next)))))
 
 -- page 002: ExMsgDesc, NumSrc, NumDst
-unfoldable pub messageAt : List ℕ → ℕ → Answer (Read Message)
+unfoldable pub messageAt : List ℕ → ℕ → Reply (Read Message)
 messageAt s at =
     andThen (dwordFieldAt s at) (λ extended.
     andThen (byteFieldAt byte.NumSrc s (extended .next)) (λ sources.
@@ -107,26 +107,26 @@ messageAt s at =
     got (record { extended = extended .value; «num_src» = sources .value; «num_dst» = destinations .value }) (destinations .next))))
 
 -- number and values of each case
-abbrev pub controlFieldAnswer : ControlField → Answer (Read Control)
-controlFieldAnswer (control.Refused n) = refused n
-controlFieldAnswer (control.Got v c) = got v (c .at)
+abbrev pub controlFieldReply : ControlField → Reply (Read Control)
+controlFieldReply (control.Refused n) = refused n
+controlFieldReply (control.Got v c) = got v (c .at)
 
-abbrev pub operandFieldAnswer : OperandField → Answer (Read Operand)
-operandFieldAnswer (operand.Refused n) = refused n
-operandFieldAnswer (operand.Got v c) = got v (c .at)
+abbrev pub operandFieldReply : OperandField → Reply (Read Operand)
+operandFieldReply (operand.Refused n) = refused n
+operandFieldReply (operand.Got v c) = got v (c .at)
 
-abbrev pub rawFieldAnswer : RawField → Answer (Read Raw)
-rawFieldAnswer (raw.Refused n) = refused n
-rawFieldAnswer (raw.Got v c) = got v (c .at)
+abbrev pub rawFieldReply : RawField → Reply (Read Raw)
+rawFieldReply (raw.Refused n) = refused n
+rawFieldReply (raw.Got v c) = got v (c .at)
 
-abbrev pub scalarAndRawsFieldAnswer : ScalarAndRawsField → Answer (Read ScalarAndRaws)
-scalarAndRawsFieldAnswer (scalar-and-raws.Refused n) = refused n
-scalarAndRawsFieldAnswer (scalar-and-raws.Got v first second c) = got (record { scalar = v; first = first; second = second }) (c .at)
+abbrev pub scalarAndRawsFieldReply : ScalarAndRawsField → Reply (Read ScalarAndRaws)
+scalarAndRawsFieldReply (scalar-and-raws.Refused n) = refused n
+scalarAndRawsFieldReply (scalar-and-raws.Got v first second c) = got (record { scalar = v; first = first; second = second }) (c .at)
 
-abbrev pub accessFieldAnswer : AccessField → Answer (Read Access)
-accessFieldAnswer (access.Refused n) = refused n
-accessFieldAnswer (access.Got v c) = got v (c .at)
+abbrev pub accessFieldReply : AccessField → Reply (Read Access)
+accessFieldReply (access.Refused n) = refused n
+accessFieldReply (access.Got v c) = got v (c .at)
 
-abbrev pub messageFieldAnswer : MessageField → Answer (Read Message)
-messageFieldAnswer (message.Refused n) = refused n
-messageFieldAnswer (message.Got v c) = got v (c .at)
+abbrev pub messageFieldReply : MessageField → Reply (Read Message)
+messageFieldReply (message.Refused n) = refused n
+messageFieldReply (message.Got v c) = got v (c .at)

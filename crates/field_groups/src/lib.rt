@@ -8,8 +8,8 @@ use fields::WordRule;
 use reader::Cursor;
 ghost use mathlib.Core.Path.{_≡_};
 ghost use Rattle.element_types.specs.Types.{hasHighWord};
-ghost use Rattle.fields.specs.Reading.{dwordFieldAnswer};
-ghost use Rattle.field_groups.specs.Reading.{controlAt, generalAt, highWordAt, immediateAt, operandAt, rawAt, scalarAndRawsAt, accessAt, messageAt, controlFieldAnswer, operandFieldAnswer, rawFieldAnswer, scalarAndRawsFieldAnswer, accessFieldAnswer, messageFieldAnswer};
+ghost use Rattle.fields.specs.Reading.{dwordFieldReply};
+ghost use Rattle.field_groups.specs.Reading.{controlAt, generalAt, highWordAt, immediateAt, operandAt, rawAt, scalarAndRawsAt, accessAt, messageAt, controlFieldReply, operandFieldReply, rawFieldReply, scalarAndRawsFieldReply, accessFieldReply, messageFieldReply};
 
 // Exec_size and Pred, which every instruction has.
 pub struct Control {
@@ -90,7 +90,7 @@ pub enum MessageField {
 }
 
 pub fn control_field(kernel: &[u8], cursor: Cursor, rule: ByteRule) -> ControlField
-    ensures { λ r. ⌜ controlFieldAnswer r ≡ controlAt rule (now (kernel .entry)) (cursor .at) ⌝ }
+    ensures { λ r. ⌜ controlFieldReply r ≡ controlAt rule (now (kernel .entry)) (cursor .at) ⌝ }
 {
     match fields::byte_field(kernel, cursor, rule) {
         ByteField::Got(exec, c1) => match fields::word_field(kernel, c1, WordRule::Predicate) {
@@ -103,7 +103,7 @@ pub fn control_field(kernel: &[u8], cursor: Cursor, rule: ByteRule) -> ControlFi
 
 // A General operand after its tag.
 fn general_field(kernel: &[u8], cursor: Cursor) -> OperandField
-    ensures { λ r. ⌜ operandFieldAnswer r ≡ generalAt (now (kernel .entry)) (cursor .at) ⌝ }
+    ensures { λ r. ⌜ operandFieldReply r ≡ generalAt (now (kernel .entry)) (cursor .at) ⌝ }
 {
     match fields::word_field(kernel, cursor, WordRule::Free) {
         WordField::Got(index, c1) => match fields::byte_field(kernel, c1, ByteRule::Free) {
@@ -132,7 +132,7 @@ fn general_field(kernel: &[u8], cursor: Cursor) -> OperandField
 
 // The high word of an immediate of this type, 0 where the type has none.
 fn high_word(kernel: &[u8], cursor: Cursor, code: u8) -> DwordField
-    ensures { λ r. ⌜ dwordFieldAnswer r ≡ highWordAt (hasHighWord code) (now (kernel .entry)) (cursor .at) ⌝ }
+    ensures { λ r. ⌜ dwordFieldReply r ≡ highWordAt (hasHighWord code) (now (kernel .entry)) (cursor .at) ⌝ }
 {
     if element_types::has_high_word(code) {
         fields::dword_field(kernel, cursor)
@@ -143,7 +143,7 @@ fn high_word(kernel: &[u8], cursor: Cursor, code: u8) -> DwordField
 
 // An Immediate operand after its tag.
 fn immediate_field(kernel: &[u8], cursor: Cursor) -> OperandField
-    ensures { λ r. ⌜ operandFieldAnswer r ≡ immediateAt (now (kernel .entry)) (cursor .at) ⌝ }
+    ensures { λ r. ⌜ operandFieldReply r ≡ immediateAt (now (kernel .entry)) (cursor .at) ⌝ }
 {
     match fields::byte_field(kernel, cursor, ByteRule::ImmediateType) {
         ByteField::Got(code, c1) => match fields::dword_field(kernel, c1) {
@@ -162,7 +162,7 @@ fn immediate_field(kernel: &[u8], cursor: Cursor) -> OperandField
 
 // A destination, source or scalar: the rule of its tag says which.
 pub fn operand_field(kernel: &[u8], cursor: Cursor, rule: TagRule) -> OperandField
-    ensures { λ r. ⌜ operandFieldAnswer r ≡ operandAt rule (now (kernel .entry)) (cursor .at) ⌝ }
+    ensures { λ r. ⌜ operandFieldReply r ≡ operandAt rule (now (kernel .entry)) (cursor .at) ⌝ }
 {
     match fields::byte_field(kernel, cursor, ByteRule::Tag(rule)) {
         ByteField::Got(v, c1) => {
@@ -181,7 +181,7 @@ pub fn operand_field(kernel: &[u8], cursor: Cursor, rule: TagRule) -> OperandFie
 }
 
 pub fn raw_field(kernel: &[u8], cursor: Cursor) -> RawField
-    ensures { λ r. ⌜ rawFieldAnswer r ≡ rawAt (now (kernel .entry)) (cursor .at) ⌝ }
+    ensures { λ r. ⌜ rawFieldReply r ≡ rawAt (now (kernel .entry)) (cursor .at) ⌝ }
 {
     match fields::word_field(kernel, cursor, WordRule::Free) {
         WordField::Got(index, c1) => match fields::word_field(kernel, c1, WordRule::Free) {
@@ -193,7 +193,7 @@ pub fn raw_field(kernel: &[u8], cursor: Cursor) -> RawField
 }
 
 pub fn scalar_and_raws_field(kernel: &[u8], cursor: Cursor) -> ScalarAndRawsField
-    ensures { λ r. ⌜ scalarAndRawsFieldAnswer r ≡ scalarAndRawsAt (now (kernel .entry)) (cursor .at) ⌝ }
+    ensures { λ r. ⌜ scalarAndRawsFieldReply r ≡ scalarAndRawsAt (now (kernel .entry)) (cursor .at) ⌝ }
 {
     match operand_field(kernel, cursor, TagRule::Scalar) {
         OperandField::Got(scalar, c1) => match raw_field(kernel, c1) {
@@ -208,7 +208,7 @@ pub fn scalar_and_raws_field(kernel: &[u8], cursor: Cursor) -> ScalarAndRawsFiel
 }
 
 pub fn access_field(kernel: &[u8], cursor: Cursor) -> AccessField
-    ensures { λ r. ⌜ accessFieldAnswer r ≡ accessAt (now (kernel .entry)) (cursor .at) ⌝ }
+    ensures { λ r. ⌜ accessFieldReply r ≡ accessAt (now (kernel .entry)) (cursor .at) ⌝ }
 {
     match fields::byte_field(kernel, cursor, ByteRule::Free) {
         ByteField::Got(block_size, c1) => {
@@ -240,7 +240,7 @@ pub fn access_field(kernel: &[u8], cursor: Cursor) -> AccessField
 }
 
 pub fn message_field(kernel: &[u8], cursor: Cursor) -> MessageField
-    ensures { λ r. ⌜ messageFieldAnswer r ≡ messageAt (now (kernel .entry)) (cursor .at) ⌝ }
+    ensures { λ r. ⌜ messageFieldReply r ≡ messageAt (now (kernel .entry)) (cursor .at) ⌝ }
 {
     match fields::dword_field(kernel, cursor) {
         DwordField::Got(extended, c1) => match fields::byte_field(kernel, c1, ByteRule::NumSrc) {

@@ -9,7 +9,7 @@ use lib.Dec.{eqb}
 use borrow.Author.Tests.{eqb-true, eqb-false}
 use Rattle.little_endian.specs.LittleEndian.{bytesOf, Bytes}
 use Rattle.little_endian.proofs.Laws.{length-bytes}
-use Rattle.reader.specs.Answer.{Answer, refused, done, Read, got, andThen}
+use Rattle.reader.specs.Reply.{Reply, refused, done, Read, got, andThen}
 use Rattle.reader.proofs.Laws.{Passed, passed-then, cond-then, read-then}
 use Rattle.reader.specs.Reading.{readAt}
 use Rattle.fields.specs.declared.ByteRule.{ByteRule}
@@ -56,18 +56,18 @@ unfolding fieldBytes fieldRefusal judged
 parsed-lacking {s} {at} {next} p = parsed-one (field.Lacking 0) (record { end = omega arith; inside = p .passed .inside; bytes = refl }) refl
 
 -- of an answer: what was given stands there, laid out as fields; a refusal's number is not 0, which means done
-abbrev pub ParsedAs : {A : Type 0} → (A → List Field) → List ℕ → ℕ → Answer (Read A) → Type 0
+abbrev pub ParsedAs : {A : Type 0} → (A → List Field) → List ℕ → ℕ → Reply (Read A) → Type 0
 ParsedAs fields s at (refused n) = n ≢ 0
 ParsedAs fields s at (done r) = Parsed s at (r .next) (fields (r .value))
 
-pub record Given {A : Type 0} (fields : A → List Field) (s : List ℕ) (at : ℕ) (a : Answer (Read A)) : Type 0 where
+pub record Given {A : Type 0} (fields : A → List Field) (s : List ℕ) (at : ℕ) (a : Reply (Read A)) : Type 0 where
   pub is : ParsedAs fields s at a
 
 -- what follows it, read from a start before it
-pub given-then : {A B : Type 0} {fs : A → List Field} {gs : B → List Field} {s : List ℕ} {at start : ℕ} {a : Answer (Read A)} {f : Read A → Answer (Read B)} → Given fs s at a → ((r : Read A) → Parsed s at (r .next) (fs (r .value)) → Given gs s start (f r)) → Given gs s start (andThen a f)
+pub given-then : {A B : Type 0} {fs : A → List Field} {gs : B → List Field} {s : List ℕ} {at start : ℕ} {a : Reply (Read A)} {f : Read A → Reply (Read B)} → Given fs s at a → ((r : Read A) → Parsed s at (r .next) (fs (r .value)) → Given gs s start (f r)) → Given gs s start (andThen a f)
 given-then {A} {B} {fs} {gs} {s} {at} {start} {a} {f} g on = told a (g .is)
   where
-    told : (a : Answer (Read A)) → ParsedAs fs s at a → Given gs s start (andThen a f)
+    told : (a : Reply (Read A)) → ParsedAs fs s at a → Given gs s start (andThen a f)
     told (refused n) o = record { is = o }
     told (done r) o = on r o
 
@@ -86,7 +86,7 @@ module _ (s : List ℕ) (b : Bytes s) where
             (λ e. eqb-false (refusal v) 0 e));
       }
     where
-      P : Answer (Read ℕ) → Type 0
+      P : Reply (Read ℕ) → Type 0
       P = ParsedAs (λ v. f v ∷ []) s at
 
   pub byte-given : (rule : ByteRule) (at : ℕ) → Given (λ v. field.Byte rule v ∷ []) s at (byteFieldAt rule s at)

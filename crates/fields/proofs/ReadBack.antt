@@ -9,7 +9,7 @@ use lib.ListN.{length, drop, length-append}
 use lib.Dec.{eqb}
 use borrow.Author.Tests.{eqb-true, ne-eqb}
 use Rattle.little_endian.proofs.Laws.{length-bytes}
-use Rattle.reader.specs.Answer.{Answer, refused, Read, got, andThen}
+use Rattle.reader.specs.Reply.{Reply, refused, Read, got, andThen}
 use Rattle.reader.specs.Reading.{readAt}
 use Rattle.reader.proofs.Laws.{past, read-there}
 use Rattle.fields.specs.declared.ByteRule.{ByteRule}
@@ -32,18 +32,18 @@ pub record Stands (s : List ℕ) (at : ℕ) (fs : List Field) (t : List ℕ) : T
   pub bytes : drop at s ≡ layoutBytes fs ++ t
 
 -- the answer of reading these fields at `at`: the value with the position past them, or the number of the first that is refused
-pub record There {A : Type 0} (a : Answer (Read A)) (v : A) (at : ℕ) (fs : List Field) : Type 0 where
+pub record There {A : Type 0} (a : Reply (Read A)) (v : A) (at : ℕ) (fs : List Field) : Type 0 where
   pub is : a ≡ cond (eqb (layoutRefusal fs) 0) (got v (at + length (layoutBytes fs))) (refused (layoutRefusal fs))
 
-pub there-good : {A : Type 0} {a : Answer (Read A)} {v : A} {at : ℕ} {fs : List Field} → There a v at fs → layoutRefusal fs ≡ 0 → a ≡ got v (at + length (layoutBytes fs))
+pub there-good : {A : Type 0} {a : Reply (Read A)} {v : A} {at : ℕ} {fs : List Field} → There a v at fs → layoutRefusal fs ≡ 0 → a ≡ got v (at + length (layoutBytes fs))
 there-good t g = t .is ∙ rw g
 
-pub there-refused : {A : Type 0} {a : Answer (Read A)} {v : A} {at : ℕ} {fs : List Field} → There a v at fs → layoutRefusal fs ≢ 0 → a ≡ refused (layoutRefusal fs)
+pub there-refused : {A : Type 0} {a : Reply (Read A)} {v : A} {at : ℕ} {fs : List Field} → There a v at fs → layoutRefusal fs ≢ 0 → a ≡ refused (layoutRefusal fs)
 there-refused {fs = fs} t b = t .is ∙ rw (ne-eqb (layoutRefusal fs) 0 b)
 
 -- some fields, and then the others
-pub there-then : {A B : Type 0} {a : Answer (Read A)} {v : A} (f : Read A → Answer (Read B)) {w : B} {s : List ℕ} {at : ℕ} {fs gs : List Field} {t : List ℕ} → (Stands s at fs (layoutBytes gs ++ t) → There a v at fs) → Stands s at (fs ++ gs) t → ((n : ℕ) → Stands s n gs t → There (f (record { value = v; next = n })) w n gs) → There (andThen a f) w at (fs ++ gs)
-there-then {A} {B} {a} {v} f {w} {s} {at} {fs} {gs} {t} first h others = record { is = ap (λ (x : Answer (Read A)). andThen x f) (first (record { told = parts .0; bytes = stands }) .is) ∙ split (eqb (layoutRefusal fs) 0) refl }
+pub there-then : {A B : Type 0} {a : Reply (Read A)} {v : A} (f : Read A → Reply (Read B)) {w : B} {s : List ℕ} {at : ℕ} {fs gs : List Field} {t : List ℕ} → (Stands s at fs (layoutBytes gs ++ t) → There a v at fs) → Stands s at (fs ++ gs) t → ((n : ℕ) → Stands s n gs t → There (f (record { value = v; next = n })) w n gs) → There (andThen a f) w at (fs ++ gs)
+there-then {A} {B} {a} {v} f {w} {s} {at} {fs} {gs} {t} first h others = record { is = ap (λ (x : Reply (Read A)). andThen x f) (first (record { told = parts .0; bytes = stands }) .is) ∙ split (eqb (layoutRefusal fs) 0) refl }
   where
     parts : LayoutTold fs × (layoutRefusal fs ≡ 0 → LayoutTold gs)
     parts = told-append fs gs (h .told)
@@ -61,8 +61,8 @@ there-then {A} {B} {a} {v} f {w} {s} {at} {fs} {gs} {t} first h others = record 
     split false e = rw (refusal-append fs gs, e, e)
 
 -- the last fields
-pub there-last : {A B : Type 0} {a : Answer (Read A)} {v : A} (made : A → B) {at : ℕ} {fs : List Field} → There a v at fs → There (andThen a (λ r. got (made (r .value)) (r .next))) (made v) at fs
-there-last {A} {B} {a} {v} made {at} {fs} t = record { is = ap (λ (x : Answer (Read A)). andThen x (λ r. got (made (r .value)) (r .next))) (t .is) ∙ split (eqb (layoutRefusal fs) 0) }
+pub there-last : {A B : Type 0} {a : Reply (Read A)} {v : A} (made : A → B) {at : ℕ} {fs : List Field} → There a v at fs → There (andThen a (λ r. got (made (r .value)) (r .next))) (made v) at fs
+there-last {A} {B} {a} {v} made {at} {fs} t = record { is = ap (λ (x : Reply (Read A)). andThen x (λ r. got (made (r .value)) (r .next))) (t .is) ∙ split (eqb (layoutRefusal fs) 0) }
   where
     split : (b : Bool) → andThen (cond b (got v (at + length (layoutBytes fs))) (refused (layoutRefusal fs))) (λ r. got (made (r .value)) (r .next)) ≡ cond b (got (made v) (at + length (layoutBytes fs))) (refused (layoutRefusal fs))
     split true = refl
@@ -76,7 +76,7 @@ lacking-there {v = v} at = let e : at ≡ at + 0 = omega arith in record { is = 
 -- ---- one field, whose bytes are whole
 
 -- its rule decides
-field-there : {a : Answer (Read ℕ)} {v at : ℕ} (f : Field) (n : ℕ) → length (fieldBytes f) ≡ n → a ≡ cond (eqb (fieldRefusal f) 0) (got v (at + n)) (refused (fieldRefusal f)) → There a v at (f ∷ [])
+field-there : {a : Reply (Read ℕ)} {v at : ℕ} (f : Field) (n : ℕ) → length (fieldBytes f) ≡ n → a ≡ cond (eqb (fieldRefusal f) 0) (got v (at + n)) (refused (fieldRefusal f)) → There a v at (f ∷ [])
 field-there f n e is = record { is = is ∙ rw (one-refusal f, one-bytes f, e) }
 
 module _ {s : List ℕ} {at : ℕ} {t : List ℕ} where

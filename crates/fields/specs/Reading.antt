@@ -3,7 +3,7 @@ use Prim.Native.Nat.{ℕ}
 use mathlib.Core.List.{List}
 use mathlib.Core.Bool.{cond}
 use lib.Dec.{eqb}
-use Rattle.reader.specs.Answer.{Answer, refused, Read, got, andThen}
+use Rattle.reader.specs.Reply.{Reply, refused, Read, got, andThen}
 use Rattle.reader.specs.Reading.{readAt}
 use Rattle.fields.specs.declared.ByteRule.{ByteRule}
 use Rattle.fields.specs.declared.WordRule.{WordRule}
@@ -16,28 +16,28 @@ use Rattle.fields.specs.declared.DwordField.the-variants as dword
 use Rattle.fields.specs.Rules.{byteRefusal, wordRefusal}
 
 -- a number that was read, or the refusal that it gets, 0 for none
-unfoldable pub judgedRead : (ℕ → ℕ) → Read ℕ → Answer (Read ℕ)
+unfoldable pub judgedRead : (ℕ → ℕ) → Read ℕ → Reply (Read ℕ)
 judgedRead refusal r = cond (eqb (refusal (r .value)) 0) (got (r .value) (r .next)) (refused (refusal (r .value)))
 
-unfoldable pub byteFieldAt : ByteRule → List ℕ → ℕ → Answer (Read ℕ)
+unfoldable pub byteFieldAt : ByteRule → List ℕ → ℕ → Reply (Read ℕ)
 byteFieldAt rule s at = andThen (readAt 1 s at) (judgedRead (byteRefusal rule))
 
-unfoldable pub wordFieldAt : WordRule → List ℕ → ℕ → Answer (Read ℕ)
+unfoldable pub wordFieldAt : WordRule → List ℕ → ℕ → Reply (Read ℕ)
 wordFieldAt rule s at = andThen (readAt 2 s at) (judgedRead (wordRefusal rule))
 
 -- no stored number of four bytes has a rule
-unfoldable pub dwordFieldAt : List ℕ → ℕ → Answer (Read ℕ)
+unfoldable pub dwordFieldAt : List ℕ → ℕ → Reply (Read ℕ)
 dwordFieldAt s at = readAt 4 s at
 
 -- number and values of each case
-abbrev pub byteFieldAnswer : ByteField → Answer (Read ℕ)
-byteFieldAnswer (byte.Refused n) = refused n
-byteFieldAnswer (byte.Got v c) = got v (c .at)
+abbrev pub byteFieldReply : ByteField → Reply (Read ℕ)
+byteFieldReply (byte.Refused n) = refused n
+byteFieldReply (byte.Got v c) = got v (c .at)
 
-abbrev pub wordFieldAnswer : WordField → Answer (Read ℕ)
-wordFieldAnswer (word.Refused n) = refused n
-wordFieldAnswer (word.Got v c) = got v (c .at)
+abbrev pub wordFieldReply : WordField → Reply (Read ℕ)
+wordFieldReply (word.Refused n) = refused n
+wordFieldReply (word.Got v c) = got v (c .at)
 
-abbrev pub dwordFieldAnswer : DwordField → Answer (Read ℕ)
-dwordFieldAnswer (dword.Refused n) = refused n
-dwordFieldAnswer (dword.Got v c) = got v (c .at)
+abbrev pub dwordFieldReply : DwordField → Reply (Read ℕ)
+dwordFieldReply (dword.Refused n) = refused n
+dwordFieldReply (dword.Got v c) = got v (c .at)

@@ -6,7 +6,7 @@ use reader::ReadWord;
 ghost use mathlib.Core.Path.{_≡_};
 ghost use Rattle.fields.specs.Tags.{tagOf};
 ghost use Rattle.fields.specs.Rules.{judged, execGood, scatterExecGood, channelsGood, sourceCountGood, predicateGood, regionGood, classGood, tagGood, tagRefusal, byteRefusal, wordRefusal};
-ghost use Rattle.fields.specs.Reading.{byteFieldAt, wordFieldAt, dwordFieldAt, byteFieldAnswer, wordFieldAnswer, dwordFieldAnswer};
+ghost use Rattle.fields.specs.Reading.{byteFieldAt, wordFieldAt, dwordFieldAt, byteFieldReply, wordFieldReply, dwordFieldReply};
 
 // Whose tag it is: SHL's destination, a source of SHL, or a scalar (a gather's Offset, a scatter's Address, RAW_SEND's Desc).
 pub enum TagRule {
@@ -194,7 +194,7 @@ pub fn word_refusal(rule: WordRule, v: u16) -> u8
 }
 
 pub fn byte_field(kernel: &[u8], cursor: Cursor, rule: ByteRule) -> ByteField
-    ensures { λ r. ⌜ byteFieldAnswer r ≡ byteFieldAt rule (now (kernel .entry)) (cursor .at) ⌝ }
+    ensures { λ r. ⌜ byteFieldReply r ≡ byteFieldAt rule (now (kernel .entry)) (cursor .at) ⌝ }
 {
     match cursor.byte(kernel) {
         ReadByte::Got(v, next) => {
@@ -210,7 +210,7 @@ pub fn byte_field(kernel: &[u8], cursor: Cursor, rule: ByteRule) -> ByteField
 }
 
 pub fn word_field(kernel: &[u8], cursor: Cursor, rule: WordRule) -> WordField
-    ensures { λ r. ⌜ wordFieldAnswer r ≡ wordFieldAt rule (now (kernel .entry)) (cursor .at) ⌝ }
+    ensures { λ r. ⌜ wordFieldReply r ≡ wordFieldAt rule (now (kernel .entry)) (cursor .at) ⌝ }
 {
     match cursor.word(kernel) {
         ReadWord::Got(v, next) => {
@@ -226,7 +226,7 @@ pub fn word_field(kernel: &[u8], cursor: Cursor, rule: WordRule) -> WordField
 }
 
 pub fn dword_field(kernel: &[u8], cursor: Cursor) -> DwordField
-    ensures { λ r. ⌜ dwordFieldAnswer r ≡ dwordFieldAt (now (kernel .entry)) (cursor .at) ⌝ }
+    ensures { λ r. ⌜ dwordFieldReply r ≡ dwordFieldAt (now (kernel .entry)) (cursor .at) ⌝ }
 {
     match cursor.dword(kernel) {
         ReadDword::Got(v, next) => DwordField::Got(v, next),

@@ -10,7 +10,7 @@ use lib.Dec.{leb}
 use borrow.Author.Tests.{leb-true, leb-false, le-leb, lt-leb}
 use Rattle.little_endian.specs.LittleEndian.{numberAt, bytesOf, Bytes}
 use Rattle.little_endian.proofs.Laws.{length-bytes, number-more, number-there, bytes-there}
-use Rattle.reader.specs.Answer.{Answer, refused, Read, got}
+use Rattle.reader.specs.Reply.{Reply, refused, Read, got}
 use Rattle.reader.specs.Reading.{wholeAt, readAt}
 
 -- from `at` to `next` the kernel has these bytes
@@ -72,7 +72,7 @@ cond-then P false p q = q refl
 -- ---- a number of one byte or more is read
 
 -- forward: what holds of a refusal by 1, and of what was read, holds of the answer
-pub read-then : (P : Answer (Read ℕ) → Type 0) (n : ℕ) (s : List ℕ) (at : ℕ) → Bytes s → P (refused 1) → ((v next : ℕ) → Passed s at next (bytesOf (suc n) v) → P (got v next)) → P (readAt (suc n) s at)
+pub read-then : (P : Reply (Read ℕ) → Type 0) (n : ℕ) (s : List ℕ) (at : ℕ) → Bytes s → P (refused 1) → ((v next : ℕ) → Passed s at next (bytesOf (suc n) v) → P (got v next)) → P (readAt (suc n) s at)
 unfolding readAt
 read-then P n s at b short on = cond-then P (wholeAt (suc n) s at) (λ w. on _ _ (number-passed n s at b w)) (λ _. short)
 

@@ -12,25 +12,25 @@ use Rattle.reader.specs.declared.ReadWord.{ReadWord}
 use Rattle.reader.specs.declared.ReadWord.the-variants as word
 use Rattle.reader.specs.declared.ReadDword.{ReadDword}
 use Rattle.reader.specs.declared.ReadDword.the-variants as dword
-use Rattle.reader.specs.Answer.{Answer, refused, Read, got}
+use Rattle.reader.specs.Reply.{Reply, refused, Read, got}
 
 -- n bytes stand from the position on
 unfoldable pub wholeAt : ℕ → List ℕ → ℕ → Bool
 wholeAt n s at = leb (at + n) (length s)
 
 -- a stored number of n bytes: "1 for a field not whole"
-unfoldable pub readAt : ℕ → List ℕ → ℕ → Answer (Read ℕ)
+unfoldable pub readAt : ℕ → List ℕ → ℕ → Reply (Read ℕ)
 readAt n s at = cond (wholeAt n s at) (got (numberAt n s at) (at + n)) (refused 1)
 
 -- number and values of each case
-abbrev pub readByteAnswer : ReadByte → Answer (Read ℕ)
-readByteAnswer byte.Short = refused 1
-readByteAnswer (byte.Got v c) = got v (c .at)
+abbrev pub readByteReply : ReadByte → Reply (Read ℕ)
+readByteReply byte.Short = refused 1
+readByteReply (byte.Got v c) = got v (c .at)
 
-abbrev pub readWordAnswer : ReadWord → Answer (Read ℕ)
-readWordAnswer word.Short = refused 1
-readWordAnswer (word.Got v c) = got v (c .at)
+abbrev pub readWordReply : ReadWord → Reply (Read ℕ)
+readWordReply word.Short = refused 1
+readWordReply (word.Got v c) = got v (c .at)
 
-abbrev pub readDwordAnswer : ReadDword → Answer (Read ℕ)
-readDwordAnswer dword.Short = refused 1
-readDwordAnswer (dword.Got v c) = got v (c .at)
+abbrev pub readDwordReply : ReadDword → Reply (Read ℕ)
+readDwordReply dword.Short = refused 1
+readDwordReply (dword.Got v c) = got v (c .at)

@@ -3,7 +3,7 @@ ghost use mathlib.Core.Path.{_≡_};
 ghost use Prim.Native.Nat.{_+_, _≤_};
 ghost use lib.ListN.{length};
 ghost use Rattle.little_endian.specs.LittleEndian.{numberAt};
-ghost use Rattle.reader.specs.Reading.{wholeAt, readAt, readByteAnswer, readWordAnswer, readDwordAnswer};
+ghost use Rattle.reader.specs.Reading.{wholeAt, readAt, readByteReply, readWordReply, readDwordReply};
 
 // A position in the kernel; it may lie past the end.
 pub struct Cursor {
@@ -60,7 +60,7 @@ fn word_at(kernel: &[u8], at: usize) -> u16
 
 impl Cursor {
     pub fn byte(self, kernel: &[u8]) -> ReadByte
-        ensures { λ r. ⌜ readByteAnswer r ≡ readAt 1 (now (kernel .entry)) (self .at) ⌝ }
+        ensures { λ r. ⌜ readByteReply r ≡ readAt 1 (now (kernel .entry)) (self .at) ⌝ }
     {
         let at = self.at;
         if whole(kernel, at, 1) {
@@ -71,7 +71,7 @@ impl Cursor {
     }
 
     pub fn word(self, kernel: &[u8]) -> ReadWord
-        ensures { λ r. ⌜ readWordAnswer r ≡ readAt 2 (now (kernel .entry)) (self .at) ⌝ }
+        ensures { λ r. ⌜ readWordReply r ≡ readAt 2 (now (kernel .entry)) (self .at) ⌝ }
     {
         let at = self.at;
         if whole(kernel, at, 2) {
@@ -82,7 +82,7 @@ impl Cursor {
     }
 
     pub fn dword(self, kernel: &[u8]) -> ReadDword
-        ensures { λ r. ⌜ readDwordAnswer r ≡ readAt 4 (now (kernel .entry)) (self .at) ⌝ }
+        ensures { λ r. ⌜ readDwordReply r ≡ readAt 4 (now (kernel .entry)) (self .at) ⌝ }
     {
         let at = self.at;
         if whole(kernel, at, 4) {

@@ -3,8 +3,8 @@ use Prim.Native.Nat.{ℕ, zero, suc}
 use mathlib.Core.Path.{_≡_, refl, ap, _∙_}
 use native.Mathlib.Omega.{arith}
 use Rattle.cells.specs.Effect.{Effect}
-use Rattle.reader.specs.Answer as answer
-use Rattle.reader.specs.Answer.{Answer, Read, onAnswer}
+use Rattle.reader.specs.Reply as reply
+use Rattle.reader.specs.Reply.{Reply, Read, onReply}
 use Rattle.decoder.specs.declared.Instruction.{Instruction}
 use Rattle.decoder.specs.declared.Instruction.the-variants as instruction
 use Rattle.decoder.specs.Decoding.{instructionAt}
@@ -49,7 +49,7 @@ module _ (x : Setup) (s : State) where
   unfolding stepAt firstFailing
   step-number at = told (instructionAt (x .kernel) at)
     where
-      told : (d : Answer (Read Instruction)) → stepOf x (λ (p : Plan). planEffect (x .constants) p s) at d .effect .number
-          ≡ onAnswer d (λ n. n) (λ i. firstOf (planned (i .value) .number) (dataTests x (i .value) (planned (i .value)) s))
-      told (answer.refused n) = refl
-      told (answer.done i) = plan-number (i .value)
+      told : (d : Reply (Read Instruction)) → stepOf x (λ (p : Plan). planEffect (x .constants) p s) at d .effect .number
+          ≡ onReply d (λ n. n) (λ i. firstOf (planned (i .value) .number) (dataTests x (i .value) (planned (i .value)) s))
+      told (reply.refused n) = refl
+      told (reply.done i) = plan-number (i .value)

@@ -8,13 +8,13 @@ use mathlib.Core.List.{List}
 use native.Mathlib.Omega.{arith}
 use Rattle.little_endian.specs.LittleEndian.{Bytes}
 use Rattle.reader.specs.declared.Cursor.{Cursor}
-use Rattle.reader.specs.Answer.{got}
+use Rattle.reader.specs.Reply.{got}
 use Rattle.fields.proofs.ScatterExec.{EightOrSixteen}
 use Rattle.decoder.specs.declared.Instruction.{Instruction}
 use Rattle.decoder.specs.declared.Instruction.the-variants as instruction
 use Rattle.decoder.specs.declared.Decoded.{Decoded}
 use Rattle.decoder.specs.declared.Decoded.the-variants as decoded
-use Rattle.decoder.specs.Decoding.{instructionAt, decodedAnswer}
+use Rattle.decoder.specs.Decoding.{instructionAt, decodedReply}
 use Rattle.decoder.proofs.ScatterLaws.{decoded-scatter}
 use Rattle.channels.specs.Exec.{execSize}
 use Rattle.tables.specs.Tables.{Tables}
@@ -52,5 +52,5 @@ module _ (kernel : List ℕ) (t : Tables) (at : ℕ) (b : Bytes kernel) where
   planned-fits i next is = record { when-accepted = decoded-fits i next is }
 
   -- as the code learns it
-  pub told-fits : (d : Decoded) (i : Instruction) (c : Cursor) (p : Plan) → decodedAnswer d ≡ instructionAt kernel at → d ≡ decoded.Accepted i c → p ≡ checked t i → Fits p
-  told-fits d i c p told is plan = subst Fits (sym plan) (planned-fits i (c .at) (sym told ∙ ap decodedAnswer is))
+  pub told-fits : (d : Decoded) (i : Instruction) (c : Cursor) (p : Plan) → decodedReply d ≡ instructionAt kernel at → d ≡ decoded.Accepted i c → p ≡ checked t i → Fits p
+  told-fits d i c p told is plan = subst Fits (sym plan) (planned-fits i (c .at) (sym told ∙ ap decodedReply is))

@@ -3,8 +3,8 @@ use mathlib.Core.Path.{_≡_, refl}
 use Prim.Native.Nat.{ℕ, _≤_, _<_}
 use lib.ListN.{length}
 use Rattle.little_endian.specs.LittleEndian.{Bytes}
-use Rattle.reader.specs.Answer as answer
-use Rattle.reader.specs.Answer.{Answer, Read}
+use Rattle.reader.specs.Reply as reply
+use Rattle.reader.specs.Reply.{Reply, Read}
 use Rattle.decoder.specs.declared.Instruction.{Instruction}
 use Rattle.decoder.specs.Decoding.{instructionAt}
 use Rattle.decoder.proofs.DecodeEncode.{refusal-not-zero}
@@ -22,9 +22,9 @@ pub step-forward : (x : Setup) → Bytes (x .kernel) → (at : ℕ) (s : State) 
 unfolding stepAt
 step-forward x b at s e = told (instructionAt (x .kernel) at) refl e
   where
-    stepped : Answer (Read Instruction) → Stepped
+    stepped : Reply (Read Instruction) → Stepped
     stepped = stepOf x (λ (p : Plan). planEffect (x .constants) p s) at
 
-    told : (d : Answer (Read Instruction)) → instructionAt (x .kernel) at ≡ d → stepped d .effect .number ≡ 0 → Forward (length (x .kernel)) at (stepped d .next)
-    told (answer.refused n) q z = absurd (refusal-not-zero (x .kernel) at n b q z)
-    told (answer.done i) q z = let w = accepted-within (x .kernel) at (i .value) (i .next) b q in (w .past, w .inside)
+    told : (d : Reply (Read Instruction)) → instructionAt (x .kernel) at ≡ d → stepped d .effect .number ≡ 0 → Forward (length (x .kernel)) at (stepped d .next)
+    told (reply.refused n) q z = absurd (refusal-not-zero (x .kernel) at n b q z)
+    told (reply.done i) q z = let w = accepted-within (x .kernel) at (i .value) (i .next) b q in (w .past, w .inside)

@@ -8,8 +8,8 @@ use lib.Dec.{eqb}
 use Rattle.cells.specs.Effect.{Effect}
 use Rattle.cells.proofs.WriteLaws.{bytes-kept, taint-kept}
 use Rattle.cells.proofs.RefusalLaws.{WritesOnlyWhenDone, refused-writes, unless-writes}
-use Rattle.reader.specs.Answer as answer
-use Rattle.reader.specs.Answer.{Answer, Read}
+use Rattle.reader.specs.Reply as reply
+use Rattle.reader.specs.Reply.{Reply, Read}
 use Rattle.decoder.specs.declared.Instruction.{Instruction}
 use Rattle.decoder.specs.Decoding.{instructionAt}
 use Rattle.plan.specs.declared.Plan.{Plan}
@@ -52,9 +52,9 @@ module _ (x : Setup) (s : State) where
   unfolding planEffect
   plan-writes p = unless-writes (not (eqb (p .number) 0)) (p .number) _ (acted-writes (p .operation) p)
 
-  decoded-writes : (at : ℕ) (d : Answer (Read Instruction)) → WritesOnlyWhenDone (stepOf x (λ (p : Plan). planEffect (x .constants) p s) at d .effect)
-  decoded-writes at (answer.refused n) = refused-writes n
-  decoded-writes at (answer.done i) = plan-writes (checked (x .tables) (i .value))
+  decoded-writes : (at : ℕ) (d : Reply (Read Instruction)) → WritesOnlyWhenDone (stepOf x (λ (p : Plan). planEffect (x .constants) p s) at d .effect)
+  decoded-writes at (reply.refused n) = refused-writes n
+  decoded-writes at (reply.done i) = plan-writes (checked (x .tables) (i .value))
 
   -- every step whose number is not 0 writes nothing
   pub step-writes : (at : ℕ) → WritesOnlyWhenDone (stepAt x at s .effect)

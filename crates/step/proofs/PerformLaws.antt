@@ -12,14 +12,14 @@ use Rattle.plan.specs.declared.Plan.{Plan}
 use Rattle.plan.specs.declared.Operation.{Operation}
 use Rattle.plan.specs.declared.Operation.the-variants as operation
 use Rattle.staging.specs.Lanes.{lanesOn}
-use Rattle.shl.specs.Guarded.{shlGuarded}
+use Rattle.shl.specs.mirror.Guarded.{shlGuarded}
 use Rattle.shl.proofs.GuardLaws as shl
 use Rattle.shl.proofs.Refusal.{shl-spares-memory}
-use Rattle.gather.specs.Guarded.{gatherGuarded}
+use Rattle.gather.specs.mirror.Guarded.{gatherGuarded}
 use Rattle.gather.proofs.GuardLaws as gather
 use Rattle.gather.proofs.Refusal.{gather-spares-memory}
 use Rattle.scatter.specs.Scatter.{Window}
-use Rattle.scatter.specs.Guarded.{scatterGuarded}
+use Rattle.scatter.specs.mirror.Guarded.{scatterGuarded}
 use Rattle.scatter.proofs.GuardLaws as scatter
 use Rattle.scatter.proofs.Refusal.{scatter-spares-registers}
 use Rattle.step.specs.declared.Constants.{Constants}

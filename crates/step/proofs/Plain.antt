@@ -8,8 +8,8 @@ use lib.Dec.{eqb}
 use lib.ListN.{length}
 use Rattle.cells.proofs.Related.{none}
 use Rattle.cells.proofs.Plain.{SameBytes, PlainEffects, plain-unless}
-use Rattle.reader.specs.Answer as answer
-use Rattle.reader.specs.Answer.{Answer, Read}
+use Rattle.reader.specs.Reply as reply
+use Rattle.reader.specs.Reply.{Reply, Read}
 use Rattle.decoder.specs.declared.Instruction.{Instruction}
 use Rattle.decoder.specs.Decoding.{instructionAt}
 use Rattle.plan.specs.declared.Plan.{Plan}
@@ -44,12 +44,12 @@ module _ (x : Setup) (s u : State) (r : PlainStates s u) where
   unfolding planEffect
   plan-plain p sure = plain-unless (not (eqb (p .number) 0)) (p .number) 10 _ _ (acted-plain (p .operation) p) sure
 
-  abbrev stepped : State → ℕ → Answer (Read Instruction) → Stepped
+  abbrev stepped : State → ℕ → Reply (Read Instruction) → Stepped
   stepped v at = stepOf x (λ (p : Plan). planEffect (x .constants) p v) at
 
-  decoded-plain : (at : ℕ) (d : Answer (Read Instruction)) → stepped s at d .effect .number ≢ 10 → SameStep PlainStates (stepped s at d) (stepped u at d) s u
-  decoded-plain at (answer.refused n) sure = refused-steps SameBytes s u r at n
-  decoded-plain at (answer.done i) sure = alike-steps SameBytes s u r (i .next) _ _ (plan-plain (checked (x .tables) (i .value)) sure)
+  decoded-plain : (at : ℕ) (d : Reply (Read Instruction)) → stepped s at d .effect .number ≢ 10 → SameStep PlainStates (stepped s at d) (stepped u at d) s u
+  decoded-plain at (reply.refused n) sure = refused-steps SameBytes s u r at n
+  decoded-plain at (reply.done i) sure = alike-steps SameBytes s u r (i .next) _ _ (plan-plain (checked (x .tables) (i .value)) sure)
 
 pub step-plain : (x : Setup) (at : ℕ) (s u : State) → PlainStates s u → stepAt x at s .effect .number ≢ 10 → SameStep PlainStates (stepAt x at s) (stepAt x at u) s u
 unfolding stepAt

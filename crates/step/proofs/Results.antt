@@ -7,8 +7,8 @@ use lib.Dec.{eqb}
 use lib.ListN.{length}
 use borrow.Author.Tests.{eqb-true, eqb-false}
 use Rattle.little_endian.specs.LittleEndian.{Bytes}
-use Rattle.reader.specs.Answer as answer
-use Rattle.reader.specs.Answer.{Answer, Read, got}
+use Rattle.reader.specs.Reply as reply
+use Rattle.reader.specs.Reply.{Reply, Read, got}
 use Rattle.cells.specs.Effect.{Effect}
 use Rattle.channels.specs.Exec.{execSize}
 use Rattle.decoder.specs.declared.Instruction.{Instruction}
@@ -95,10 +95,10 @@ module _ (x : Setup) (s : State) (good : tablesGood (lengthsOf x s) (x .tables) 
   unfolding stepAt
   step-completes b at done = told (instructionAt (x .kernel) at) refl
     where
-      told : (d : Answer (Read Instruction)) → instructionAt (x .kernel) at ≡ d → Completes x at s (stepAt x at s .next) (after (stepAt x at s .effect) s)
-      told (answer.refused n) e =
-          absurd (refusal-not-zero (x .kernel) at n b e (sym (ap (λ (d : Answer (Read Instruction)). stepOf x (λ (p : Plan). planEffect (x .constants) p s) at d .effect .number) e) ∙ done))
-      told (answer.done i) e =
+      told : (d : Reply (Read Instruction)) → instructionAt (x .kernel) at ≡ d → Completes x at s (stepAt x at s .next) (after (stepAt x at s .effect) s)
+      told (reply.refused n) e =
+          absurd (refusal-not-zero (x .kernel) at n b e (sym (ap (λ (d : Reply (Read Instruction)). stepOf x (λ (p : Plan). planEffect (x .constants) p s) at d .effect .number) e) ∙ done))
+      told (reply.done i) e =
           record {
             instruction = i .value;
             decodes = e ∙ ap (λ (n : ℕ). got (i .value) n) (sym (ap (λ (t : Stepped). t .next) (step-is x s at (i .value) (i .next) e)));

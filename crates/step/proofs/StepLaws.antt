@@ -4,11 +4,11 @@ use mathlib.Core.List.{[]}
 use Prim.Native.Nat.{ℕ}
 use Rattle.cells.specs.Effect.{refused}
 use Rattle.reader.specs.declared.Cursor.{Cursor}
-use Rattle.reader.specs.Answer.{Answer, Read}
+use Rattle.reader.specs.Reply.{Reply, Read}
 use Rattle.decoder.specs.declared.Decoded.{Decoded}
 use Rattle.decoder.specs.declared.Decoded.the-variants as decoded
 use Rattle.decoder.specs.declared.Instruction.{Instruction}
-use Rattle.decoder.specs.Decoding.{instructionAt, decodedAnswer}
+use Rattle.decoder.specs.Decoding.{instructionAt, decodedReply}
 use Rattle.plan.specs.declared.Plan.{Plan}
 use Rattle.plan.specs.Checked.{checked}
 use Rattle.step.specs.declared.Progress.{Progress}
@@ -22,7 +22,7 @@ abbrev pub Takes : State → Stepped → Progress → State → Type 0
 Takes s t p u = (p .number ≡ t .effect .number) × (p .next ≡ t .next) × (u ≡ after (t .effect) s)
 
 module _ (x : Setup) (at : ℕ) (s : State) where
-  stepped : (d : Answer (Read Instruction)) → instructionAt (x .kernel) at ≡ d
+  stepped : (d : Reply (Read Instruction)) → instructionAt (x .kernel) at ≡ d
       → stepOf x (λ (p : Plan). planEffect (x .constants) p s) at d ≡ stepAt x at s
   unfolding stepAt
   stepped d e = ap (stepOf x (λ (p : Plan). planEffect (x .constants) p s) at) (sym e)
@@ -30,15 +30,15 @@ module _ (x : Setup) (at : ℕ) (s : State) where
   unchanged : (n : ℕ) → after (refused n) s ≡ s
   unchanged n = λ i. record { registers = unwritten [] (s .registers) refl i; surfaces = s .surfaces; memory = unwritten [] (s .memory) refl i }
 
-  module _ (d : Decoded) (told : decodedAnswer d ≡ instructionAt (x .kernel) at) where
+  module _ (d : Decoded) (told : decodedReply d ≡ instructionAt (x .kernel) at) where
     pub accepted-advances : (i : Instruction) (c : Cursor) (p : Plan) (n : ℕ) (u : State) → d ≡ decoded.Accepted i c → p ≡ checked (x .tables) i → (n ≡ planEffect (x .constants) p s .number) × (u ≡ after (planEffect (x .constants) p s) s)
         → Takes s (stepAt x at s) (record { number = n; next = c .at }) u
     accepted-advances i c p n u is plan done =
         let taken : Takes s (record { next = c .at; effect = planEffect (x .constants) (checked (x .tables) i) s }) (record { number = n; next = c .at }) u =
         (done .0 ∙ ap (λ (q : Plan). planEffect (x .constants) q s .number) plan, refl, done .1 ∙ ap (λ (q : Plan). after (planEffect (x .constants) q s) s) plan)
         in
-        subst (λ (t : Stepped). Takes s t (record { number = n; next = c .at }) u) (stepped (decodedAnswer (decoded.Accepted i c)) (sym told ∙ ap decodedAnswer is)) taken
+        subst (λ (t : Stepped). Takes s t (record { number = n; next = c .at }) u) (stepped (decodedReply (decoded.Accepted i c)) (sym told ∙ ap decodedReply is)) taken
 
     pub refusal-advances : (n : ℕ) → d ≡ decoded.Refused n → Takes s (stepAt x at s) (record { number = n; next = at }) s
     refusal-advances n is =
-        subst (λ (t : Stepped). Takes s t (record { number = n; next = at }) s) (stepped (decodedAnswer (decoded.Refused n)) (sym told ∙ ap decodedAnswer is)) (refl, refl, sym (unchanged n))
+        subst (λ (t : Stepped). Takes s t (record { number = n; next = at }) s) (stepped (decodedReply (decoded.Refused n)) (sym told ∙ ap decodedReply is)) (refl, refl, sym (unchanged n))

@@ -1,12 +1,12 @@
 -- A step, by what stands decoded at its position: a refusal, or the effect of the instruction's plan.
 use Prim.Native.Nat.{ℕ}
 use Rattle.cells.specs.Effect.{Effect, refused}
-use Rattle.reader.specs.Answer.{Answer, Read, onAnswer}
+use Rattle.reader.specs.Reply.{Reply, Read, onReply}
 use Rattle.decoder.specs.declared.Instruction.{Instruction}
 use Rattle.plan.specs.declared.Plan.{Plan}
 use Rattle.plan.specs.Checked.{checked}
 use Rattle.step.specs.State.{Setup}
 use Rattle.step.specs.Step.{Stepped}
 
-abbrev pub stepOf : Setup → (Plan → Effect) → ℕ → Answer (Read Instruction) → Stepped
-stepOf x effect at d = onAnswer d (λ n. record { next = at; effect = refused n }) (λ i. record { next = i .next; effect = effect (checked (x .tables) (i .value)) })
+abbrev pub stepOf : Setup → (Plan → Effect) → ℕ → Reply (Read Instruction) → Stepped
+stepOf x effect at d = onReply d (λ n. record { next = at; effect = refused n }) (λ i. record { next = i .next; effect = effect (checked (x .tables) (i .value)) })

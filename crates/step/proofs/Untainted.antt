@@ -6,8 +6,8 @@ use lib.Dec.{eqb}
 use lib.ListN.{length}
 use Rattle.cells.proofs.Related.{none}
 use Rattle.cells.proofs.Untainted.{SameUntainted, AlikeEffects, unless-alike}
-use Rattle.reader.specs.Answer as answer
-use Rattle.reader.specs.Answer.{Answer, Read}
+use Rattle.reader.specs.Reply as reply
+use Rattle.reader.specs.Reply.{Reply, Read}
 use Rattle.decoder.specs.declared.Instruction.{Instruction}
 use Rattle.decoder.specs.Decoding.{instructionAt}
 use Rattle.plan.specs.declared.Plan.{Plan}
@@ -42,12 +42,12 @@ module _ (x : Setup) (s u : State) (r : AgreeingStates s u) where
   unfolding planEffect
   plan-alike p = unless-alike (not (eqb (p .number) 0)) _ (p .number) _ _ refl (λ _. acted-alike (p .operation) p)
 
-  abbrev stepped : State → ℕ → Answer (Read Instruction) → Stepped
+  abbrev stepped : State → ℕ → Reply (Read Instruction) → Stepped
   stepped v at = stepOf x (λ (p : Plan). planEffect (x .constants) p v) at
 
-  decoded-same : (at : ℕ) (d : Answer (Read Instruction)) → SameStep AgreeingStates (stepped s at d) (stepped u at d) s u
-  decoded-same at (answer.refused n) = refused-steps SameUntainted s u r at n
-  decoded-same at (answer.done i) = alike-steps SameUntainted s u r (i .next) _ _ (plan-alike (checked (x .tables) (i .value)))
+  decoded-same : (at : ℕ) (d : Reply (Read Instruction)) → SameStep AgreeingStates (stepped s at d) (stepped u at d) s u
+  decoded-same at (reply.refused n) = refused-steps SameUntainted s u r at n
+  decoded-same at (reply.done i) = alike-steps SameUntainted s u r (i .next) _ _ (plan-alike (checked (x .tables) (i .value)))
 
 pub step-same : (x : Setup) (at : ℕ) (s u : State) → AgreeingStates s u → SameStep AgreeingStates (stepAt x at s) (stepAt x at u) s u
 unfolding stepAt

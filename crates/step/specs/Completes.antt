@@ -1,7 +1,7 @@
 -- A completed instruction: it is decoded, fails no test, and leaves its results; the next one begins at its end.
 use mathlib.Core.Path.{_≡_}
 use Prim.Native.Nat.{ℕ}
-use Rattle.reader.specs.Answer.{got}
+use Rattle.reader.specs.Reply.{got}
 use Rattle.decoder.specs.declared.Instruction.{Instruction}
 use Rattle.decoder.specs.Decoding.{instructionAt}
 use Rattle.plan.specs.Checked.{checked}

@@ -5,7 +5,7 @@ use Prim.Native.Nat.{ℕ, zero, suc}
 use mathlib.Core.Bool.{Bool, cond}
 use lib.ListN.{length}
 use Rattle.cells.specs.Over.{some}
-use Rattle.reader.specs.Answer.{onAnswer}
+use Rattle.reader.specs.Reply.{onReply}
 use Rattle.decoder.specs.declared.Instruction.{Instruction}
 use Rattle.decoder.specs.declared.Instruction.the-variants as instruction
 use Rattle.decoder.specs.Decoding.{instructionAt}
@@ -42,6 +42,6 @@ dataTests x (instruction.RawSend i) p s = 0
 -- decoding's number; else that of the tests before data, 8 to 9 (`checked`); else that of the tests of data
 unfoldable pub firstFailing : Setup → ℕ → State → ℕ
 firstFailing x at s =
-    onAnswer (instructionAt (x .kernel) at)
+    onReply (instructionAt (x .kernel) at)
     (λ n. n)
     (λ i. firstOf (checked (x .tables) (i .value) .number) (dataTests x (i .value) (checked (x .tables) (i .value)) s))

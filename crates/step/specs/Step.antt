@@ -5,7 +5,7 @@ use lib.ListN.{length}
 use lib.Dec.{eqb}
 use Rattle.cells.specs.Writes.{writtenAll}
 use Rattle.cells.specs.Effect.{Effect, refused, unless}
-use Rattle.reader.specs.Answer.{onAnswer}
+use Rattle.reader.specs.Reply.{onReply}
 use Rattle.decoder.specs.Decoding.{instructionAt}
 use Rattle.plan.specs.declared.Plan.{Plan}
 use Rattle.plan.specs.declared.Operation.{Operation}
@@ -37,7 +37,7 @@ pub record Stepped : Type 0 where
 
 unfoldable pub stepAt : Setup → ℕ → State → Stepped
 stepAt x at s =
-    onAnswer (instructionAt (x .kernel) at)
+    onReply (instructionAt (x .kernel) at)
     (λ n. record { next = at; effect = refused n })
     (λ i. record { next = i .next; effect = planEffect (x .constants) (checked (x .tables) (i .value)) s })
 

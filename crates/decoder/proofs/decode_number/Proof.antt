@@ -1,6 +1,6 @@
 -- `decoder::decode_number` meets its contract: at each return, what the calls and tests on the way say picks the case of `Decoding`.
 use borrow.Author.Needs.{needs}
-use Rattle.reader.specs.Answer.{numberOf}
+use Rattle.reader.specs.Reply.{numberOf}
 use Rattle.decoder.proofs.decode_number.Statement.{statement}
 use Rattle.decoder.proofs.decode_number.Tie as tie
 

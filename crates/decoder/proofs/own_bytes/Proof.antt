@@ -3,7 +3,7 @@ use mathlib.Core.Path.{sym, ap, _∙_}
 use native.Mathlib.Omega.{arith}
 use borrow.Author.Needs.{needs}
 use denote.Ref.{now}
-use Rattle.decoder.specs.Decoding.{decodedAnswer, ownBytes}
+use Rattle.decoder.specs.Decoding.{decodedReply, ownBytes}
 use Rattle.decoder.proofs.Laws.{Within, accepted-within}
 use Rattle.decoder.proofs.own_bytes.Statement.{statement}
 use Rattle.decoder.proofs.own_bytes.Tie as tie
@@ -11,7 +11,7 @@ use Rattle.decoder.proofs.own_bytes.Tie as tie
 within : (c : tie.After-cursor) → Within (now (c .before .before .before .before .args .kernel)) (c .before .before .before .before .args .at) (c .cursor .given .0 .1 .0 .at)
 within c =
     accepted-within _ _ _ _ (λ k. omega (arith, c .before .before .before .shared-slice-known .given k))
-    (sym (c .before .before .decode .ensures) ∙ ap decodedAnswer (c .cursor .given .1))
+    (sym (c .before .before .decode .ensures) ∙ ap decodedReply (c .cursor .given .1))
 
 sub-result : tie.Need-sub-result
 sub-result c = omega (arith, within (c .before) .past)

@@ -1,6 +1,6 @@
 -- `encoder::Encoded::number` meets its contract: each variant is a case of `numberOf`.
 use borrow.Author.Needs.{needs}
-use Rattle.reader.specs.Answer.{numberOf}
+use Rattle.reader.specs.Reply.{numberOf}
 use Rattle.encoder.proofs.Encoded.number.Statement.{statement}
 use Rattle.encoder.proofs.Encoded.number.Tie as tie
 
