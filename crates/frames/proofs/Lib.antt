@@ -3,3 +3,4 @@ pub mod OnceLaws
 pub mod Room
 pub mod Stays
 pub mod VariableLaws
+pub mod VerdictLaws

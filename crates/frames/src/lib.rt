@@ -2,7 +2,6 @@
 ghost use mathlib.Core.Path.{_≡_};
 ghost use Prim.Native.Nat.{_<_};
 ghost use lib.ListN.{drop};
-ghost use lib.Dec.{ltb};
 ghost use Rattle.hex.specs.Bytes.{hexBytes};
 ghost use Rattle.frames.specs.mirror.Reading.{reading};
 ghost use Rattle.frames.specs.mirror.Lent.{lentContents, lentTables};

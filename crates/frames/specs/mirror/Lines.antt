@@ -1,7 +1,6 @@
 -- How a line changes the state of the case. Lines are counted from 1; the first bad one is number 14's position.
 use Prim.Native.Nat.{ℕ, _+_}
 use mathlib.Core.Bool.{Bool, false, cond, not, _||_}
-use mathlib.Core.List.{List}
 use lib.Dec.{ltb}
 use lib.ListN.{getD, set, replicate}
 use Rattle.frames.specs.declared.Settings.{Settings}
