@@ -11,3 +11,6 @@ pub mod NumberLaws
 pub mod ScanLaws
 pub mod WritingLaws
 pub mod DigitLaws
+pub mod ShortLaws
+pub mod AnswerLaws
+pub mod Edges
