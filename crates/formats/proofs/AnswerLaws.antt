@@ -1,11 +1,9 @@
 -- What a caller may know of a number that was read: it is good, so it lies below the number of words or in the range.
-use mathlib.Core.Path.{_≡_, refl, sym, ap, _∙_, subst}
-use mathlib.Core.List.{List, _++_}
+use mathlib.Core.Path.{_≡_, sym, ap, _∙_}
+use mathlib.Core.List.{List}
 use mathlib.Core.Bool.{Bool, true}
-use Prim.Native.Nat.{ℕ, _+_, _≤_, _<_}
-use native.Mathlib.Omega.{arith}
-use lib.ListN.{length, drop}
-use Rattle.formats.specs.Format.{got, Format}
+use Prim.Native.Nat.{ℕ, _≤_, _<_}
+use Rattle.formats.specs.Format.{Format}
 use Rattle.formats.specs.Words.{words, oneOf}
 use Rattle.formats.specs.Numbers.{number}
 use Rattle.formats.specs.Told.{told}

@@ -1,23 +1,23 @@
 -- One turn of the loop over a number's digits, the test that it makes, and the digits written.
 use mathlib.Core.Path.{_≡_, refl, sym, ap, _∙_}
 use mathlib.Core.List.{List, [], _∷_, _++_}
-use mathlib.Core.Bool.{Bool, true, false, cond, _&&_}
-use Prim.Native.Nat.{ℕ, zero, suc, _+_, _*_, _-_, _/_, _%_, _≤_, _<_}
+use mathlib.Core.Bool.{Bool, true, false, cond}
+use Prim.Native.Nat.{ℕ, suc, _+_, _*_, _/_, _%_, _≤_, _<_}
 use native.Mathlib.Omega.{arith}
 use native.Mathlib.Nat.{div-lt-self, mod-lt, div-add-mod', mul-le-mul-right}
 use native.Mathlib.Numerals.{add-one}
 use lib.Dec.{ltb, leb, eqb}
 use lib.ListN.{length, getD, drop, drop-of-length-le}
 use lib.Seq.{drop-cons}
-use borrow.Author.Tests.{leb-true, leb-false, le-leb, lt-leb, lt-ltb, le-ltb}
+use borrow.Author.Tests.{leb-true, leb-false, le-leb, lt-leb, lt-ltb, le-ltb, eq-eqb, ne-eqb}
 use Rattle.hex.specs.Digits.{characterOf}
-use Rattle.formats.specs.Format.{Out, got, stop}
-use Rattle.formats.specs.Numbers.{digits, digitsOf, radixOf}
+use Rattle.formats.specs.Format.{got, stop}
+use Rattle.formats.specs.Numbers.{digits, digitsOf, number, radixOf}
 use Rattle.formats.specs.mirror.Digits.{valueOf, goesOn, moreDigits, begins, numberIn}
 use Rattle.formats.specs.Writing.{wrote, written}
 use Rattle.formats.specs.declared.Base.{Base}
 use Rattle.formats.specs.declared.Base.the-variants as base
-use Rattle.formats.proofs.Tests.{both-left, both-right}
+use Rattle.formats.proofs.Tests.{both-right}
 use Rattle.formats.proofs.NumberLaws.{digits-turns}
 use Rattle.formats.proofs.WritingLaws.{wrote-then}
 
@@ -81,12 +81,23 @@ number-cons : (b low high at c : ℕ) (t : List ℕ) → numberIn b low high at 
 unfolding numberIn
 number-cons b low high at c t = refl
 
-pub number-at : (s : List ℕ) (b low high at : ℕ) → at < length s →
-    numberIn b low high at (drop at s) ≡ cond (begins b low high (valueOf (getD s at 0))) (cond (eqb (valueOf (getD s at 0)) 0) (got 0 (at + 1)) (moreDigits b high (valueOf (getD s at 0)) (at + 1) (drop (at + 1) s))) (stop at)
-number-at s b low high at h = rw (add-one at, drop-cons s at 0 h) (number-cons b low high at (getD s at 0) (drop (suc at) s) ∙ rw (add-one at))
+number-at : (s : List ℕ) (b low high at d : ℕ) → at < length s → d ≡ valueOf (getD s at 0) →
+    number b low high .read s at ≡ cond (begins b low high d) (cond (eqb d 0) (got 0 (at + 1)) (moreDigits b high d (at + 1) (drop (at + 1) s))) (stop at)
+unfolding number
+number-at s b low high at d h e = rw (add-one at, drop-cons s at 0 h, e) (number-cons b low high at (getD s at 0) (drop (suc at) s) ∙ rw (add-one at))
 
-pub number-end : (s : List ℕ) (b low high at : ℕ) → length s ≤ at → numberIn b low high at (drop at s) ≡ stop at
-unfolding numberIn
+module _ (s : List ℕ) (b low high at d : ℕ) (g : Bool) (inside : at < length s) (digit : d ≡ valueOf (getD s at 0)) (test : g ≡ begins b low high d) where
+  pub number-zero : g ≡ true → d ≡ 0 → got 0 (at + 1) ≡ number b low high .read s at
+  number-zero h e = sym (number-at s b low high at d inside digit ∙ rw (← test, h, eq-eqb d 0 e))
+
+  pub number-more : g ≡ true → (d ≡ 0 → ⊥) → moreDigits b high d (at + 1) (drop (at + 1) s) ≡ number b low high .read s at
+  number-more h n = sym (number-at s b low high at d inside digit ∙ rw (← test, h, ne-eqb d 0 n))
+
+  pub number-none : g ≡ false → stop at ≡ number b low high .read s at
+  number-none h = sym (number-at s b low high at d inside digit ∙ rw (← test, h))
+
+pub number-end : (s : List ℕ) (b low high at : ℕ) → length s ≤ at → stop at ≡ number b low high .read s at
+unfolding number numberIn
 number-end s b low high at h = rw (drop-of-length-le s h)
 
 -- ---- the digits written

@@ -1,15 +1,11 @@
 -- What may stand behind a format: its text may not go on into the next one's.
-use mathlib.Core.Path.{_≡_, refl, sym, ap, _∙_, subst}
-use mathlib.Core.List.{List, [], _∷_, _++_, append-assoc}
-use mathlib.Core.Logic.{_⊎_, inl, inr, ⊎-elim}
-use mathlib.Core.Bool.{Bool, true, false, cond, _&&_}
-use Prim.Native.Nat.{ℕ, _+_, _≤_}
-use native.Mathlib.Omega.{arith}
-use lib.ListN.{length, drop, length-append}
-use Rattle.formats.specs.Format.{Out, got, stop, onOut, Format, pair, through, blank}
-use Rattle.formats.specs.mirror.Scan.{common}
-use Rattle.formats.proofs.Tests.{both, both-left, both-right}
-use Rattle.formats.proofs.Agree.{same, ends, same-append, common-append, common-more}
+use mathlib.Core.Path.{_≡_}
+use mathlib.Core.List.{List, _++_, append-assoc}
+use mathlib.Core.Bool.{Bool, true, false, cond}
+use Prim.Native.Nat.{ℕ}
+use Rattle.formats.specs.Format.{Format, pair, through, blank}
+use Rattle.formats.proofs.Tests.{both-left}
+use Rattle.formats.proofs.Agree.{ends}
 use Rattle.formats.proofs.Law.{free, ends-free}
 
 -- what g prints, with anything that may follow it, does not begin with a character that may not follow f

@@ -1,15 +1,13 @@
 -- The law of a format: what `read` answers, for every text and position, told by `print` and `good` alone.
-use mathlib.Core.Path.{_≡_, refl, sym, ap, _∙_, subst}
-use mathlib.Core.List.{List, [], _∷_, _++_, append-assoc}
-use mathlib.Core.Logic.{_⊎_, inl, inr, ⊎-elim}
-use mathlib.Core.Bool.{Bool, true, false, cond, _&&_}
+use mathlib.Core.Path.{_≡_, refl, subst}
+use mathlib.Core.List.{List, [], _∷_, _++_}
+use mathlib.Core.Logic.{_⊎_}
+use mathlib.Core.Bool.{Bool, true, false}
 use Prim.Native.Nat.{ℕ, _+_, _≤_}
-use native.Mathlib.Omega.{arith}
-use lib.ListN.{length, drop, length-append}
-use Rattle.formats.specs.Format.{Out, got, stop, onOut, Format, pair, through, blank}
+use lib.ListN.{length, drop}
+use Rattle.formats.specs.Format.{Out, got, stop, Format}
 use Rattle.formats.specs.mirror.Scan.{common}
-use Rattle.formats.proofs.Tests.{both, both-left, both-right}
-use Rattle.formats.proofs.Agree.{same, ends, same-append, common-append, common-more}
+use Rattle.formats.proofs.Agree.{same, ends}
 
 -- `m` are the characters that may not follow a value's text. A value is read where its text stands, and every other value's text parts
 -- from what stands there by the end of it.

@@ -8,7 +8,7 @@ use native.Mathlib.Numerals.{add-one}
 use lib.Dec.{eqb, ltb}
 use lib.ListN.{length, drop, getD, length-drop, drop-of-length-le}
 use lib.Seq.{drop-cons, drop-drop}
-use borrow.Author.Tests.{eqb-true, eqb-false, eq-eqb, ne-eqb, ltb-true, ltb-false}
+use borrow.Author.Tests.{eqb-true, eqb-false, eq-eqb, ne-eqb, ltb-true, ltb-false, lt-ltb}
 use Rattle.formats.specs.Format.{got, stop}
 use Rattle.formats.specs.Words.{ahead, words, wordAt, oneOf}
 use Rattle.formats.specs.mirror.Scan.{common, wordOf, inWord, alikeAt, better, scan, noWord, chosen, wordIn}
@@ -179,6 +179,10 @@ word-got p s at b e f = rw (← e, f)
 pub word-missed : (p s : List ℕ) (at : ℕ) (b : Best) → b ≡ scan (words p) (drop at s) 0 noWord → b .full ≡ false → stop (at + b .reach) ≡ oneOf (words p) .read s at
 unfolding oneOf wordIn chosen
 word-missed p s at b e f = rw (← e, f)
+
+pub better-longer : (b : Best) (n : ℕ) (full : Bool) (i : ℕ) → b .reach < n → record { reach = n; full = full; word = i } ≡ better b n full i
+unfolding better
+better-longer b n full i h = rw (lt-ltb (b .reach) n h)
 
 -- ---- the word of a number
 

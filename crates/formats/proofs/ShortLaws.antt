@@ -1,6 +1,6 @@
 -- Bounds on the length of a printed text, one for each way to make a format.
-use mathlib.Core.Path.{_≡_, refl, sym, ap, _∙_}
-use mathlib.Core.List.{List, [], _∷_, _++_}
+use mathlib.Core.Path.{_≡_, ap, _∙_}
+use mathlib.Core.List.{List, [], _∷_}
 use mathlib.Core.Bool.{Bool, true, false, cond, _&&_}
 use Prim.Native.Nat.{ℕ, zero, suc, _+_, _*_, _^_, _/_, _%_, _≤_, _<_}
 use native.Mathlib.Omega.{arith}
@@ -11,7 +11,7 @@ use borrow.Author.Tests.{ltb-true, ltb-false, leb-true}
 use Rattle.hex.specs.Digits.{characterOf}
 use Rattle.formats.specs.Format.{Format, pair, through, blank}
 use Rattle.formats.specs.Words.{words, wordAt, oneOf, table, before, after}
-use Rattle.formats.specs.Numbers.{digits, digitsOf, number}
+use Rattle.formats.specs.Numbers.{digits, number}
 use Rattle.formats.proofs.Tests.{both-left, both-right, cond-then}
 use Rattle.formats.proofs.Following.{Matches}
 use Rattle.formats.proofs.AroundLaws.{matches-before, matches-after}

@@ -1,13 +1,13 @@
 -- Texts written one after another are one text written, whatever the buffer's length; where there is room, all of it stands there.
 use mathlib.Core.Path.{_≡_, refl, sym, ap, _∙_}
 use mathlib.Core.List.{List, [], _∷_, _++_}
-use mathlib.Core.Bool.{Bool, true, false, cond}
-use Prim.Native.Nat.{ℕ, suc, _+_, _-_, _≤_, _<_}
+use mathlib.Core.Bool.{Bool, true, false}
+use Prim.Native.Nat.{ℕ, suc, _+_, _≤_, _<_}
 use native.Mathlib.Omega.{arith}
 use lib.Dec.{ltb}
-use lib.ListN.{length, set, take, drop, length-set, length-append}
+use lib.ListN.{length, set, take, drop, length-append}
 use lib.Seq.{set-out, take-at}
-use borrow.Author.Tests.{ltb-true, ltb-false, lt-ltb, le-ltb}
+use borrow.Author.Tests.{ltb-true, ltb-false, le-ltb}
 use Rattle.hex.specs.Storing.{placed}
 use Rattle.hex.proofs.StoringLaws.{length-placed, placed-is}
 use Rattle.formats.specs.Writing.{within, Written, wrote, written}

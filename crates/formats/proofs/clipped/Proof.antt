@@ -1,7 +1,5 @@
 -- `formats::clipped` meets its contract: at each return, what the calls and tests on the way say picks the case of `Writing`.
-use mathlib.Core.Path.{refl}
-use borrow.Author.Needs.{needs}
-use borrow.Author.Tests.{lt-ltb, le-ltb, le-leb, lt-leb, eq-eqb, ne-eqb}
+use borrow.Author.Tests.{lt-ltb, le-ltb}
 use Rattle.formats.specs.Writing.{within}
 use Rattle.formats.proofs.clipped.Statement.{statement}
 use Rattle.formats.proofs.clipped.Tie as tie

@@ -1,7 +1,6 @@
 -- `formats::goes_on` meets its contract: at each return, what the calls and tests on the way say picks the case of `mirror.Digits`.
 use mathlib.Core.Path.{sym}
-use borrow.Author.Needs.{needs}
-use borrow.Author.Tests.{lt-ltb, le-ltb, le-leb, lt-leb, eq-eqb, ne-eqb}
+use borrow.Author.Tests.{lt-ltb, le-ltb}
 use Rattle.formats.specs.mirror.Digits.{goesOn}
 use Rattle.formats.proofs.DigitLaws.{goes-below, goes-level, goes-above}
 use Rattle.formats.proofs.goes_on.Statement.{statement}

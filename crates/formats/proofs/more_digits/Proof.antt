@@ -1,10 +1,9 @@
 -- `formats::more_digits` meets its contract. The invariant: reading on from here comes to what reading on from the start comes to.
 use mathlib.Core.Path.{_≡_, refl, sym, _∙_}
-use Prim.Native.Nat.{ℕ, _+_, _*_, _-_, _≤_, _<_}
+use Prim.Native.Nat.{_-_}
 use native.Mathlib.Omega.{arith}
 use native.Mathlib.Nat.{mod-lt}
 use borrow.Author.Needs.{needs}
-use denote.Ref.{now}
 use lib.ListN.{length, drop}
 use Rattle.formats.specs.mirror.Digits.{moreDigits}
 use Rattle.formats.proofs.DigitLaws.{digits-fit, digits-go, digits-stop, digits-end}

@@ -1,7 +1,5 @@
 -- `formats::put_digit` meets its contract: at each return, what the calls and tests on the way say picks the case of `Writing`.
-use mathlib.Core.Path.{refl}
 use borrow.Author.Needs.{needs}
-use borrow.Author.Tests.{lt-ltb, le-ltb, le-leb, lt-leb, eq-eqb, ne-eqb}
 use Rattle.formats.proofs.put_digit.Statement.{statement}
 use Rattle.formats.proofs.put_digit.Tie as tie
 

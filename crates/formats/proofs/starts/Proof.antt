@@ -1,7 +1,5 @@
 -- `formats::starts` meets its contract: at each return, what the calls and tests on the way say picks the case of `mirror.Digits`.
-use mathlib.Core.Path.{refl}
-use borrow.Author.Needs.{needs}
-use borrow.Author.Tests.{lt-ltb, le-ltb, le-leb, lt-leb, eq-eqb, ne-eqb}
+use borrow.Author.Tests.{lt-ltb, le-ltb, le-leb, lt-leb}
 use Rattle.formats.specs.mirror.Digits.{begins}
 use Rattle.formats.proofs.starts.Statement.{statement}
 use Rattle.formats.proofs.starts.Tie as tie

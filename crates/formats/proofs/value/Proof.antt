@@ -1,7 +1,6 @@
 -- `formats::value` meets its contract: at each return, what the calls and tests on the way say picks the case of `mirror.Digits`.
 use mathlib.Core.Path.{sym, _∙_}
 use borrow.Author.Needs.{needs}
-use borrow.Author.Tests.{lt-ltb, le-ltb, le-leb, lt-leb, eq-eqb, ne-eqb}
 use Rattle.formats.specs.mirror.Digits.{valueOf}
 use Rattle.hex.proofs.DigitLaws.{decimal-between, letter-between}
 use Rattle.formats.proofs.value.Statement.{statement}

@@ -1,15 +1,12 @@
 -- `formats::with_word` meets its contract: at each return, what the calls and tests on the way say picks the case of `mirror.Scan`.
-use mathlib.Core.Path.{refl}
-use borrow.Author.Needs.{needs}
-use borrow.Author.Tests.{lt-ltb, le-ltb, le-leb, lt-leb, eq-eqb, ne-eqb}
+use borrow.Author.Tests.{le-ltb, eq-eqb, ne-eqb}
 use Rattle.formats.specs.mirror.Scan.{better}
+use Rattle.formats.proofs.ScanLaws.{better-longer}
 use Rattle.formats.proofs.with_word.Statement.{statement}
 use Rattle.formats.proofs.with_word.Tie as tie
 
 returns : tie.Need-returns
-unfolding better
-returns c =
-    rw (lt-ltb _ _ (c .if1 .taken))
+returns c = let a = c .before .before .args in better-longer (a .b) (a .n) (a .full) (a .word) (c .if1 .taken)
 
 returns-2 : tie.Need-returns-2
 unfolding better

@@ -1,6 +1,6 @@
 -- `formats::Cursor::one_of` meets its contract. The invariant: the walk over the words left comes to what the walk over all comes to.
 use mathlib.Core.Path.{_≡_, refl, sym, _∙_}
-use Prim.Native.Nat.{ℕ, _+_, _-_, _≤_, _<_}
+use Prim.Native.Nat.{_-_, _≤_}
 use native.Mathlib.Omega.{arith}
 use borrow.Author.Needs.{needs}
 use denote.Ref.{now}
