@@ -1,7 +1,6 @@
 -- The bounds of numbers that were read, by which the code's sums and casts fit.
 use mathlib.Core.Path.{_≡_, refl}
 use mathlib.Core.List.{List}
-use mathlib.Core.Bool.{true}
 use Prim.Native.Nat.{ℕ, _+_, _≤_, _<_}
 use native.Mathlib.Omega.{arith}
 use Rattle.hex.specs.Digits.{isDecimal, isLetter}

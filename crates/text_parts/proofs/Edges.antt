@@ -1,6 +1,5 @@
 -- Parts at their edges: texts that are read, and the position (from 0) at which others stop.
 use mathlib.Core.Path.{_≡_, refl}
-use mathlib.Core.List.{List}
 use Prim.Native.Nat.{ℕ}
 use Prim.Native.String.{String}
 use Rattle.hex.specs.Digits.{isDecimal, isLetter, characterOf}
@@ -17,7 +16,7 @@ use Rattle.text_parts.specs.Predicate.{ending, idAndEnding, predicate}
 use Rattle.text_parts.specs.Exec.{maskParts, mask, execOf, exec, scatterExec}
 use Rattle.text_parts.specs.Fields.{decimal, hexadecimal}
 use Rattle.text_parts.specs.Raw.{rawParts, raw}
-use Rattle.text_parts.specs.Immediate.{typeOf, codeAt, placeOf, immediateParts, immediate}
+use Rattle.text_parts.specs.Immediate.{typeOf, codeAt, immediateParts, immediate}
 
 -- ---- the predicate
 

@@ -7,7 +7,6 @@ use native.Mathlib.Omega.{arith}
 use Rattle.formats.specs.Text.{text}
 use Rattle.formats.specs.Format.{through}
 use Rattle.formats.specs.Words.{after}
-use Rattle.formats.specs.Numbers.{number}
 use Rattle.formats.specs.mirror.Digits.{isDigit}
 use Rattle.formats.proofs.Law.{Lawful, free}
 use Rattle.formats.proofs.TableTests.{sound, opens, single}

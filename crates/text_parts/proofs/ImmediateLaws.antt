@@ -1,5 +1,5 @@
 -- The text of an immediate is a lawful format.
-use mathlib.Core.Path.{_≡_, refl, sym, ap, _∙_, subst}
+use mathlib.Core.Path.{_≡_, refl, sym, ap, _∙_}
 use mathlib.Core.List.{List}
 use mathlib.Core.Logic.{_⊎_, inl, inr}
 use mathlib.Core.Bool.{Bool, true, false, cond, _&&_, _||_, true≢false}
@@ -10,7 +10,7 @@ use borrow.Author.Tests.{eqb-true, eqb-false, eq-eqb, ne-eqb, ltb-true, ltb-fals
 use Rattle.hex.specs.Digits.{isDecimal, isLetter}
 use Rattle.formats.specs.Text.{text}
 use Rattle.formats.specs.Format.{pair, through}
-use Rattle.formats.specs.Words.{words, oneOf, table, before}
+use Rattle.formats.specs.Words.{table, before}
 use Rattle.formats.specs.Numbers.{number}
 use Rattle.formats.specs.mirror.Digits.{isDigit, valueOf}
 use Rattle.formats.proofs.Tests.{both, both-left, both-right, cond-then}
@@ -21,7 +21,7 @@ use Rattle.formats.proofs.TableTests.{sound, opens, single, size, table-under}
 use Rattle.formats.proofs.WordLaws.{table-lawful, begins-table}
 use Rattle.formats.proofs.AroundLaws.{before-lawful}
 use Rattle.formats.proofs.NumberLaws.{number-lawful, number-under}
-use Rattle.element_types.specs.Types.{UD, D, UW, W, UB, B, F, UQ, sizeOf, isListed, hasHighWord}
+use Rattle.element_types.specs.Types.{sizeOf, isListed, hasHighWord}
 use Rattle.field_groups.specs.declared.Immediate.{Immediate}
 use Rattle.text_parts.specs.Immediate.{types, wideTypes, typeOf, codeAt, placeOf, immediateTo, immediateFrom, immediateParts, immediateFits, immediate}
 use Rattle.text_parts.proofs.PartLaws.{in-table, in-range}
@@ -31,6 +31,15 @@ use Rattle.text_parts.proofs.PartLaws.{in-table, in-range}
 pub type-lawful : (n : ℕ) → Lawful (typeOf n) free
 unfolding typeOf sound
 type-lawful n = cond-lawful (ltb n 4294967296) (table-lawful types free refl) (table-lawful wideTypes free refl)
+
+-- the words that the code gives
+pub type-narrow : (n : ℕ) (s : List ℕ) (at : ℕ) → n < 4294967296 → table types .read s at ≡ typeOf n .read s at
+unfolding typeOf
+type-narrow n s at h = rw (lt-ltb n 4294967296 h)
+
+pub type-wide : (n : ℕ) (s : List ℕ) (at : ℕ) → 4294967296 ≤ n → table wideTypes .read s at ≡ typeOf n .read s at
+unfolding typeOf
+type-wide n s at h = rw (le-ltb n 4294967296 h)
 
 type-begins : (n : ℕ) → Begins (isDigit 16) (typeOf n)
 unfolding typeOf opens isDigit valueOf isDecimal isLetter

@@ -1,5 +1,5 @@
 -- The predicate's text is a lawful format: which words have a text, and that each has its own.
-use mathlib.Core.Path.{_≡_, refl, sym, ap, _∙_, subst}
+use mathlib.Core.Path.{_≡_, refl, sym, _∙_, subst}
 use mathlib.Core.Bool.{Bool, true, false, cond, _&&_, true≢false}
 use Prim.Native.Nat.{ℕ, _+_, _*_, _-_, _/_, _%_, _≤_, _<_}
 use native.Mathlib.Omega.{arith}
@@ -157,3 +157,11 @@ predicate-matches =
 pub predicate-lawful : Lawful predicate bracket
 unfolding predicate
 predicate-lawful = through-lawful (pair-lawful openings-lawful id-and-ending-lawful id-and-ending-follows) predicate-matches
+
+-- ---- the test of the code
+
+pub plain-first : (opening id : ℕ) → opening ≡ 1 → eqb id 0 ≡ (eqb opening 1 && eqb id 0)
+plain-first opening id e = rw (eq-eqb opening 1 e)
+
+pub not-plain-first : (opening id : ℕ) → (opening ≡ 1 → ⊥) → false ≡ (eqb opening 1 && eqb id 0)
+not-plain-first opening id n = rw (ne-eqb opening 1 n)

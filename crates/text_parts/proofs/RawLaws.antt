@@ -1,7 +1,5 @@
 -- The text of a raw operand is a lawful format, behind which no digit may stand.
-use mathlib.Core.Path.{_≡_, refl}
-use mathlib.Core.Bool.{true, _&&_}
-use Prim.Native.Nat.{ℕ}
+use mathlib.Core.Path.{refl}
 use native.Mathlib.Omega.{arith}
 use lib.Dec.{leb}
 use borrow.Author.Tests.{leb-true, le-leb}
@@ -21,7 +19,7 @@ use Rattle.formats.proofs.NumberLaws.{number-lawful, number-under}
 use Rattle.text_parts.specs.Fields.{decimal}
 use Rattle.text_parts.specs.Raw.{rawTo, rawFrom, rawParts, rawFits, raw}
 use Rattle.text_parts.proofs.PartLaws.{in-range}
-use Rattle.text_parts.proofs.FieldLaws.{decimal-lawful, decimal-between}
+use Rattle.text_parts.proofs.FieldLaws.{decimal-lawful}
 
 raw-parts-lawful : Lawful rawParts (isDigit 10)
 unfolding rawParts sound single opens isDigit valueOf isDecimal isLetter

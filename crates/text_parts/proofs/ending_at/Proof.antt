@@ -1,7 +1,5 @@
 -- `text_parts::ending_at` meets its contract: at each return, what the calls and tests on the way say picks the case of `Predicate`.
-use mathlib.Core.Path.{refl}
 use borrow.Author.Needs.{needs}
-use borrow.Author.Tests.{lt-ltb, le-ltb, le-leb, lt-leb, eq-eqb, ne-eqb}
 use Rattle.text_parts.specs.Predicate.{ending}
 use Rattle.text_parts.proofs.ending_at.Statement.{statement}
 use Rattle.text_parts.proofs.ending_at.Tie as tie

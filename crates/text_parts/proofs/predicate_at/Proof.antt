@@ -1,7 +1,7 @@
 -- `text_parts::predicate_at` meets its contract: at each return, what the calls and tests on the way say picks the case of `Predicate`.
 use native.Mathlib.Nat.{pos-of-ne-zero}
 use borrow.Author.Needs.{needs}
-use borrow.Author.Tests.{lt-ltb, le-ltb, le-leb, lt-leb, eq-eqb, ne-eqb}
+use borrow.Author.Tests.{eq-eqb, ne-eqb}
 use Rattle.formats.specs.Format.{pair, through, blank}
 use Rattle.text_parts.specs.Predicate.{predicate, idAndEnding}
 use Rattle.text_parts.proofs.BoundLaws.{opening-bound, id-bound, ending-bound}

@@ -1,7 +1,6 @@
 -- `text_parts::type_code` meets its contract: at each return, what the calls and tests on the way say picks the case of `Immediate`.
-use mathlib.Core.Path.{refl}
 use borrow.Author.Needs.{needs}
-use borrow.Author.Tests.{lt-ltb, le-ltb, le-leb, lt-leb, eq-eqb, ne-eqb}
+use borrow.Author.Tests.{eq-eqb, ne-eqb}
 use Rattle.text_parts.specs.Immediate.{codeAt}
 use Rattle.text_parts.proofs.type_code.Statement.{statement}
 use Rattle.text_parts.proofs.type_code.Tie as tie
