@@ -36,7 +36,8 @@ pub enum ImmediateRead {
     Stop(usize),
 }
 
-fn is_plain_first(opening: u64, id: u64) -> bool
+// Whether a predicate that opens so and has this id would be the word 0, if it ended at once.
+pub fn is_plain_first(opening: u64, id: u64) -> bool
     ensures { λ r. ⌜ r ≡ (eqb opening 1 && eqb id 0) ⌝ }
 {
     if opening == 1 { id == 0 } else { false }
