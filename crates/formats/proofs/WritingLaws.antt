@@ -100,6 +100,13 @@ wrote-then l at t u e m d n p q =
     (written-end m (at + length t) u ∙ ap (λ (r : ℕ). within r (at + length t + length u)) k ∙ ap (within (length l)) a ∙ sym (written-end l at (t ++ u)))
     (written-buffer m (at + length t) u ∙ ap (λ (b : List ℕ). placed b (at + length t) u) y ∙ sym (placed-append l at t u) ∙ sym (written-buffer l at (t ++ u)))
 
+-- the pieces of a text, written one after another
+pub wrote-two : (l : List ℕ) (at : ℕ) (t u v : List ℕ) (e : ℕ) (m : List ℕ) (d : ℕ) (n : List ℕ) → wrote e m ≡ written l at t → wrote d n ≡ written m e u → v ≡ t ++ u → wrote d n ≡ written l at v
+wrote-two l at t u v e m d n p q k = wrote-then l at t u e m d n p q ∙ ap (written l at) (sym k)
+
+pub wrote-three : (l : List ℕ) (at : ℕ) (t u w v : List ℕ) (e : ℕ) (m : List ℕ) (d : ℕ) (n : List ℕ) (f : ℕ) (o : List ℕ) → wrote e m ≡ written l at t → wrote d n ≡ written m e u → wrote f o ≡ written n d w → v ≡ t ++ (u ++ w) → wrote f o ≡ written l at v
+wrote-three l at t u w v e m d n f o p q r k = wrote-two l at t (u ++ w) v e m f o p (wrote-then m e u w d n f o q r) k
+
 -- nothing is written
 pub wrote-none : (l t : List ℕ) (at : ℕ) → at ≤ length l → t ≡ [] → wrote at l ≡ written l at t
 unfolding written placed

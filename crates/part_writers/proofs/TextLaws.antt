@@ -1,6 +1,6 @@
 -- What the text of each part is made of, piece by piece as the code writes it.
-use mathlib.Core.Path.{_≡_, refl, sym, ap, _∙_}
-use mathlib.Core.List.{List, [], _∷_, _++_}
+use mathlib.Core.Path.{_≡_, refl, ap}
+use mathlib.Core.List.{List, _++_}
 use mathlib.Core.Bool.{Bool, true, false, _&&_}
 use lib.Dec.{eqb}
 use Prim.Native.Nat.{ℕ, _+_, _*_, _-_, _/_, _%_, _≤_, _<_}
@@ -11,8 +11,6 @@ use Rattle.formats.specs.Text.{text}
 use Rattle.formats.specs.Format.{pair, through, blank}
 use Rattle.formats.specs.Words.{words, wordAt, oneOf, before, after}
 use Rattle.formats.specs.Numbers.{digitsOf, number}
-use Rattle.formats.specs.Writing.{wrote, written}
-use Rattle.formats.proofs.WritingLaws.{wrote-then}
 use Rattle.field_groups.specs.declared.Raw.{Raw}
 use Rattle.field_groups.specs.declared.Immediate.{Immediate}
 use Rattle.text_parts.specs.Predicate.{openings, endings, groupEndings, ending, idAndEnding, predicate}
@@ -20,14 +18,6 @@ use Rattle.text_parts.specs.Exec.{maskEndings, sizes, scatterSizes, maskParts, 
 use Rattle.text_parts.specs.Fields.{decimal, hexadecimal}
 use Rattle.text_parts.specs.Raw.{rawParts, raw}
 use Rattle.text_parts.specs.Immediate.{types, wideTypes, typeOf, placeOf, immediateParts, immediate}
-
--- ---- pieces written one after another are the text that they make
-
-pub two-pieces : (l : List ℕ) (at : ℕ) (t u v : List ℕ) (e : ℕ) (m : List ℕ) (d : ℕ) (n : List ℕ) → wrote e m ≡ written l at t → wrote d n ≡ written m e u → v ≡ t ++ u → wrote d n ≡ written l at v
-two-pieces l at t u v e m d n p q k = wrote-then l at t u e m d n p q ∙ ap (written l at) (sym k)
-
-pub three-pieces : (l : List ℕ) (at : ℕ) (t u w v : List ℕ) (e : ℕ) (m : List ℕ) (d : ℕ) (n : List ℕ) (f : ℕ) (o : List ℕ) → wrote e m ≡ written l at t → wrote d n ≡ written m e u → wrote f o ≡ written n d w → v ≡ t ++ (u ++ w) → wrote f o ≡ written l at v
-three-pieces l at t u w v e m d n f o p q r k = two-pieces l at t (u ++ w) v e m f o p (wrote-then m e u w d n f o q r) k
 
 -- ---- the predicate
 

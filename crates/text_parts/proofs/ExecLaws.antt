@@ -33,7 +33,7 @@ mask-parts-lawful =
     before-lawful (text "(M|") refl refl
     (pair-lawful (number-lawful 10 1 8 (omega arith) (omega arith) (omega arith) (omega arith)) (λ _. table-lawful maskEndings free refl) (follows-begins (λ _. begins-table maskEndings (isDigit 10) refl)))
 
-mask-matches : Matches {A = ℕ × ℕ} (λ v. v .0 - 1 + 8 * v .1) (λ m. (m % 8 + 1, m / 8)) (λ m. ltb m 16) maskParts
+pub mask-matches : Matches {A = ℕ × ℕ} (λ v. v .0 - 1 + 8 * v .1) (λ m. (m % 8 + 1, m / 8)) (λ m. ltb m 16) maskParts
 unfolding maskParts before through pair size
 mask-matches =
     record {
@@ -89,10 +89,6 @@ module _ (p : List ℕ) (first count : ℕ) (fits : ℕ → Bool) (words-are : s
           let w : first + z - first ≡ z = omega arith in
           (good (m * 16 + (first + z)) (omega (arith, l, h)) (omega (arith, y)) (omega (arith, y, g, words-are)), λ i. (x i, (ap (λ (n : ℕ). n - first) y ∙ w) i))
 
-  size-lawful : sound free p ≡ true → Lawful (execOf first p fits) free
-  unfolding execOf
-  size-lawful e = through-lawful (pair-lawful mask-lawful (λ _. table-lawful p free e) follows-free) size-matches
-
 -- ---- all sizes
 
 exec-told : (e : ℕ) → execFits e ≡ true → (e < 256) × (0 ≤ e % 16) × (e % 16 < 0 + 6)
@@ -110,9 +106,13 @@ exec-good e h _ k =
     both (ltb e 256) (eqb (e / 8 % 2) 0 && ltb (e % 8) 6) (lt-ltb e 256 h)
     (both (eqb (e / 8 % 2) 0) (ltb (e % 8) 6) (eq-eqb (e / 8 % 2) 0 (omega (arith, k))) (lt-ltb (e % 8) 6 (omega (arith, k))))
 
+pub exec-matches : Matches {A = ℕ × ℕ} (λ v. v .0 * 16 + (0 + v .1)) (λ e. (e / 16, e % 16 - 0)) execFits (pair mask (λ _. table sizes))
+unfolding size
+exec-matches = size-matches sizes 0 6 execFits refl (omega arith) exec-told exec-good
+
 pub exec-lawful : Lawful exec free
-unfolding exec sound size
-exec-lawful = size-lawful sizes 0 6 execFits refl (omega arith) exec-told exec-good refl
+unfolding exec execOf sound
+exec-lawful = through-lawful (pair-lawful mask-lawful (λ _. table-lawful sizes free refl) follows-free) exec-matches
 
 -- ---- a scatter's
 
@@ -145,6 +145,10 @@ scatter-good e h g k =
         rest : (e % 8 ≡ 3 → ⊥) → e % 8 ≡ 4
         rest n = omega (arith, n, g, k)
 
+pub scatter-exec-matches : Matches {A = ℕ × ℕ} (λ v. v .0 * 16 + (3 + v .1)) (λ e. (e / 16, e % 16 - 3)) scatterExecFits (pair mask (λ _. table scatterSizes))
+unfolding size
+scatter-exec-matches = size-matches scatterSizes 3 2 scatterExecFits refl (omega arith) scatter-told scatter-good
+
 pub scatter-exec-lawful : Lawful scatterExec free
-unfolding scatterExec sound size
-scatter-exec-lawful = size-lawful scatterSizes 3 2 scatterExecFits refl (omega arith) scatter-told scatter-good refl
+unfolding scatterExec execOf sound
+scatter-exec-lawful = through-lawful (pair-lawful mask-lawful (λ _. table-lawful scatterSizes free refl) follows-free) scatter-exec-matches

@@ -208,7 +208,7 @@ fits-made c l u e h k z =
     (both (ltb l 4294967296) (ltb u 4294967296 && (hasHighWord c || eqb u 0)) (lt-ltb l 4294967296 h)
     (both (ltb u 4294967296) (hasHighWord c || eqb u 0) (lt-ltb u 4294967296 k) z))
 
-immediate-matches : Matches immediateTo immediateFrom immediateFits immediateParts
+pub immediate-matches : Matches immediateTo immediateFrom immediateFits immediateParts
 unfolding immediateParts before through pair
 immediate-matches =
     record {

@@ -6,3 +6,4 @@ pub mod RawLaws
 pub mod ImmediateLaws
 pub mod BoundLaws
 pub mod Edges
+pub mod LengthLaws

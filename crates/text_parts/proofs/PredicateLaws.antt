@@ -146,7 +146,7 @@ predicate-out p h = told (eqb p 0) refl
     told true e = (rw (in-table openings 0 (omega arith)), sym (eqb-true p 0 e))
     told false e = on (1 + p / 32768) (p % 4096) ((p / 8192 % 4 + 2) % 3) (p / 8192 % 4) refl refl refl refl (eqb-false p 0 e)
 
-predicate-matches : Matches predicateTo predicateFrom predicateFits (pair (table openings) idAndEnding)
+pub predicate-matches : Matches predicateTo predicateFrom predicateFits (pair (table openings) idAndEnding)
 unfolding pair size
 predicate-matches =
     record {

@@ -27,7 +27,7 @@ raw-parts-lawful =
     before-lawful (text "v|") refl refl
     (pair-lawful (decimal-lawful 0 65535 (text ".|") (omega arith) (omega arith) refl refl refl) (λ _. number-lawful 10 0 65535 (omega arith) (omega arith) (omega arith) (omega arith)) follows-free)
 
-raw-matches : Matches rawTo rawFrom rawFits rawParts
+pub raw-matches : Matches rawTo rawFrom rawFits rawParts
 unfolding rawParts before through pair rawFits decimal after
 raw-matches =
     record {

@@ -1,7 +1,6 @@
 -- `part_writers::type_place` meets its contract: at each return, what the calls and tests on the way say picks the case of `placeOf`.
-use mathlib.Core.Path.{refl}
 use borrow.Author.Needs.{needs}
-use borrow.Author.Tests.{lt-ltb, le-ltb, le-leb, lt-leb, eq-eqb, ne-eqb}
+use borrow.Author.Tests.{eq-eqb, ne-eqb}
 use Rattle.text_parts.specs.Immediate.{placeOf}
 use Rattle.part_writers.proofs.type_place.Statement.{statement}
 use Rattle.part_writers.proofs.type_place.Tie as tie
