@@ -91,7 +91,7 @@ module _ (p : List ℕ) (first count : ℕ) (fits : ℕ → Bool) (words-are : s
 
 -- ---- all sizes
 
-exec-told : (e : ℕ) → execFits e ≡ true → (e < 256) × (0 ≤ e % 16) × (e % 16 < 0 + 6)
+pub exec-told : (e : ℕ) → execFits e ≡ true → (e < 256) × (0 ≤ e % 16) × (e % 16 < 0 + 6)
 unfolding execFits execGood
 exec-told e h =
     let k = ltb-true e 256 (both-left (ltb e 256) (eqb (e / 8 % 2) 0 && ltb (e % 8) 6) h) in
@@ -120,7 +120,7 @@ one-or-other : (a b : Bool) → (a || b) ≡ true → (a ≡ true) ⊎ (b ≡ tr
 one-or-other true b e = inl refl
 one-or-other false b e = inr e
 
-scatter-told : (e : ℕ) → scatterExecFits e ≡ true → (e < 256) × (3 ≤ e % 16) × (e % 16 < 3 + 2)
+pub scatter-told : (e : ℕ) → scatterExecFits e ≡ true → (e < 256) × (3 ≤ e % 16) × (e % 16 < 3 + 2)
 unfolding scatterExecFits scatterExecGood
 scatter-told e h =
     let k = ltb-true e 256 (both-left (ltb e 256) (eqb (e / 8 % 2) 0 && (eqb (e % 8) 3 || eqb (e % 8) 4)) h) in

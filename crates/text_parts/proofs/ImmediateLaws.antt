@@ -63,7 +63,7 @@ type-fits n k h g = told (ltb n 4294967296) refl
 
 -- ---- codes
 
-abbrev Code : ℕ → Type 0
+abbrev pub Code : ℕ → Type 0
 Code c = (c < 6) ⊎ ((c ≡ 7) ⊎ (c ≡ 11))
 
 size-code : (c : ℕ) → 0 < sizeOf c → Code c
@@ -79,7 +79,7 @@ size-code c =
     (λ _. cond-then P (eqb c 5) (λ e _. inl (omega (arith, eqb-true c 5 e)))
     (λ _. cond-then P (eqb c 11) (λ e _. inr (inr (eqb-true c 11 e))) (λ _ h. absurd (omega (arith, h))))))))))
 
-listed-code : (c : ℕ) → isListed c ≡ true → Code c
+pub listed-code : (c : ℕ) → isListed c ≡ true → Code c
 unfolding isListed
 listed-code c h = size-code c (ltb-true 0 (sizeOf c) h)
 
@@ -172,7 +172,7 @@ high-fits n k g = told (ltb n 4294967296) refl
     told true e = or-right (hasHighWord (codeAt k)) (eqb (n / 4294967296) 0) (eq-eqb (n / 4294967296) 0 (omega (arith, ltb-true n 4294967296 e)))
     told false e = or-left (hasHighWord (codeAt k)) (eqb (n / 4294967296) 0) (ap (λ (x : ℕ). hasHighWord (codeAt x)) (g (ltb-false n 4294967296 e)) ∙ quad-high)
 
-place-alone : (c high low : ℕ) → (hasHighWord c || eqb high 0) ≡ true → low < 4294967296 → 4294967296 ≤ high * 4294967296 + low → placeOf c ≡ 0
+pub place-alone : (c high low : ℕ) → (hasHighWord c || eqb high 0) ≡ true → low < 4294967296 → 4294967296 ≤ high * 4294967296 + low → placeOf c ≡ 0
 unfolding placeOf
 place-alone c high low e h k = told (either (hasHighWord c) (eqb high 0) e)
   where
@@ -180,13 +180,13 @@ place-alone c high low e h k = told (either (hasHighWord c) (eqb high 0) e)
     told (inl x) = ap placeOf (high-quad c x)
     told (inr x) = absurd (omega (arith, eqb-true high 0 x, h, k))
 
-record Fits (i : Immediate) : Type 0 where
-  listed : isListed (i .code) ≡ true
-  low : i .low < 4294967296
-  high : i .high < 4294967296
-  lacking : (hasHighWord (i .code) || eqb (i .high) 0) ≡ true
+pub record Fits (i : Immediate) : Type 0 where
+  pub listed : isListed (i .code) ≡ true
+  pub low : i .low < 4294967296
+  pub high : i .high < 4294967296
+  pub lacking : (hasHighWord (i .code) || eqb (i .high) 0) ≡ true
 
-fits-tells : (i : Immediate) → immediateFits i ≡ true → Fits i
+pub fits-tells : (i : Immediate) → immediateFits i ≡ true → Fits i
 unfolding immediateFits
 fits-tells i h =
     let z = hasHighWord (i .code) || eqb (i .high) 0 in

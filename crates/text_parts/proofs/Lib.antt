@@ -7,3 +7,4 @@ pub mod ImmediateLaws
 pub mod BoundLaws
 pub mod Edges
 pub mod LengthLaws
+pub mod TextLaws

@@ -3,4 +3,5 @@ pub mod Exec
 pub mod Fields
 pub mod Raw
 pub mod Immediate
+pub mod Texts
 pub mod Told
