@@ -4,9 +4,8 @@ use mathlib.Core.List.{List, _++_}
 use mathlib.Core.Bool.{Bool, true, false, _&&_}
 use lib.Dec.{eqb}
 use Prim.Native.Nat.{ℕ, _+_, _*_, _-_, _/_, _%_, _≤_, _<_}
-use native.Mathlib.Omega.{arith}
 use native.Mathlib.Nat.{sub-zero}
-use borrow.Author.Tests.{ne-eqb, eq-eqb, lt-ltb, le-ltb}
+use borrow.Author.Tests.{eq-eqb, lt-ltb, le-ltb}
 use Rattle.formats.specs.Text.{text}
 use Rattle.formats.specs.Format.{pair, through, blank}
 use Rattle.formats.specs.Words.{words, wordAt, oneOf, before, after}
@@ -32,10 +31,6 @@ any-ending opening id end b e h = rw (← e, h)
 pub no-predicate : (p : ℕ) → p ≡ 0 → predicate .print p ≡ wordAt (words openings) 0
 unfolding predicate through pair idAndEnding blank oneOf words wordAt
 no-predicate p e = rw (eq-eqb p 0 e)
-
-pub some-predicate : (p : ℕ) → (p ≡ 0 → ⊥) → predicate .print p ≡ wordAt (words openings) (1 + p / 32768) ++ (digitsOf 10 (p % 4096) ++ ending (1 + p / 32768) (p % 4096) .print ((p / 8192 % 4 + 2) % 3))
-unfolding predicate through pair idAndEnding oneOf number
-some-predicate p n = rw (ne-eqb p 0 n, ne-eqb (1 + p / 32768) 0 (λ e. omega (arith, e)))
 
 -- ---- the exec byte
 

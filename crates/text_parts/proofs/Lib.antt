@@ -7,4 +7,4 @@ pub mod ImmediateLaws
 pub mod BoundLaws
 pub mod Edges
 pub mod LengthLaws
-pub mod TextLaws
+pub mod PrintLaws
