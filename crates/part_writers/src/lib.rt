@@ -3,7 +3,9 @@ use field_groups::Immediate;
 use field_groups::Raw;
 use formats::Base;
 ghost use mathlib.Core.Path.{_≡_};
-ghost use Prim.Native.Nat.{_+_, _*_, _-_};
+ghost use Prim.Native.Nat.{_+_, _*_, _-_, _≤_};
+ghost use lib.ListN.{length};
+ghost use Rattle.hex.specs.Storing.{placed, fits, stored};
 ghost use Rattle.formats.specs.Writing.{wrote, written};
 ghost use Rattle.text_parts.specs.Predicate.{ending, predicate};
 ghost use Rattle.text_parts.specs.Exec.{mask, exec, scatterExec};
@@ -129,4 +131,27 @@ pub fn put_immediate(out: &mut [u8], at: usize, i: Immediate) -> usize
     let a = formats::put_word(out, at, b"0x|", 0);
     let b = formats::put_number(out, a, Base::Hexadecimal, n);
     put_type(out, b, n, place)
+}
+
+// The text at the buffer's start.
+fn copy(out: &mut [u8], text: &[u8])
+    requires { ⌜ length (now text) ≤ length (now out) ⌝ }
+    ensures { λ _. ⌜ now (out .exit) ≡ placed (now (out .entry)) 0 (now (text .entry)) ⌝ }
+{
+    let mut i = 0;
+    while i < text.len() {
+        out[i] = text[i];
+        i += 1;
+    }
+}
+
+// The same if the buffer has room for all of it, and whether it has; nothing is written if not.
+pub fn put_whole(out: &mut [u8], text: &[u8]) -> bool
+    ensures { λ r. ⌜ (r ≡ fits (now (text .entry)) 0 (now (out .entry))) × (now (out .exit) ≡ stored (now (text .entry)) 0 (now (out .entry))) ⌝ }
+{
+    if text.len() <= out.len() {
+        copy(out, text);
+        return true;
+    }
+    false
 }
