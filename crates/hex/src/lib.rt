@@ -7,13 +7,13 @@ ghost use Rattle.hex.specs.Digits.{isDecimal, isLetter, isDigit, digitOf
 ghost use Rattle.hex.specs.Bytes.{isHex, hexBytes};
 ghost use Rattle.hex.specs.mirror.Storing.{placed, fits, stored};
 
-fn is_decimal(character: u8) -> bool
+pub fn is_decimal(character: u8) -> bool
     ensures { λ r. ⌜ r ≡ isDecimal character ⌝ }
 {
     b'0' <= character && character <= b'9'
 }
 
-fn is_letter(character: u8) -> bool
+pub fn is_letter(character: u8) -> bool
     ensures { λ r. ⌜ r ≡ isLetter character ⌝ }
 {
     b'a' <= character && character <= b'f'

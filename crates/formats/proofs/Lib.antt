@@ -1,0 +1,16 @@
+pub mod Tests
+pub mod Agree
+pub mod Law
+pub mod Following
+pub mod Combining
+pub mod WholeLaws
+pub mod TableTests
+pub mod WordLaws
+pub mod AroundLaws
+pub mod NumberLaws
+pub mod ScanLaws
+pub mod WritingLaws
+pub mod DigitLaws
+pub mod ShortLaws
+pub mod AnswerLaws
+pub mod Edges

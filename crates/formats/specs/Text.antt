@@ -1,0 +1,9 @@
+-- A text: the codes of its characters, in order.
+use Prim.Native.Nat.{ℕ}
+use Prim.Native.Char.{code}
+use Prim.Native.String.{String, [], _∷_}
+use mathlib.Core.List.{List, [] as []ᴸ, _∷_ as _∷ᴸ_}
+
+abbrev pub text : String → List ℕ
+text [] = []ᴸ
+text (c ∷ s) = code c ∷ᴸ text s

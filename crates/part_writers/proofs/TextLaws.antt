@@ -1,0 +1,73 @@
+-- What the text of each part is made of, piece by piece as the code writes it.
+use mathlib.Core.Path.{_≡_, refl, ap}
+use mathlib.Core.List.{List, _++_}
+use mathlib.Core.Bool.{Bool, true, false, _&&_}
+use lib.Dec.{eqb}
+use Prim.Native.Nat.{ℕ, _+_, _*_, _-_, _/_, _%_, _≤_, _<_}
+use native.Mathlib.Nat.{sub-zero}
+use borrow.Author.Tests.{eq-eqb, lt-ltb, le-ltb}
+use Rattle.formats.specs.Text.{text}
+use Rattle.formats.specs.Format.{pair, through, blank}
+use Rattle.formats.specs.Words.{words, wordAt, oneOf, before, after}
+use Rattle.formats.specs.Numbers.{digitsOf, number}
+use Rattle.field_groups.specs.declared.Raw.{Raw}
+use Rattle.field_groups.specs.declared.Immediate.{Immediate}
+use Rattle.text_parts.specs.Predicate.{openings, endings, groupEndings, ending, idAndEnding, predicate}
+use Rattle.text_parts.specs.Exec.{maskEndings, sizes, scatterSizes, maskParts, mask, execOf, exec, scatterExec}
+use Rattle.text_parts.specs.Fields.{decimal, hexadecimal}
+use Rattle.text_parts.specs.Raw.{rawParts, raw}
+use Rattle.text_parts.specs.Immediate.{types, wideTypes, typeOf, placeOf, immediateParts, immediate}
+
+-- ---- the predicate
+
+pub group-ending : (opening id end : ℕ) (b : Bool) → b ≡ (eqb opening 1 && eqb id 0) → b ≡ true → ending opening id .print end ≡ wordAt (words groupEndings) end
+unfolding ending oneOf
+group-ending opening id end b e h = rw (← e, h)
+
+pub any-ending : (opening id end : ℕ) (b : Bool) → b ≡ (eqb opening 1 && eqb id 0) → b ≡ false → ending opening id .print end ≡ wordAt (words endings) end
+unfolding ending oneOf
+any-ending opening id end b e h = rw (← e, h)
+
+pub no-predicate : (p : ℕ) → p ≡ 0 → predicate .print p ≡ wordAt (words openings) 0
+unfolding predicate through pair idAndEnding blank oneOf words wordAt
+no-predicate p e = rw (eq-eqb p 0 e)
+
+-- ---- the exec byte
+
+pub mask-text : (m : ℕ) → mask .print m ≡ wordAt (words (text "(M|")) 0 ++ (digitsOf 10 (m % 8 + 1) ++ wordAt (words maskEndings) (m / 8))
+unfolding mask maskParts through before pair number oneOf
+mask-text m = refl
+
+pub exec-text : (e : ℕ) → exec .print e ≡ mask .print (e / 16) ++ wordAt (words sizes) (e % 16)
+unfolding exec execOf through pair oneOf
+exec-text e = ap (λ (k : ℕ). mask .print (e / 16) ++ wordAt (words sizes) k) (sub-zero (e % 16))
+
+pub scatter-exec-text : (e k : ℕ) → k ≡ e % 16 - 3 → scatterExec .print e ≡ mask .print (e / 16) ++ wordAt (words scatterSizes) k
+unfolding scatterExec execOf through pair oneOf
+scatter-exec-text e k p = rw p
+
+-- ---- numbers, raw operands, immediates
+
+pub decimal-text : (low high : ℕ) (end : List ℕ) (n : ℕ) → decimal low high end .print n ≡ digitsOf 10 n ++ wordAt (words end) 0
+unfolding decimal after through pair number oneOf
+decimal-text low high end n = refl
+
+pub hexadecimal-text : (high : ℕ) (end : List ℕ) (n : ℕ) → hexadecimal high end .print n ≡ wordAt (words (text "0x|")) 0 ++ (digitsOf 16 n ++ wordAt (words end) 0)
+unfolding hexadecimal before after through pair number oneOf
+hexadecimal-text high end n = refl
+
+pub raw-text : (r : Raw) → raw .print r ≡ wordAt (words (text "v|")) 0 ++ (decimal 0 65535 (text ".|") .print (r .index) ++ digitsOf 10 (r .offset))
+unfolding raw rawParts before through pair number oneOf
+raw-text r = refl
+
+pub narrow-type : (n k : ℕ) → n < 4294967296 → typeOf n .print k ≡ wordAt (words types) k
+unfolding typeOf oneOf
+narrow-type n k h = rw (lt-ltb n 4294967296 h)
+
+pub wide-type : (n k : ℕ) → 4294967296 ≤ n → typeOf n .print k ≡ wordAt (words wideTypes) k
+unfolding typeOf oneOf
+wide-type n k h = rw (le-ltb n 4294967296 h)
+
+pub immediate-text : (i : Immediate) (n k : ℕ) → n ≡ i .high * 4294967296 + i .low → k ≡ placeOf (i .code) → immediate .print i ≡ wordAt (words (text "0x|")) 0 ++ (digitsOf 16 n ++ typeOf n .print k)
+unfolding immediate immediateParts before through pair number oneOf
+immediate-text i n k e p = rw (e, p)

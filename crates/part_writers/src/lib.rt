@@ -1,0 +1,157 @@
+// The parts of an instruction's line, written into a lent buffer. What does not fit is lost, so that the caller looks at the length alone.
+use field_groups::Immediate;
+use field_groups::Raw;
+use formats::Base;
+ghost use mathlib.Core.Path.{_≡_};
+ghost use Prim.Native.Nat.{_+_, _*_, _-_, _≤_};
+ghost use lib.ListN.{length};
+ghost use Rattle.hex.specs.Storing.{placed, fits, stored};
+ghost use Rattle.formats.specs.Writing.{wrote, written};
+ghost use Rattle.text_parts.specs.Predicate.{ending, predicate};
+ghost use Rattle.text_parts.specs.Exec.{mask, exec, scatterExec};
+ghost use Rattle.text_parts.specs.Fields.{decimal, hexadecimal};
+ghost use Rattle.text_parts.specs.Raw.{raw};
+ghost use Rattle.text_parts.specs.Immediate.{typeOf, placeOf, immediate};
+
+// What ends a predicate.
+fn put_ending(out: &mut [u8], at: usize, opening: u64, id: u64, end: u64) -> usize
+    ensures { λ r. ⌜ wrote r (now (out .exit)) ≡ written (now (out .entry)) at (ending opening id .print end) ⌝ }
+{
+    if text_parts::is_plain_first(opening, id) {
+        formats::put_word(out, at, b".any) |.all) |", end)
+    } else {
+        formats::put_word(out, at, b".any) |.all) |) |", end)
+    }
+}
+
+pub fn put_predicate(out: &mut [u8], at: usize, pred: u16) -> usize
+    ensures { λ r. ⌜ wrote r (now (out .exit)) ≡ written (now (out .entry)) at (predicate .print pred) ⌝ }
+{
+    if pred == 0 {
+        return formats::put_word(out, at, b"|(P|(!P|", 0);
+    }
+    let word = pred as u64;
+    let opening = 1 + word / 32768;
+    let id = word % 4096;
+    let a = formats::put_word(out, at, b"|(P|(!P|", opening);
+    let b = formats::put_number(out, a, Base::Decimal, id);
+    put_ending(out, b, opening, id, (word / 8192 % 4 + 2) % 3)
+}
+
+fn put_mask(out: &mut [u8], at: usize, code: u64) -> usize
+    ensures { λ r. ⌜ wrote r (now (out .exit)) ≡ written (now (out .entry)) at (mask .print code) ⌝ }
+{
+    let a = formats::put_word(out, at, b"(M|", 0);
+    let b = formats::put_number(out, a, Base::Decimal, code % 8 + 1);
+    formats::put_word(out, b, b",|_NM,|", code / 8)
+}
+
+pub fn put_exec(out: &mut [u8], at: usize, byte: u8) -> usize
+    ensures { λ r. ⌜ wrote r (now (out .exit)) ≡ written (now (out .entry)) at (exec .print byte) ⌝ }
+{
+    let e = byte as u64;
+    let a = put_mask(out, at, e / 16);
+    formats::put_word(out, a, b"1) |2) |4) |8) |16) |32) |", e % 16)
+}
+
+pub fn put_scatter_exec(out: &mut [u8], at: usize, byte: u8) -> usize
+    ensures { λ r. ⌜ wrote r (now (out .exit)) ≡ written (now (out .entry)) at (scatterExec .print byte) ⌝ }
+{
+    let e = byte as u64;
+    let a = put_mask(out, at, e / 16);
+    formats::put_word(out, a, b"8) |16) |", above(e % 16, 3))
+}
+
+// How much a number exceeds another; 0 if it does not.
+fn above(n: u64, least: u64) -> u64
+    ensures { λ r. ⌜ r ≡ n - least ⌝ }
+{
+    if least <= n { n - least } else { 0 }
+}
+
+pub fn put_decimal(out: &mut [u8], at: usize, low: u64, high: u64, end: &[u8], n: u64) -> usize
+    ensures { λ r. ⌜ wrote r (now (out .exit)) ≡ written (now (out .entry)) at (decimal low high (now (end .entry)) .print n) ⌝ }
+{
+    let a = formats::put_number(out, at, Base::Decimal, n);
+    formats::put_word(out, a, end, 0)
+}
+
+pub fn put_hexadecimal(out: &mut [u8], at: usize, high: u64, end: &[u8], n: u64) -> usize
+    ensures { λ r. ⌜ wrote r (now (out .exit)) ≡ written (now (out .entry)) at (hexadecimal high (now (end .entry)) .print n) ⌝ }
+{
+    let a = formats::put_word(out, at, b"0x|", 0);
+    let b = formats::put_number(out, a, Base::Hexadecimal, n);
+    formats::put_word(out, b, end, 0)
+}
+
+pub fn put_raw(out: &mut [u8], at: usize, r: Raw) -> usize
+    ensures { λ e. ⌜ wrote e (now (out .exit)) ≡ written (now (out .entry)) at (raw .print r) ⌝ }
+{
+    let index = r.index as u64;
+    let offset = r.offset as u64;
+    let a = formats::put_word(out, at, b"v|", 0);
+    let b = put_decimal(out, a, 0, 65535, b".|", index);
+    formats::put_number(out, b, Base::Decimal, offset)
+}
+
+fn put_type(out: &mut [u8], at: usize, n: u64, place: u64) -> usize
+    ensures { λ r. ⌜ wrote r (now (out .exit)) ≡ written (now (out .entry)) at (typeOf n .print place) ⌝ }
+{
+    if n < 4294967296 {
+        formats::put_word(out, at, b":uq|:ud|:d|:uw|:w|:ub|:b|:f|", place)
+    } else {
+        formats::put_word(out, at, b":uq|", place)
+    }
+}
+
+// A type's number among those that an immediate may show.
+fn type_place(code: u8) -> u64
+    ensures { λ r. ⌜ r ≡ placeOf code ⌝ }
+{
+    if code == 11 {
+        return 0;
+    }
+    if code == 7 {
+        return 7;
+    }
+    code as u64 + 1
+}
+
+fn whole_number(low: u32, high: u32) -> u64
+    ensures { λ r. ⌜ r ≡ high * 4294967296 + low ⌝ }
+{
+    high as u64 * 4294967296 + low as u64
+}
+
+pub fn put_immediate(out: &mut [u8], at: usize, i: Immediate) -> usize
+    ensures { λ r. ⌜ wrote r (now (out .exit)) ≡ written (now (out .entry)) at (immediate .print i) ⌝ }
+{
+    let n = whole_number(i.low, i.high);
+    let place = type_place(i.code);
+    let a = formats::put_word(out, at, b"0x|", 0);
+    let b = formats::put_number(out, a, Base::Hexadecimal, n);
+    put_type(out, b, n, place)
+}
+
+// The text at the buffer's start.
+fn copy(out: &mut [u8], text: &[u8])
+    requires { ⌜ length (now text) ≤ length (now out) ⌝ }
+    ensures { λ _. ⌜ now (out .exit) ≡ placed (now (out .entry)) 0 (now (text .entry)) ⌝ }
+{
+    let mut i = 0;
+    while i < text.len() {
+        out[i] = text[i];
+        i += 1;
+    }
+}
+
+// The same if the buffer has room for all of it, and whether it has; nothing is written if not.
+pub fn put_whole(out: &mut [u8], text: &[u8]) -> bool
+    ensures { λ r. ⌜ (r ≡ fits (now (text .entry)) 0 (now (out .entry))) × (now (out .exit) ≡ stored (now (text .entry)) 0 (now (out .entry))) ⌝ }
+{
+    if text.len() <= out.len() {
+        copy(out, text);
+        return true;
+    }
+    false
+}

@@ -1,0 +1,10 @@
+pub mod PartLaws
+pub mod PredicateLaws
+pub mod ExecLaws
+pub mod FieldLaws
+pub mod RawLaws
+pub mod ImmediateLaws
+pub mod BoundLaws
+pub mod Edges
+pub mod LengthLaws
+pub mod PrintLaws

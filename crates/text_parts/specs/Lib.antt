@@ -1,0 +1,7 @@
+pub mod Predicate
+pub mod Exec
+pub mod Fields
+pub mod Raw
+pub mod Immediate
+pub mod Texts
+pub mod Told
