@@ -1,4 +1,5 @@
 -- `operands::raw_good` meets its contract: the size is its type's.
+use mathlib.Core.Path.{refl}
 use native.Mathlib.Omega.{arith}
 use borrow.Author.Needs.{needs}
 use Rattle.operands.specs.Operands.{rawGood}
@@ -13,7 +14,7 @@ mul-result c =
 
 returns : tie.Need-returns
 unfolding rawGood
-returns c = rw (← c .before .pre .1)
+returns c = rw (← c .before .pre .1) refl
 
 pub raw-good-spec : {M : Type 1} → statement M
 raw-good-spec = tie.close (tie.spec (λ c. search needs) (λ c. search needs) (λ c. search needs) mul-result returns)

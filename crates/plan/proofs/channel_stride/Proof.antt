@@ -11,13 +11,13 @@ returns : tie.Need-returns
 unfolding channelStride
 returns c =
     let a = c .before in
-    rw (← ap (λ (e : Exec). e .size) (a .split .ensures), lt-ltb _ _ (c .if1 .taken))
+    rw (← ap (λ (e : Exec). e .size) (a .split .ensures), lt-ltb _ 8 (c .if1 .taken))
 
 returns-2 : tie.Need-returns-2
 unfolding channelStride
 returns-2 c =
     let a = c .before in
-    rw (← ap (λ (e : Exec). e .size) (a .split .ensures), le-ltb _ _ (c .if1 .left))
+    rw (← ap (λ (e : Exec). e .size) (a .split .ensures), le-ltb _ 8 (c .if1 .left))
 
 pub channel-stride-spec : {M : Type 1} → statement M
 channel-stride-spec = tie.close (tie.spec (λ c κs. search needs) returns returns-2)

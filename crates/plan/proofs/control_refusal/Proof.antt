@@ -11,7 +11,7 @@ returns : tie.Need-returns
 unfolding controlRefusal
 returns c =
     let a = c .before .before .before in
-    rw (← ap (λ (e : Exec). e .size) (a .split .ensures), ← ap (λ (e : Exec). e .offset) (a .split .ensures), lt-ltb _ _ (c .if1 .taken))
+    rw (← ap (λ (e : Exec). e .size) (a .split .ensures), ← ap (λ (e : Exec). e .offset) (a .split .ensures), lt-ltb 32 _ (c .if1 .taken))
 
 returns-2 : tie.Need-returns-2
 unfolding controlRefusal
@@ -20,7 +20,7 @@ returns-2 c =
     let b = a .before in
     let d = b .before in
     let e = d .before .before .before in
-    rw (← ap (λ (e : Exec). e .size) (e .split .ensures), ← ap (λ (e : Exec). e .offset) (e .split .ensures), le-ltb _ _ (d .if1 .left), ← b .predicate-id .ensures, ← a .has-predicate .ensures, c .if2 .taken)
+    rw (← ap (λ (e : Exec). e .size) (e .split .ensures), ← ap (λ (e : Exec). e .offset) (e .split .ensures), le-ltb 32 _ (d .if1 .left), ← b .predicate-id .ensures, ← a .has-predicate .ensures, c .if2 .taken)
 
 returns-3 : tie.Need-returns-3
 unfolding controlRefusal
@@ -29,7 +29,7 @@ returns-3 c =
     let b = a .before in
     let d = b .before in
     let e = d .before .before .before in
-    rw (← ap (λ (e : Exec). e .size) (e .split .ensures), ← ap (λ (e : Exec). e .offset) (e .split .ensures), le-ltb _ _ (d .if1 .left), ← b .predicate-id .ensures, ← a .has-predicate .ensures, c .if2 .left)
+    rw (← ap (λ (e : Exec). e .size) (e .split .ensures), ← ap (λ (e : Exec). e .offset) (e .split .ensures), le-ltb 32 _ (d .if1 .left), ← b .predicate-id .ensures, ← a .has-predicate .ensures, c .if2 .left)
 
 pub control-refusal-spec : {M : Type 1} → statement M
 control-refusal-spec = tie.close (tie.spec (λ c κs. search needs) (λ c. search needs) (λ c. search needs) (λ c. search needs) returns (λ c κs. search needs) (λ c. search needs) (λ c κs. search needs) returns-2 returns-3)
