@@ -107,7 +107,15 @@ fn stage(
 {
     let mut lane: u8 = 0;
     while lane < lanes {
-        stage_lane(registers, register_taint, elements, lane, base, bytes, taint);
+        stage_lane(
+            registers,
+            register_taint,
+            elements,
+            lane,
+            base,
+            bytes,
+            taint,
+        );
         lane += 1;
     }
 }
