@@ -19,7 +19,7 @@ use Rattle.gather.specs.Guarded.{gatherGuarded}
 use Rattle.gather.proofs.GuardLaws as gather
 use Rattle.gather.proofs.Refusal.{gather-spares-memory}
 use Rattle.scatter.specs.Scatter.{Window}
-use Rattle.scatter.specs.Guarded.{scatterGuarded}
+use Rattle.scatter.specs.mirror.Guarded.{scatterGuarded}
 use Rattle.scatter.proofs.GuardLaws as scatter
 use Rattle.scatter.proofs.Refusal.{scatter-spares-registers}
 use Rattle.step.specs.declared.Constants.{Constants}

@@ -7,7 +7,7 @@ use Rattle.plan.specs.declared.Operation.{Operation}
 use Rattle.plan.specs.declared.Operation.the-variants as operation
 use Rattle.shl.specs.Guarded.{shlFits}
 use Rattle.gather.specs.Guarded.{gatherFits}
-use Rattle.scatter.specs.Guarded.{scatterFits}
+use Rattle.scatter.specs.mirror.Guarded.{scatterFits}
 
 unfoldable pub fitsFor : Operation → Plan → Bool
 fitsFor operation.Shl p = shlFits p

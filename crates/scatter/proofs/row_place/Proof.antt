@@ -18,7 +18,7 @@ add-result c = omega (arith, product-small (c .before .before .rank .result) (c 
 
 returns : tie.Need-returns
 returns c = (
-  row-told _ _ _ _ (c .before .before .rank .ensures) refl,
+  row-told (c .before .before .before .args .pairs) (c .before .before .before .args .channel) _ _ (c .before .before .rank .ensures) refl,
   omega (arith, product-small (c .before .before .rank .result) (c .before .before .before .args .pairs .stride) (omega arith) (omega arith)),
 )
 

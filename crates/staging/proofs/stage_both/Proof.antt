@@ -10,7 +10,7 @@ returns c =
     let t = c .before .before in
     let s = t .before .before .before .before .before in
     let p = s .before .before .before in
-    both-told _ _ _ _ _ _ _ _ _ _ (p .before .before .layout-of .ensures) (p .before .first-place .ensures) (p .second-place .ensures) refl (s .stage .ensures) (t .stage2 .ensures)
+    both-told _ _ _ _ _ _ _ _ _ _ (p .before .before .layout-of .ensures) (p .before .first-place .ensures) (p .second-place .ensures) (s .stage .ensures) (t .stage2 .ensures) refl
 
 pub stage-both-spec : {M : Type 1} → statement M
 stage-both-spec =
