@@ -1,7 +1,7 @@
 -- Where the loops over lanes and channels begin, in the words of `FromRoom`; and what one pair writes.
 use Prim.Native.Nat.{ℕ, _+_, _*_, _-_}
-use mathlib.Core.Path.{_≡_, sym}
-use mathlib.Core.Bool.{Bool, true, false, cond}
+use mathlib.Core.Path.{_≡_, sym, ap}
+use mathlib.Core.Bool.{Bool, true, false, cond, _&&_}
 use mathlib.Core.List.{List, []}
 use lib.ListN.{getD}
 use Rattle.cells.specs.Buffer.{Buffer}
@@ -17,6 +17,10 @@ use Rattle.scatter.specs.declared.Rule.{Rule}
 use Rattle.scatter.specs.declared.Pairs.{Pairs}
 use Rattle.scatter.specs.mirror.Rules.{breaks}
 use Rattle.scatter.specs.mirror.FromRoom.{enabledLanes, targetFrom, rowPlace, pairWrites, rowWrites, allWrites, rowBreaks, someBreaks, someTainted}
+
+-- a test of a lane that is asked whether it is on
+pub and-told : (on here there : Bool) → here ≡ there → (on && here) ≡ (on && there)
+and-told on here there e = ap (λ (t : Bool). on && t) e
 
 pub tainted-begun : (taint : List ℕ) (s : Layout) (on : List Bool) → some (eitherStaged taint s) (amongFrom (λ k. getD on k false) 0 (s .lanes - 0)) ≡ someTainted taint s on
 unfolding someTainted enabledLanes

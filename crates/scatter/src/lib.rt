@@ -232,7 +232,7 @@ fn write_lane(
     if on {
         let from = begin + 4 * (lane as usize);
         let to = memory_place(base, target_from(sum, channel));
-        cells::copy(room, room_taint, from, memory, memory_taint, to, 4);
+        cells::copy_dword(room, room_taint, from, memory, memory_taint, to);
     }
 }
 

@@ -18,9 +18,9 @@ module _ (registers : Buffer) (e : Elements) (base lane place : ℕ) (b b′ : B
   unfolding stageLane
   stage-register from f left made = rw (left, ← there, ← f) made
 
-pub both-told : (registers : Buffer) (a b : Elements) (lanes : ℕ) (s : Layout) (begin next : ℕ) (empty first both : Buffer) → s ≡ layoutOf a b lanes → begin ≡ firstPlace s 0 → next ≡ secondPlace s 0 → empty ≡ emptyRoom → first ≡ staged registers a lanes begin empty → both ≡ staged registers b lanes next first → both ≡ bothStaged registers a b lanes
+pub both-told : (registers : Buffer) (a b : Elements) (lanes : ℕ) (s : Layout) (begin next : ℕ) (empty first both : Buffer) → s ≡ layoutOf a b lanes → begin ≡ firstPlace s 0 → next ≡ secondPlace s 0 → first ≡ staged registers a lanes begin empty → both ≡ staged registers b lanes next first → empty ≡ emptyRoom → both ≡ bothStaged registers a b lanes
 unfolding bothStaged
-both-told registers a b lanes s begin next empty first both is one two none made more = rw (← is, ← one, ← two, ← none, ← made) more
+both-told registers a b lanes s begin next empty first both is one two made more none = rw (← is, ← one, ← two, ← none, ← made) more
 
 pub data-told : (registers : Buffer) (a b : Elements) (lanes : ℕ) (s : Layout) (from to count : ℕ) (both all : Buffer) → s ≡ layoutOf a b lanes → to ≡ dataPlace s → both ≡ bothStaged registers a b lanes → all ≡ writtenAll (copyWrites registers from to count) both → all ≡ dataStaged registers a b lanes from count
 unfolding dataStaged

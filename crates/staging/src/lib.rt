@@ -5,7 +5,7 @@ ghost use Prim.Native.Nat.{_+_, _*_};
 ghost use lib.ListN.{getD};
 ghost use Rattle.cells.specs.Buffer.{buffer};
 ghost use Rattle.cells.specs.Writes.{writtenAll};
-ghost use Rattle.staging.specs.mirror.Room.{emptyRoom, layoutOf, firstPlace, secondPlace, dataPlace, stageLane, staged, bothStaged, dataStaged, firstNumber, secondNumber, eitherStaged, elementsFit};
+ghost use Rattle.staging.specs.mirror.Room.{layoutOf, firstPlace, secondPlace, dataPlace, stageLane, staged, bothStaged, dataStaged, firstNumber, secondNumber, eitherStaged, elementsFit};
 
 // Bytes of sources, and their taint.
 pub struct Room {
@@ -18,15 +18,6 @@ pub struct Layout {
     pub lanes: u8,
     pub first: u8,
     pub second: u8,
-}
-
-pub fn empty_room() -> Room
-    ensures { λ r. ⌜ buffer (r .bytes) (r .taint) ≡ emptyRoom ⌝ }
-{
-    Room {
-        bytes: [0; 512],
-        taint: [0; 512],
-    }
 }
 
 // Whether the lanes are no more than 32, and their elements have at most so many bytes each.
@@ -102,19 +93,18 @@ fn stage_lane(
     }
 }
 
-// The elements of so many lanes, on or off, into the room from a base on.
+// The elements of so many lanes, on or off, from a base on.
 fn stage(
     registers: &[u8],
     register_taint: &[u8],
     elements: Elements,
     lanes: u8,
     base: u32,
-    room: Room,
-) -> Room
-    ensures { λ r. ⌜ buffer (r .bytes) (r .taint) ≡ staged (buffer (now (registers .entry)) (now («register_taint» .entry))) elements lanes base (buffer (room .bytes) (room .taint)) ⌝ }
+    bytes: &mut [u8],
+    taint: &mut [u8],
+)
+    ensures { λ _. ⌜ buffer (now (bytes .exit)) (now (taint .exit)) ≡ staged (buffer (now (registers .entry)) (now («register_taint» .entry))) elements lanes base (buffer (now (bytes .entry)) (now (taint .entry))) ⌝ }
 {
-    let mut bytes = room.bytes;
-    let mut taint = room.taint;
     let mut lane: u8 = 0;
     while lane < lanes {
         stage_lane(
@@ -123,15 +113,14 @@ fn stage(
             elements,
             lane,
             base,
-            &mut bytes,
-            &mut taint,
+            bytes,
+            taint,
         );
         lane += 1;
     }
-    Room { bytes, taint }
 }
 
-// Both sources of an instruction.
+// Both sources of an instruction, in a room of zeros.
 pub fn stage_both(
     registers: &[u8],
     register_taint: &[u8],
@@ -141,11 +130,30 @@ pub fn stage_both(
 ) -> Room
     ensures { λ r. ⌜ buffer (r .bytes) (r .taint) ≡ bothStaged (buffer (now (registers .entry)) (now («register_taint» .entry))) first second lanes ⌝ }
 {
+    let mut bytes = [0; 512];
+    let mut taint = [0; 512];
     let layout = layout_of(first, second, lanes);
     let begin = first_place(layout, 0);
-    let room = stage(registers, register_taint, first, lanes, begin, empty_room());
     let next = second_place(layout, 0);
-    stage(registers, register_taint, second, lanes, next, room)
+    stage(
+        registers,
+        register_taint,
+        first,
+        lanes,
+        begin,
+        &mut bytes,
+        &mut taint,
+    );
+    stage(
+        registers,
+        register_taint,
+        second,
+        lanes,
+        next,
+        &mut bytes,
+        &mut taint,
+    );
+    Room { bytes, taint }
 }
 
 // Both sources, and so many register bytes from a position on: a scatter's data.

@@ -4,7 +4,8 @@ use Rattle.scatter.proofs.row_place.Statement.{statement}
 use Rattle.scatter.proofs.row_place.Tie as tie
 use native.Mathlib.Omega.{arith}
 use Rattle.staging.proofs.Products.{product-small}
-use Rattle.scatter.specs.mirror.FromRoom.{rowPlace}
+use mathlib.Core.Path.{refl}
+use Rattle.scatter.proofs.PlanLaws.{row-told}
 
 mul-result : tie.Need-mul-result
 mul-result c = omega (arith, product-small (c .before .before .rank .result) (c .before .before .before .args .pairs .stride) (omega arith) (omega arith))
@@ -16,9 +17,8 @@ add-result : tie.Need-add-result
 add-result c = omega (arith, product-small (c .before .before .rank .result) (c .before .before .before .args .pairs .stride) (omega arith) (omega arith))
 
 returns : tie.Need-returns
-unfolding rowPlace
 returns c = (
-  rw (← c .before .before .rank .ensures),
+  row-told (c .before .before .before .args .pairs) (c .before .before .before .args .channel) _ _ (c .before .before .rank .ensures) refl,
   omega (arith, product-small (c .before .before .rank .result) (c .before .before .before .args .pairs .stride) (omega arith) (omega arith)),
 )
 

@@ -9,7 +9,7 @@ returns : tie.Need-returns
 returns c =
     let w = c .before .before .before .before in
     let p = w .before .before .before in
-    lane-on _ _ _ _ (p .before .before .if1 .taken) (pair-written _ _ _ _ _ _ _ _ _ _ (w .copy .ensures) (p .before .target-from .ensures) (p .memory-place .ensures))
+    lane-on _ _ _ _ (p .before .before .if1 .taken) (pair-written _ _ _ _ _ _ _ _ _ _ (w .copy-dword .ensures) (p .before .target-from .ensures) (p .memory-place .ensures))
 
 returns-2 : tie.Need-returns-2
 returns-2 c = lane-off _ _ _ (c .if1 .left)

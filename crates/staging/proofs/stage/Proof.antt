@@ -1,6 +1,6 @@
 -- `staging::stage` meets its contract. The lanes that are left, staged now, give the whole.
 use Prim.Native.Nat.{_-_, _≤_}
-use mathlib.Core.Path.{_≡_, refl, sym}
+use mathlib.Core.Path.{_≡_, refl}
 use mathlib.Core.Bool.{true}
 use native.Mathlib.Omega.{arith}
 use lib.ListN.{length}
@@ -17,25 +17,19 @@ abbrev Inv-loop : tie.InvT-loop
 Inv-loop registers register-taint elements lanes base bytes₀ taint₀ lane₀ bytes taint lane =
     (lane ≤ lanes)
     × (writtenAll (each (stageLane (buffer registers register-taint) elements base) (amongFrom (λ _. true) lane (lanes - lane))) (buffer bytes taint) ≡ staged (buffer registers register-taint) elements lanes base (buffer bytes₀ taint₀))
-    × (length bytes ≡ 512)
-    × (length taint ≡ 512)
+    × (length bytes ≡ length bytes₀)
+    × (length taint ≡ length taint₀)
 
 abbrev μ-loop : tie.MeasureT-loop
 μ-loop registers register-taint elements lanes base bytes₀ taint₀ lane₀ bytes taint lane = lanes - lane
 
 loop-holds : tie.Need-loop-holds Inv-loop μ-loop
 unfolding staged
-loop-holds c = (omega arith, lanes-begun _ _ _ _, search needs, search needs)
-
-slice-aggregate-stage-lane : tie.Need-slice-aggregate-stage-lane Inv-loop μ-loop
-slice-aggregate-stage-lane c = sym (c .before .before .loop .inv .2)
-
-slice-aggregate-stage-lane-2 : tie.Need-slice-aggregate-stage-lane-2 Inv-loop μ-loop
-slice-aggregate-stage-lane-2 c = sym (c .before .before .before .loop .inv .3)
+loop-holds c = (omega arith, lanes-begun _ _ _ _, refl, refl)
 
 loop-again : tie.Need-loop-again Inv-loop μ-loop
 loop-again c =
-    let s = c .before .before in
+    let s = c .before .before .before .before in
     let t = s .before .before .before in
     let l = t .before .loop in
     (omega arith, lanes-turn-on _ _ (l .lane) _ _ _ _ (t .loop-test .taken) refl (s .stage-lane .ensures) (l .inv .1), search needs, search needs)
@@ -46,6 +40,4 @@ returns c =
     lanes-over _ _ (l .lane) _ _ _ (c .loop-test .left) (l .inv .1)
 
 pub stage-spec : {M : Type 1} → statement M
-stage-spec =
-    tie.close
-    (tie.spec Inv-loop μ-loop loop-holds slice-aggregate-stage-lane slice-aggregate-stage-lane-2 (λ c κs. search needs) (λ c. search needs) (λ c. search needs) loop-again returns)
+stage-spec = tie.close (tie.spec Inv-loop μ-loop loop-holds (λ c κs. search needs) (λ c. search needs) (λ c. search needs) loop-again (λ c. search needs) (λ c. search needs) returns)

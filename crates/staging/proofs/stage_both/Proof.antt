@@ -1,16 +1,18 @@
--- `staging::stage_both` meets its contract.
+-- `staging::stage_both` meets its contract: one source after the other, in a room of zeros.
+use mathlib.Core.Path.{refl}
 use borrow.Author.Needs.{needs}
+use Rattle.staging.proofs.StageLaws.{both-told}
 use Rattle.staging.proofs.stage_both.Statement.{statement}
 use Rattle.staging.proofs.stage_both.Tie as tie
-use Rattle.staging.proofs.StageLaws.{both-told}
 
 returns : tie.Need-returns
 returns c =
-    let s = c .before .before in
-    let p = s .before .before in
-    both-told _ _ _ _ _ _ _ _ _ _ (p .before .layout-of .ensures) (p .first-place .ensures) (c .before .second-place .ensures) (s .before .empty-room .ensures) (s .stage .ensures) (c .stage2 .ensures)
+    let t = c .before .before in
+    let s = t .before .before .before .before .before in
+    let p = s .before .before .before in
+    both-told _ _ _ _ _ _ _ _ _ _ (p .before .before .layout-of .ensures) (p .before .first-place .ensures) (p .second-place .ensures) (s .stage .ensures) (t .stage2 .ensures) refl
 
 pub stage-both-spec : {M : Type 1} → statement M
 stage-both-spec =
     tie.close
-    (tie.spec (λ c κs. search needs) (λ c κs. search needs) (λ c κs. search needs) (λ c κs. search needs) (λ c κs. search needs) (λ c κs. search needs) returns)
+    (tie.spec (λ c κs. search needs) (λ c κs. search needs) (λ c κs. search needs) (λ c. search needs) (λ c. search needs) (λ c κs. search needs) (λ c. search needs) (λ c. search needs) (λ c κs. search needs) returns)
