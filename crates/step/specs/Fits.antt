@@ -5,8 +5,8 @@ use mathlib.Core.Bool.{Bool, true}
 use Rattle.plan.specs.declared.Plan.{Plan}
 use Rattle.plan.specs.declared.Operation.{Operation}
 use Rattle.plan.specs.declared.Operation.the-variants as operation
-use Rattle.shl.specs.Guarded.{shlFits}
-use Rattle.gather.specs.Guarded.{gatherFits}
+use Rattle.shl.specs.mirror.Guarded.{shlFits}
+use Rattle.gather.specs.mirror.Guarded.{gatherFits}
 use Rattle.scatter.specs.Guarded.{scatterFits}
 
 unfoldable pub fitsFor : Operation → Plan → Bool
