@@ -16,6 +16,7 @@ use Rattle.cells.proofs.WriteLaws.{written-append}
 use Rattle.plan.specs.declared.Plan.{Plan}
 use Rattle.gather.specs.Gather.{isRead, gatheredByte, gatheredMark, gatherWrites}
 use Rattle.gather.specs.mirror.FromRoom.{dwordWrites}
+use Rattle.gather.proofs.MarkLaws.{doubtful-mark, zero-mark, zero-byte, read-mark, read-byte}
 
 -- byte j of a number of n bytes, and the bytes past it
 module _ (l : List ℕ) (bytes : Bytes l) (n j at : ℕ) where
@@ -54,35 +55,35 @@ module _ (surfaces : Buffer) (p : Plan) (address at n : ℕ) (small : n ≤ 4) (
 
   -- bytes that are read
   read-writes : (m j : ℕ) → j + m ≤ n → gatherWrites surfaces p false address at j m ≡ copyWrites surfaces (from + j) (at + j) m
-  unfolding gatherWrites copyWrites gatheredByte gatheredMark
+  unfolding gatherWrites copyWrites
   read-writes zero j h = refl
   read-writes (suc m) j h =
       let here : isRead p address j ≡ true = read j (omega arith) ∙ lt-ltb j n (omega arith) in
       let a : at + suc j ≡ suc (at + j) = omega arith in
       let f : from + suc j ≡ suc (from + j) = omega arith in
       let rest : gatherWrites surfaces p false address at (suc j) m ≡ copyWrites surfaces (suc (from + j)) (suc (at + j)) m = rw (a, f) at (read-writes m (suc j) (omega arith)) in
-      rw (here, rest)
+      rw (read-byte (surfaces .bytes) (surfaces .taint) p address j here, read-mark (surfaces .bytes) (surfaces .taint) p address j here, rest)
 
   -- zeros
   zero-writes : (m j : ℕ) → n ≤ j → j + m ≤ 4 → gatherWrites surfaces p false address at j m ≡ numberWrites (at + j) m (markOf false) 0
-  unfolding gatherWrites numberWrites gatheredByte gatheredMark
+  unfolding gatherWrites numberWrites
   zero-writes zero j g h = refl
   zero-writes (suc m) j g h =
       let here : isRead p address j ≡ false = read j (omega arith) ∙ le-ltb j n g in
       let a : at + suc j ≡ suc (at + j) = omega arith in
       let rest : gatherWrites surfaces p false address at (suc j) m ≡ numberWrites (suc (at + j)) m (markOf false) 0 = rw a at (zero-writes m (suc j) (omega arith) (omega arith)) in
-      rw (here, rest)
+      rw (zero-byte (surfaces .bytes) (surfaces .taint) p address j here, zero-mark (surfaces .bytes) (surfaces .taint) p address j here, rest)
 
   -- a doubtful address: one number, wholly marked
   doubtful-writes : Bytes (surfaces .bytes) → (m j : ℕ) → j + m ≤ 4 → gatherWrites surfaces p true address at j m ≡ numberWrites (at + j) m (markOf true) (numberAt (n - j) (surfaces .bytes) (from + j))
-  unfolding gatherWrites numberWrites gatheredByte gatheredMark
+  unfolding gatherWrites numberWrites gatheredByte
   doubtful-writes bytes zero j h = refl
   doubtful-writes bytes (suc m) j h =
       let here = read j (omega arith) in
       let a : at + suc j ≡ suc (at + j) = omega arith in
       let f : from + suc j ≡ suc (from + j) = omega arith in
       let rest : gatherWrites surfaces p true address at (suc j) m ≡ numberWrites (suc (at + j)) m (markOf true) (numberAt (n - suc j) (surfaces .bytes) (suc (from + j))) = rw (a, f) at (doubtful-writes bytes m (suc j) (omega arith)) in
-      rw (here, rest, number-first (surfaces .bytes) bytes n j (from + j), ← number-rest (surfaces .bytes) bytes n j (from + j))
+      rw (doubtful-mark (surfaces .bytes) (surfaces .taint) p address j, here, rest, number-first (surfaces .bytes) bytes n j (from + j), ← number-rest (surfaces .bytes) bytes n j (from + j))
 
   parts : (a b j : ℕ) → gatherWrites surfaces p false address at j (a + b) ≡ gatherWrites surfaces p false address at j a ++ gatherWrites surfaces p false address at (j + a) b
   unfolding gatherWrites

@@ -7,7 +7,7 @@ use native.Mathlib.Omega.{arith}
 use lib.ListN.{length}
 use Rattle.cells.specs.Buffer.{Buffer}
 use Rattle.cells.specs.Writes.{writtenAll}
-use Rattle.cells.specs.Effect.{Effect, refused}
+use Rattle.cells.specs.Effect.{Effect, refused, RegistersDone}
 use Rattle.plan.specs.declared.Plan.{Plan}
 use Rattle.plan.specs.declared.Operation.{Operation}
 use Rattle.plan.specs.declared.Operation.the-variants as operation
@@ -57,7 +57,7 @@ module _ (k : Constants) (p : Plan) (s : State) where
     fit : (o : Operation) → p .operation ≡ o → fitsFor o p ≡ true
     fit o is = subst (λ (q : Operation). fitsFor q p ≡ true) is (fits .when-accepted (omega arith))
 
-    pub shl-performs : (n : ℕ) (b : Buffer) → p .operation ≡ operation.Shl → (n ≡ shlGuarded (k .mask) p (s .registers) .number) × (b ≡ writtenAll (shlGuarded (k .mask) p (s .registers) .registers) (s .registers))
+    pub shl-performs : (n : ℕ) (b : Buffer) → p .operation ≡ operation.Shl → RegistersDone (shlGuarded (k .mask) p (s .registers)) n (s .registers) b
         → Performs n (record { registers = b; surfaces = s .surfaces; memory = s .memory })
     unfolding acted fitsFor
     shl-performs n b is made =
@@ -65,7 +65,7 @@ module _ (k : Constants) (p : Plan) (s : State) where
         performs (shlGuarded (k .mask) p (s .registers)) n b (s .memory) (g ∙ sym (acts _ is)) (made .0) (made .1)
         (sym (unwritten _ _ (ap (λ (e : Effect). e .memory) g ∙ shl-spares-memory p (lanesOn (k .mask) p) (s .registers))))
 
-    pub gather-performs : (n : ℕ) (b : Buffer) → p .operation ≡ operation.Gather → (n ≡ gatherGuarded (k .mask) p (s .registers) (s .surfaces) .number) × (b ≡ writtenAll (gatherGuarded (k .mask) p (s .registers) (s .surfaces) .registers) (s .registers))
+    pub gather-performs : (n : ℕ) (b : Buffer) → p .operation ≡ operation.Gather → RegistersDone (gatherGuarded (k .mask) p (s .registers) (s .surfaces)) n (s .registers) b
         → Performs n (record { registers = b; surfaces = s .surfaces; memory = s .memory })
     unfolding acted fitsFor
     gather-performs n b is made =
