@@ -5,9 +5,9 @@ use plan::Plan;
 use staging::Layout;
 use staging::Room;
 ghost use mathlib.Core.Path.{_≡_};
-ghost use mathlib.Core.Bool.{true, cond, _&&_};
+ghost use mathlib.Core.Bool.{true, false, cond, _&&_};
 ghost use mathlib.Core.List.{[]};
-ghost use Prim.Native.Nat.{_-_, _≤_};
+ghost use Prim.Native.Nat.{_-_, _≤_, _<_};
 ghost use lib.ListN.{length, getD};
 ghost use Rattle.cells.specs.Buffer.{buffer};
 ghost use Rattle.cells.specs.Writes.{writtenAll};
@@ -218,20 +218,21 @@ fn write_lane(
     room: &[u8],
     room_taint: &[u8],
     begin: usize,
-    on: bool,
-    sum: u64,
+    on: &[bool; 16],
+    sums: &[u64; 16],
     base: u64,
     channel: u8,
     lane: u8,
     memory: &mut [u8],
     memory_taint: &mut [u8],
 )
-    requires { ⌜ begin ≤ 8589934592 ⌝ }
-    ensures { λ _. ⌜ buffer (now (memory .exit)) (now («memory_taint» .exit)) ≡ writtenAll (cond on (pairWrites base (buffer (now (room .entry)) (now («room_taint» .entry))) begin sum channel lane) []) (buffer (now (memory .entry)) (now («memory_taint» .entry))) ⌝ }
+    requires { ⌜ (begin ≤ 8589934592) × (lane < 16) ⌝ }
+    ensures { λ _. ⌜ buffer (now (memory .exit)) (now («memory_taint» .exit)) ≡ writtenAll (cond (getD (now (on .entry)) lane false) (pairWrites base (buffer (now (room .entry)) (now («room_taint» .entry))) begin (getD (now (sums .entry)) lane 0) channel lane) []) (buffer (now (memory .entry)) (now («memory_taint» .entry))) ⌝ }
 {
-    if on {
-        let from = begin + 4 * (lane as usize);
-        let to = memory_place(base, target_from(sum, channel));
+    let index = lane as usize;
+    if on[index] {
+        let from = begin + 4 * index;
+        let to = memory_place(base, target_from(sums[index], channel));
         cells::copy_dword(room, room_taint, from, memory, memory_taint, to);
     }
 }
@@ -253,13 +254,12 @@ fn write_row(
 {
     let mut lane: u8 = 0;
     while lane < lanes {
-        let place = lane as usize;
         write_lane(
             room,
             room_taint,
             begin,
-            on[place],
-            sums[place],
+            on,
+            sums,
             base,
             channel,
             lane,

@@ -10,7 +10,7 @@ returns : tie.Need-returns
 returns c =
     let n = c .before in
     let f = n .before in
-    sources-told _ _ _ _ _ _ (ap (λ (e : Exec). e .size) (f .before .before .before .before .split .ensures)) (f .first-byte .ensures) (n .scatter-needed .ensures) (c .stage-with-data .ensures)
+    sources-told _ (c .before .before .before .before .before .before .before .before .before .args .plan) _ _ _ _ (ap (λ (e : Exec). e .size) (f .before .before .before .before .split .ensures)) (f .first-byte .ensures) (n .scatter-needed .ensures) (c .stage-with-data .ensures)
 
 pub stage-sources-spec : {M : Type 1} → statement M
 stage-sources-spec = tie.close (tie.spec (λ c κs. search needs) (λ c κs. search needs) (λ c. search needs) (λ c κs. search needs) (λ c. search needs) (λ c κs. search needs) returns)

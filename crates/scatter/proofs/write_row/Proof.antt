@@ -30,7 +30,7 @@ loop-holds c = (omega arith, row-written _ _ _ _ _ _ _ _, refl, refl)
 loop-again : tie.Need-loop-again Inv-loop μ-loop
 loop-again c =
     let w = c .before .before .before .before in
-    let t = w .before .before .before .before .before in
+    let t = w .before .before .before in
     let l = t .before .loop in
     (omega arith, lanes-turn _ _ (l .lane) _ _ _ _ _ (t .loop-test .taken) refl (w .write-lane .ensures) (l .inv .1), search needs, search needs)
 
@@ -40,4 +40,4 @@ returns c =
     lanes-over _ _ (l .lane) _ _ _ (c .loop-test .left) (l .inv .1)
 
 pub write-row-spec : {M : Type 1} → statement M
-write-row-spec = tie.close (tie.spec Inv-loop μ-loop loop-holds (λ c. search needs) (λ c. search needs) (λ c. search needs) (λ c. search needs) (λ c κs. search needs) (λ c. search needs) (λ c. search needs) loop-again (λ c. search needs) (λ c. search needs) returns)
+write-row-spec = tie.close (tie.spec Inv-loop μ-loop loop-holds (λ c κs. search needs) (λ c. search needs) (λ c. search needs) loop-again (λ c. search needs) (λ c. search needs) returns)
