@@ -5,7 +5,7 @@ use formats::Base;
 ghost use mathlib.Core.Path.{_≡_};
 ghost use Prim.Native.Nat.{_+_, _*_, _-_, _≤_};
 ghost use lib.ListN.{length};
-ghost use Rattle.hex.specs.Storing.{placed, fits, stored};
+ghost use Rattle.hex.specs.mirror.Storing.{placed, fits, stored};
 ghost use Rattle.formats.specs.Writing.{wrote, written};
 ghost use Rattle.text_parts.specs.Predicate.{ending, predicate};
 ghost use Rattle.text_parts.specs.Exec.{mask, exec, scatterExec};
