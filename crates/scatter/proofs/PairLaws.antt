@@ -1,6 +1,6 @@
 -- Where the loops over lanes and channels begin, in the words of `FromRoom`; and what one pair writes.
-use Prim.Native.Nat.{ℕ, _+_, _*_, _-_}
-use mathlib.Core.Path.{_≡_, sym, ap}
+use Prim.Native.Nat.{ℕ, _+_, _*_, _-_, _<_}
+use mathlib.Core.Path.{_≡_, refl, sym, ap, subst}
 use mathlib.Core.Bool.{Bool, true, false, cond, _&&_}
 use mathlib.Core.List.{List, []}
 use lib.ListN.{getD}
@@ -8,7 +8,7 @@ use Rattle.cells.specs.Buffer.{Buffer}
 use Rattle.cells.specs.Writes.{Write, writtenAll, copyWrites}
 use Rattle.cells.specs.Over.{amongFrom, each, some}
 use Rattle.cells.proofs.EffectLaws.{nothing-written}
-use Rattle.cells.proofs.LaneLaws.{lanes-begun}
+use Rattle.cells.proofs.LaneLaws.{lanes-begun, lanes-turn}
 use Rattle.cells.proofs.SearchLaws.{some-begun}
 use Rattle.channels.specs.Bits.{bit}
 use Rattle.staging.specs.declared.Layout.{Layout}
@@ -43,6 +43,12 @@ module _ (base : ℕ) (room : Buffer) where
   pub row-written : (begin : ℕ) (on : List Bool) (sums : List ℕ) (lanes c : ℕ) (b : Buffer) → writtenAll (each (λ i. pairWrites base room begin (getD sums i 0) c i) (amongFrom (λ k. getD on k false) 0 (lanes - 0))) b ≡ writtenAll (rowWrites base room begin on sums lanes c) b
   unfolding rowWrites enabledLanes
   row-written begin on sums lanes c b = lanes-begun (λ i. pairWrites base room begin (getD sums i 0) c i) (λ k. getD on k false) lanes b
+
+  -- a turn that writes the lane which is next
+  pub row-turn : (begin : ℕ) (on : List Bool) (sums : List ℕ) (c lane lanes at : ℕ) (b b′ whole : Buffer) → lane < lanes → b′ ≡ writtenAll (cond (getD on at false) (pairWrites base room begin (getD sums at 0) c at) []) b → at ≡ lane → writtenAll (each (λ i. pairWrites base room begin (getD sums i 0) c i) (amongFrom (λ k. getD on k false) lane (lanes - lane))) b ≡ whole → writtenAll (each (λ i. pairWrites base room begin (getD sums i 0) c i) (amongFrom (λ k. getD on k false) (lane + 1) (lanes - (lane + 1)))) b′ ≡ whole
+  row-turn begin on sums c lane lanes at b b′ whole h made e =
+      lanes-turn (λ i. pairWrites base room begin (getD sums i 0) c i) (λ k. getD on k false) lane lanes (getD on lane false) b b′ whole h refl
+      (subst (λ (j : ℕ). b′ ≡ writtenAll (cond (getD on j false) (pairWrites base room begin (getD sums j 0) c j) []) b) e made)
 
   pub rows-written : (s : Pairs) (on : List Bool) (sums : List ℕ) (b : Buffer) → writtenAll (each (λ c. rowWrites base room (rowPlace s c) on sums (s .lanes) c) (amongFrom (bit (s .channels)) 0 (4 - 0))) b ≡ writtenAll (allWrites base room s on sums) b
   unfolding allWrites

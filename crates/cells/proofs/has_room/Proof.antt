@@ -5,10 +5,10 @@ use Rattle.cells.proofs.has_room.Statement.{statement}
 use Rattle.cells.proofs.has_room.Tie as tie
 
 returns : tie.Need-returns
-returns c = room-told _ _ _ (c .if1 .taken)
+returns c = room-short _ _ _ (c .if1 .taken)
 
 returns-2 : tie.Need-returns-2
-returns-2 c = room-short _ _ _ (c .if1 .left)
+returns-2 c = room-told _ _ _ (c .if1 .left)
 
 pub has-room-spec : {M : Type 1} → statement M
 has-room-spec = tie.close (tie.spec returns returns-2)

@@ -10,7 +10,8 @@ returns c = tainted-done _ _ _ _ _ _ _ (c .before .some-tainted .ensures) _ (c .
 returns-2 : tie.Need-returns-2
 returns-2 c =
     let t = c .before .before in
-    misaligned-done _ _ _ _ _ _ _ (t .before .some-tainted .ensures) (t .if1 .left) _ (c .before .some-breaks .ensures) _ (c .if2 .taken)
+    let a = t .before .before .before .before .before .before .args in
+    misaligned-done _ _ (a .pairs) (a .on .now) (a .sums .now) _ _ (t .before .some-tainted .ensures) (t .if1 .left) _ (c .before .some-breaks .ensures) _ (c .if2 .taken)
 
 returns-3 : tie.Need-returns-3
 returns-3 c =

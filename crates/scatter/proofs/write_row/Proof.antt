@@ -10,9 +10,9 @@ use lib.ListN.{length, getD}
 use Rattle.cells.specs.Buffer.{buffer}
 use Rattle.cells.specs.Writes.{writtenAll}
 use Rattle.cells.specs.Over.{amongFrom, each}
-use Rattle.cells.proofs.LaneLaws.{lanes-turn, lanes-over}
+use Rattle.cells.proofs.LaneLaws.{lanes-over}
 use Rattle.scatter.specs.mirror.FromRoom.{pairWrites, rowWrites}
-use Rattle.scatter.proofs.PairLaws.{row-written}
+use Rattle.scatter.proofs.PairLaws.{row-written, row-turn}
 
 abbrev Inv-loop : tie.InvT-loop
 Inv-loop room room-taint begin on sums lanes base channel memory₀ memory-taint₀ lane₀ memory memory-taint lane =
@@ -32,7 +32,8 @@ loop-again c =
     let w = c .before .before .before .before in
     let t = w .before .before .before in
     let l = t .before .loop in
-    (omega arith, lanes-turn _ _ (l .lane) _ _ _ _ _ (t .loop-test .taken) refl (w .write-lane .ensures) (l .inv .1), search needs, search needs)
+    let a = t .before .before .before .before .before .before .args in
+    (omega arith, row-turn _ _ _ (a .on .now) (a .sums .now) _ (l .lane) _ _ _ _ _ (t .loop-test .taken) (w .write-lane .ensures) refl (l .inv .1), search needs, search needs)
 
 returns : tie.Need-returns Inv-loop μ-loop
 returns c =
