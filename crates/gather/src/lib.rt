@@ -5,13 +5,13 @@ use staging::Layout;
 ghost use mathlib.Core.Path.{_≡_};
 ghost use mathlib.Core.Bool.{cond};
 ghost use mathlib.Core.List.{[]};
-ghost use Prim.Native.Nat.{_≤_};
+ghost use Prim.Native.Nat.{_%_, _≤_, min};
 ghost use Rattle.cells.specs.Buffer.{buffer};
 ghost use Rattle.cells.specs.Writes.{writtenAll};
 ghost use Rattle.cells.specs.Over.{among, each};
 ghost use Rattle.cells.specs.Effect.{RegistersDone};
 ghost use Rattle.channels.specs.mirror.Prepared.{isOn};
-ghost use Rattle.gather.specs.mirror.FromRoom.{shapeOf, roomAddress, smaller, bytesRead, dwordWrites, roomWrites, roomLane};
+ghost use Rattle.gather.specs.mirror.FromRoom.{shapeOf, roomAddress, bytesRead, dwordWrites, roomWrites, roomLane};
 ghost use Rattle.gather.specs.mirror.Guarded.{gatherFits, gatherGuarded};
 
 // Whether the offsets have room, and are dwords at most.
@@ -47,18 +47,23 @@ fn shape_of(plan: Plan) -> Shape
     }
 }
 
+fn low_dword(number: u64) -> u32
+    ensures { λ r. ⌜ r ≡ number % 4294967296 ⌝ }
+{
+    (number % 4294967296) as u32
+}
+
 // The sum of a lane's two offsets, modulo 2^32.
 fn address_of(bytes: &[u8], layout: Layout, lane: u8) -> u32
     ensures { λ r. ⌜ r ≡ roomAddress (now (bytes .entry)) layout lane ⌝ }
 {
-    let offset = staging::first_number(bytes, layout, lane);
-    let element_offset = staging::second_number(bytes, layout, lane);
-    let sum = std::num::wrapping_add_u64(offset, element_offset);
-    (sum % 4294967296) as u32
+    let offset = low_dword(staging::first_number(bytes, layout, lane));
+    let element_offset = low_dword(staging::second_number(bytes, layout, lane));
+    std::num::wrapping_add_u32(offset, element_offset)
 }
 
 fn smaller(a: u32, b: u32) -> u32
-    ensures { λ r. ⌜ r ≡ smaller a b ⌝ }
+    ensures { λ r. ⌜ r ≡ min a b ⌝ }
 {
     if a < b { a } else { b }
 }

@@ -1,8 +1,7 @@
 -- A lane of a gather worked out from the room, where Offset and Element_offset are staged. `proofs/RoomLaws.antt` shows that it is `gatherLane`.
-use Prim.Native.Nat.{ℕ, _+_, _-_}
+use Prim.Native.Nat.{ℕ, _+_, _-_, min}
 use mathlib.Core.Bool.{Bool, true, false, cond}
 use mathlib.Core.List.{List, _++_}
-use lib.Dec.{ltb}
 use lib.ListN.{getD}
 use Rattle.cells.specs.Buffer.{Buffer, markOf}
 use Rattle.cells.specs.Element.{element}
@@ -21,12 +20,9 @@ shapeOf p = record { layout = layoutOf (p .left) (p .right) (execSize (p .contro
 unfoldable pub roomAddress : List ℕ → Layout → ℕ → ℕ
 roomAddress bytes s lane = gatherAddress (firstNumber bytes s lane) (secondNumber bytes s lane)
 
-unfoldable pub smaller : ℕ → ℕ → ℕ
-smaller a b = cond (ltb a b) a b
-
 -- how many bytes of the dword are read: those of the block that lie before the surface's end
 unfoldable pub bytesRead : Shape → ℕ → ℕ
-bytesRead s address = smaller (smaller (s .block) 4) (s .length - address)
+bytesRead s address = min (min (s .block) 4) (s .length - address)
 
 -- a dword of which n bytes are read from a position on: wholly marked if its address is doubtful, else with the marks of the bytes read
 unfoldable pub dwordWrites : Buffer → ℕ → ℕ → Bool → ℕ → List Write
