@@ -21,9 +21,9 @@ use Rattle.formats.proofs.TableTests.{sound, opens, single, size, table-under}
 use Rattle.formats.proofs.WordLaws.{table-lawful, begins-table}
 use Rattle.formats.proofs.AroundLaws.{before-lawful}
 use Rattle.formats.proofs.NumberLaws.{number-lawful, number-under}
-use Rattle.fields.specs.Rules.{execGood, scatterExecGood}
 use Rattle.text_parts.specs.Exec.{maskEndings, sizes, scatterSizes, maskParts, mask, execOf, execFits, exec, scatterExecFits, scatterExec}
 use Rattle.text_parts.proofs.PartLaws.{in-table, in-range}
+use Rattle.text_parts.proofs.GoodLaws.{exec-good-is, scatter-exec-good-is}
 
 -- ---- the mask
 
@@ -92,8 +92,9 @@ module _ (p : List ℕ) (first count : ℕ) (fits : ℕ → Bool) (words-are : s
 -- ---- all sizes
 
 pub exec-told : (e : ℕ) → execFits e ≡ true → (e < 256) × (0 ≤ e % 16) × (e % 16 < 0 + 6)
-unfolding execFits execGood
-exec-told e h =
+unfolding execFits
+exec-told e fits =
+    let h = rw (exec-good-is e) at fits in
     let k = ltb-true e 256 (both-left (ltb e 256) (eqb (e / 8 % 2) 0 && ltb (e % 8) 6) h) in
     let g = both-right (ltb e 256) (eqb (e / 8 % 2) 0 && ltb (e % 8) 6) h in
     let x = eqb-true (e / 8 % 2) 0 (both-left (eqb (e / 8 % 2) 0) (ltb (e % 8) 6) g) in
@@ -101,10 +102,11 @@ exec-told e h =
     (k, omega arith, omega (arith, x, y))
 
 exec-good : (e : ℕ) → e < 256 → 0 ≤ e % 16 → e % 16 < 0 + 6 → execFits e ≡ true
-unfolding execFits execGood
+unfolding execFits
 exec-good e h _ k =
-    both (ltb e 256) (eqb (e / 8 % 2) 0 && ltb (e % 8) 6) (lt-ltb e 256 h)
-    (both (eqb (e / 8 % 2) 0) (ltb (e % 8) 6) (eq-eqb (e / 8 % 2) 0 (omega (arith, k))) (lt-ltb (e % 8) 6 (omega (arith, k))))
+    rw (exec-good-is e)
+    (both (ltb e 256) (eqb (e / 8 % 2) 0 && ltb (e % 8) 6) (lt-ltb e 256 h)
+    (both (eqb (e / 8 % 2) 0) (ltb (e % 8) 6) (eq-eqb (e / 8 % 2) 0 (omega (arith, k))) (lt-ltb (e % 8) 6 (omega (arith, k)))))
 
 pub exec-matches : Matches {A = ℕ × ℕ} (λ v. v .0 * 16 + (0 + v .1)) (λ e. (e / 16, e % 16 - 0)) execFits (pair mask (λ _. table sizes))
 unfolding size
@@ -121,8 +123,9 @@ one-or-other true b e = inl refl
 one-or-other false b e = inr e
 
 pub scatter-told : (e : ℕ) → scatterExecFits e ≡ true → (e < 256) × (3 ≤ e % 16) × (e % 16 < 3 + 2)
-unfolding scatterExecFits scatterExecGood
-scatter-told e h =
+unfolding scatterExecFits
+scatter-told e fits =
+    let h = rw (scatter-exec-good-is e) at fits in
     let k = ltb-true e 256 (both-left (ltb e 256) (eqb (e / 8 % 2) 0 && (eqb (e % 8) 3 || eqb (e % 8) 4)) h) in
     let g = both-right (ltb e 256) (eqb (e / 8 % 2) 0 && (eqb (e % 8) 3 || eqb (e % 8) 4)) h in
     let x = eqb-true (e / 8 % 2) 0 (both-left (eqb (e / 8 % 2) 0) (eqb (e % 8) 3 || eqb (e % 8) 4) g) in
@@ -133,10 +136,11 @@ scatter-told e h =
     on k x (inr y) = let z = eqb-true (e % 8) 4 y in (k, omega (arith, x, z), omega (arith, x, z))
 
 scatter-good : (e : ℕ) → e < 256 → 3 ≤ e % 16 → e % 16 < 3 + 2 → scatterExecFits e ≡ true
-unfolding scatterExecFits scatterExecGood
+unfolding scatterExecFits
 scatter-good e h g k =
-    both (ltb e 256) (eqb (e / 8 % 2) 0 && (eqb (e % 8) 3 || eqb (e % 8) 4)) (lt-ltb e 256 h)
-    (both (eqb (e / 8 % 2) 0) (eqb (e % 8) 3 || eqb (e % 8) 4) (eq-eqb (e / 8 % 2) 0 (omega (arith, k))) (on (eqb (e % 8) 3) refl))
+    rw (scatter-exec-good-is e)
+    (both (ltb e 256) (eqb (e / 8 % 2) 0 && (eqb (e % 8) 3 || eqb (e % 8) 4)) (lt-ltb e 256 h)
+    (both (eqb (e / 8 % 2) 0) (eqb (e % 8) 3 || eqb (e % 8) 4) (eq-eqb (e / 8 % 2) 0 (omega (arith, k))) (on (eqb (e % 8) 3) refl)))
   where
     on : (b : Bool) → eqb (e % 8) 3 ≡ b → (b || eqb (e % 8) 4) ≡ true
     on true x = refl

@@ -1,4 +1,5 @@
 pub mod PartLaws
+pub mod GoodLaws
 pub mod PredicateLaws
 pub mod ExecLaws
 pub mod FieldLaws

@@ -17,9 +17,9 @@ use Rattle.formats.proofs.Combining.{pair-lawful, through-lawful, blank-lawful,
 use Rattle.formats.proofs.TableTests.{sound, opens, size, table-under}
 use Rattle.formats.proofs.WordLaws.{table-lawful, begins-table}
 use Rattle.formats.proofs.NumberLaws.{number-lawful, begins-number, number-under, decimal-characters}
-use Rattle.fields.specs.Rules.{predicateGood}
 use Rattle.text_parts.specs.Predicate.{zeros, nothing, openings, endings, groupEndings, predicateTo, predicateFrom, predicateFits, ending, idAndEnding, predicate}
 use Rattle.text_parts.proofs.PartLaws.{in-table, in-range}
+use Rattle.text_parts.proofs.GoodLaws.{predicate-good-is}
 
 both-zero : (v : ℕ × ℕ) → zeros v ≡ true → v ≡ (0, 0)
 both-zero v h = λ i. (eqb-true (v .0) 0 (both-left (eqb (v .0) 0) (eqb (v .1) 0) h) i, eqb-true (v .1) 0 (both-right (eqb (v .0) 0) (eqb (v .1) 0) h) i)
@@ -86,19 +86,36 @@ parts : (a j n : ℕ) → a ≤ 1 → j < 3 → n ≤ 4095 → Parts (a * 32768 
 parts a j n h g k = record { inverse = omega arith; test = omega arith; number = omega arith; clear = omega arith; small = omega arith }
 
 good-word : (p : ℕ) → p < 65536 → p / 4096 % 2 ≡ 0 → p / 8192 % 4 < 3 → predicateFits p ≡ true
-unfolding predicateFits predicateGood
-good-word p h g k = both (ltb p 65536) (eqb (p / 4096 % 2) 0 && ltb (p / 8192 % 4) 3) (lt-ltb p 65536 h) (both (eqb (p / 4096 % 2) 0) (ltb (p / 8192 % 4) 3) (eq-eqb (p / 4096 % 2) 0 g) (lt-ltb (p / 8192 % 4) 3 k))
+unfolding predicateFits
+good-word p h g k = rw (predicate-good-is p) (both (ltb p 65536) (eqb (p / 4096 % 2) 0 && ltb (p / 8192 % 4) 3) (lt-ltb p 65536 h) (both (eqb (p / 4096 % 2) 0) (ltb (p / 8192 % 4) 3) (eq-eqb (p / 4096 % 2) 0 g) (lt-ltb (p / 8192 % 4) 3 k)))
+
+-- the fields of a word that the encoder takes
+pub record Word (p : ℕ) : Type 0 where
+  pub small : p < 65536
+  pub clear : p / 4096 % 2 ≡ 0
+  pub three : p / 8192 % 4 < 3
+
+pub word-tells : (p : ℕ) → predicateFits p ≡ true → Word p
+unfolding predicateFits
+word-tells p fits =
+    let h = rw (predicate-good-is p) at fits in
+    let g = both-right (ltb p 65536) (eqb (p / 4096 % 2) 0 && ltb (p / 8192 % 4) 3) h in
+    record {
+      small = ltb-true p 65536 (both-left (ltb p 65536) (eqb (p / 4096 % 2) 0 && ltb (p / 8192 % 4) 3) h);
+      clear = eqb-true (p / 4096 % 2) 0 (both-left (eqb (p / 4096 % 2) 0) (ltb (p / 8192 % 4) 3) g);
+      three = ltb-true (p / 8192 % 4) 3 (both-right (eqb (p / 4096 % 2) 0) (ltb (p / 8192 % 4) 3) g);
+    }
 
 from-word : (p k n i : ℕ) → (p ≡ 0 → ⊥) → 1 + p / 32768 ≡ k → p % 4096 ≡ n → (p / 8192 % 4 + 2) % 3 ≡ i → predicateFrom p ≡ (k, (n, i))
 from-word p k n i h x y z = rw (ne-eqb p 0 h) (λ l. (x l, (y l, z l)))
 
 predicate-into : (k n i : ℕ) → k < 3 → idAndEnding k .good (n, i) ≡ true → (predicateFits (predicateTo (k, (n, i))) ≡ true) × (predicateFrom (predicateTo (k, (n, i))) ≡ (k, (n, i)))
-unfolding idAndEnding predicateFits predicateGood pair blank
+unfolding idAndEnding pair blank
 predicate-into k n i h = told (eqb k 0) refl
   where
     told : (b : Bool) → eqb k 0 ≡ b → cond b nothing (pair (number 10 0 4095) (λ n. ending k n)) .good (n, i) ≡ true →
         (predicateFits (cond b 0 ((k - 1) * 32768 + (i + 1) % 3 * 8192 + n)) ≡ true) × (predicateFrom (cond b 0 ((k - 1) * 32768 + (i + 1) % 3 * 8192 + n)) ≡ (k, (n, i)))
-    told true e g = (refl, λ x. (sym (eqb-true k 0 e) x, sym (both-zero (n, i) g) x))
+    told true e g = (good-word 0 (omega arith) refl (omega arith), λ x. (sym (eqb-true k 0 e) x, sym (both-zero (n, i) g) x))
     told false e g =
         let u = number-under 10 0 4095 n (both-left (number 10 0 4095 .good n) (ending k n .good i) g) in
         let t = ending-under k n i (both-right (number 10 0 4095 .good n) (ending k n .good i) g) in
@@ -117,26 +134,20 @@ predicate-into k n i h = told (eqb k 0) refl
             some v a b c = omega (arith, z a b, f, c)
 
 predicate-out : (p : ℕ) → predicateFits p ≡ true → (pair (table openings) idAndEnding .good (predicateFrom p) ≡ true) × (predicateTo (predicateFrom p) ≡ p)
-unfolding idAndEnding predicateFits predicateGood pair blank size
+unfolding idAndEnding pair blank size
 predicate-out p h = told (eqb p 0) refl
   where
-    small : p < 65536
-    small = ltb-true p 65536 (both-left (ltb p 65536) (eqb (p / 4096 % 2) 0 && ltb (p / 8192 % 4) 3) h)
-
-    clear : p / 4096 % 2 ≡ 0
-    clear = eqb-true (p / 4096 % 2) 0 (both-left (eqb (p / 4096 % 2) 0) (ltb (p / 8192 % 4) 3) (both-right (ltb p 65536) (eqb (p / 4096 % 2) 0 && ltb (p / 8192 % 4) 3) h))
-
-    three : p / 8192 % 4 < 3
-    three = ltb-true (p / 8192 % 4) 3 (both-right (eqb (p / 4096 % 2) 0) (ltb (p / 8192 % 4) 3) (both-right (ltb p 65536) (eqb (p / 4096 % 2) 0 && ltb (p / 8192 % 4) 3) h))
+    word : Word p
+    word = word-tells p h
 
     on : (k n i j : ℕ) → k ≡ 1 + p / 32768 → n ≡ p % 4096 → j ≡ p / 8192 % 4 → i ≡ (j + 2) % 3 → (p ≡ 0 → ⊥) →
         (oneOf (words openings) .good k && cond (eqb k 0) nothing (pair (number 10 0 4095) (λ n. ending k n)) .good (n, i) ≡ true) × (cond (eqb k 0) 0 ((k - 1) * 32768 + (i + 1) % 3 * 8192 + n) ≡ p)
     on k n i j a b c d y =
         let e : eqb k 0 ≡ false = ne-eqb k 0 (λ v. omega (arith, v, a)) in
-        let l : j < 3 = omega (arith, c, three) in
+        let l : j < 3 = omega (arith, c, word .three) in
         let r : (i + 1) % 3 ≡ j = omega (arith, d, l) in
-        let q : p ≡ (k - 1) * 32768 + j * 8192 + n = omega (arith, a, b, c, clear) in
-        rw (in-table openings k (omega (arith, a, small)), e, r)
+        let q : p ≡ (k - 1) * 32768 + j * 8192 + n = omega (arith, a, b, c, word .clear) in
+        rw (in-table openings k (omega (arith, a, word .small)), e, r)
         (both (number 10 0 4095 .good n) (ending k n .good i) (in-range 10 0 4095 n (omega arith) (omega (arith, b))) (ending-fits k n i (omega (arith, d)) (λ x z. omega (arith, d, l, some x z q y))), sym q)
       where
         some : k ≡ 1 → n ≡ 0 → p ≡ (k - 1) * 32768 + j * 8192 + n → (p ≡ 0 → ⊥) → 0 < j

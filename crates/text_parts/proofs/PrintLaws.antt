@@ -7,7 +7,7 @@ use Prim.Native.Nat.{ℕ, zero, suc, _+_, _*_, _-_, _/_, _%_, _^_, _≤_, _<_}
 use native.Mathlib.Omega.{arith}
 use native.Mathlib.Nat.{sub-zero}
 use lib.Dec.{eqb, ltb, leb}
-use borrow.Author.Tests.{eqb-true, eqb-false, ne-eqb, leb-true, leb-false, ltb-true, ltb-false}
+use borrow.Author.Tests.{eqb-true, eqb-false, ne-eqb, leb-true, leb-false, ltb-false}
 use Rattle.hex.specs.Digits.{characterOf}
 use Rattle.formats.specs.Text.{text}
 use Rattle.formats.specs.Format.{pair, through, blank}
@@ -19,13 +19,13 @@ use Rattle.channels.specs.Predicate.{hasPredicate, predicateId, predicateCombin
 use Rattle.field_groups.specs.declared.Raw.{Raw}
 use Rattle.field_groups.specs.declared.Immediate.{Immediate}
 use Rattle.formats.proofs.Tests.{both-left, both-right}
-use Rattle.fields.specs.Rules.{predicateGood}
 use Rattle.text_parts.specs.Predicate.{openings, endings, groupEndings, ending, idAndEnding, predicateFits, predicate}
 use Rattle.text_parts.specs.Exec.{maskEndings, sizes, scatterSizes, maskParts, mask, execOf, execFits, exec, scatterExecFits, scatterExec}
 use Rattle.text_parts.specs.Fields.{decimal}
 use Rattle.text_parts.specs.Raw.{rawParts, raw}
 use Rattle.text_parts.specs.Immediate.{types, wideTypes, typeOf, placeOf, immediateParts, immediateFits, immediate}
 use Rattle.text_parts.specs.Texts.{optional, predicateText, execText, rawText, typeText, immediateText}
+use Rattle.text_parts.proofs.PredicateLaws.{Word, word-tells}
 use Rattle.text_parts.proofs.ExecLaws.{exec-told, scatter-told}
 use Rattle.text_parts.proofs.ImmediateLaws.{Code, listed-code, place-alone, fits-tells}
 
@@ -164,22 +164,6 @@ ending-text k id j h g = told j (eqb k 1 && eqb id 0) refl h g
     told (suc (suc zero)) true e h g = refl
     told (suc (suc zero)) false e h g = refl
     told (suc (suc (suc j))) b e h g = absurd (omega arith)
-
--- the fields of a word that the encoder takes
-record Word (p : ℕ) : Type 0 where
-  small : p < 65536
-  clear : p / 4096 % 2 ≡ 0
-  three : p / 8192 % 4 < 3
-
-word-tells : (p : ℕ) → predicateFits p ≡ true → Word p
-unfolding predicateFits predicateGood
-word-tells p h =
-    let g = both-right (ltb p 65536) (eqb (p / 4096 % 2) 0 && ltb (p / 8192 % 4) 3) h in
-    record {
-      small = ltb-true p 65536 (both-left (ltb p 65536) (eqb (p / 4096 % 2) 0 && ltb (p / 8192 % 4) 3) h);
-      clear = eqb-true (p / 4096 % 2) 0 (both-left (eqb (p / 4096 % 2) 0) (ltb (p / 8192 % 4) 3) g);
-      three = ltb-true (p / 8192 % 4) 3 (both-right (eqb (p / 4096 % 2) 0) (ltb (p / 8192 % 4) 3) g);
-    }
 
 word-is : (p a j n : ℕ) → a ≡ p / 32768 → j ≡ p / 8192 % 4 → n ≡ p % 4096 → p / 4096 % 2 ≡ 0 → p ≡ a * 32768 + j * 8192 + n
 word-is p a j n x y z c = omega (arith, x, y, z, c)
