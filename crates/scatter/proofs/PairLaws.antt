@@ -1,4 +1,4 @@
--- Where the loops over lanes and channels begin, in the words of `FromRoom`; and what one pair writes.
+-- Where the loops over lanes and channels begin and where a search ends, in the words of `FromRoom`; and what one pair writes.
 use Prim.Native.Nat.{ℕ, _+_, _*_, _-_, _<_}
 use mathlib.Core.Path.{_≡_, refl, sym, ap, subst}
 use mathlib.Core.Bool.{Bool, true, false, cond, _&&_}
@@ -9,7 +9,7 @@ use Rattle.cells.specs.Writes.{Write, writtenAll, copyWrites}
 use Rattle.cells.specs.Over.{amongFrom, each, some}
 use Rattle.cells.proofs.EffectLaws.{nothing-written}
 use Rattle.cells.proofs.LaneLaws.{lanes-begun, lanes-turn}
-use Rattle.cells.proofs.SearchLaws.{some-begun}
+use Rattle.cells.proofs.SearchLaws.{some-begun, some-step}
 use Rattle.channels.specs.Bits.{bit}
 use Rattle.staging.specs.declared.Layout.{Layout}
 use Rattle.staging.specs.mirror.Room.{eitherStaged}
@@ -30,6 +30,11 @@ module _ (rule : Rule) (on : List Bool) (sums : List ℕ) where
   pub row-begun : (lanes c : ℕ) → some (λ i. breaks rule (targetFrom (getD sums i 0) c)) (amongFrom (λ k. getD on k false) 0 (lanes - 0)) ≡ rowBreaks rule on sums lanes c
   unfolding rowBreaks enabledLanes
   row-begun lanes c = some-begun (λ i. breaks rule (targetFrom (getD sums i 0) c)) (λ k. getD on k false) lanes
+
+  -- a lane that is on and breaks the rule: so does its channel
+  pub row-found : (lanes c i : ℕ) → i < lanes → (getD on i false && breaks rule (targetFrom (getD sums i 0) c)) ≡ true → some (λ k. breaks rule (targetFrom (getD sums k 0) c)) (amongFrom (λ k. getD on k false) i (lanes - i)) ≡ rowBreaks rule on sums lanes c → rowBreaks rule on sums lanes c ≡ true
+  row-found lanes c i h here e =
+      sym (rw (some-step (λ k. breaks rule (targetFrom (getD sums k 0) c)) (λ k. getD on k false) i lanes h, here) at e)
 
   pub rows-begun : (s : Pairs) → some (rowBreaks rule on sums (s .lanes)) (amongFrom (bit (s .channels)) 0 (4 - 0)) ≡ someBreaks rule s on sums
   unfolding someBreaks

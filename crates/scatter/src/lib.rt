@@ -18,7 +18,7 @@ ghost use Rattle.staging.specs.mirror.Room.{eitherStaged};
 ghost use Rattle.scatter.specs.Scatter.{outside};
 ghost use Rattle.scatter.specs.mirror.Guarded.{scatterFits, window, scatterGuarded};
 ghost use Rattle.scatter.specs.mirror.Rules.{breaks};
-ghost use Rattle.scatter.specs.mirror.FromRoom.{layoutFor, pairsOf, sourcesStaged, laneSum, WorkedOut, targetFrom, rowPlace, pairWrites, rowWrites, allWrites, rowBreaks, someBreaks, someTainted, roomEffect};
+ghost use Rattle.scatter.specs.mirror.FromRoom.{layoutFor, pairsOf, sourcesStaged, laneSum, WorkedOut, targetFrom, rowPlace, pairWrites, rowWrites, allWrites, someBreaks, someTainted, roomEffect};
 
 // What every target address has to meet. The window is given by its base and its length.
 enum Rule {
@@ -141,40 +141,25 @@ fn lane_breaks(rule: Rule, on: bool, sum: u64, channel: u8) -> bool
     on & breaks(rule, target_from(sum, channel))
 }
 
-fn row_breaks(rule: Rule, on: &[bool; 16], sums: &[u64; 16], lanes: u8, channel: u8) -> bool
-    requires { ⌜ lanes ≤ 16 ⌝ }
-    ensures { λ r. ⌜ r ≡ rowBreaks rule (now (on .entry)) (now (sums .entry)) lanes channel ⌝ }
-{
-    let mut found = false;
-    let mut lane: u8 = 0;
-    while lane < lanes {
-        let index = lane as usize;
-        found |= lane_breaks(rule, on[index], sums[index], channel);
-        lane += 1;
-    }
-    found
-}
-
-fn channel_breaks(rule: Rule, pairs: Pairs, on: &[bool; 16], sums: &[u64; 16], channel: u8) -> bool
-    requires { ⌜ pairs .lanes ≤ 16 ⌝ }
-    ensures { λ r. ⌜ r ≡ (bit (pairs .channels) channel && rowBreaks rule (now (on .entry)) (now (sums .entry)) (pairs .lanes) channel) ⌝ }
-{
-    if channels::bit_at(pairs.channels as u32, channel as usize) {
-        row_breaks(rule, on, sums, pairs.lanes, channel)
-    } else {
-        false
-    }
-}
-
-// Whether an enabled pair of a channel and a lane breaks a rule.
+// Whether an enabled pair of a channel and a lane breaks a rule: the first that does ends the search.
 fn some_breaks(rule: Rule, pairs: Pairs, on: &[bool; 16], sums: &[u64; 16]) -> bool
     requires { ⌜ pairs .lanes ≤ 16 ⌝ }
     ensures { λ r. ⌜ r ≡ someBreaks rule pairs (now (on .entry)) (now (sums .entry)) ⌝ }
 {
     let mut found = false;
     let mut channel: u8 = 0;
-    while channel < 4 {
-        found |= channel_breaks(rule, pairs, on, sums, channel);
+    'search: while channel < 4 {
+        if channels::bit_at(pairs.channels as u32, channel as usize) {
+            let mut lane: u8 = 0;
+            while lane < pairs.lanes {
+                let index = lane as usize;
+                if lane_breaks(rule, on[index], sums[index], channel) {
+                    found = true;
+                    break 'search;
+                }
+                lane += 1;
+            }
+        }
         channel += 1;
     }
     found
