@@ -29,15 +29,6 @@ no-mask exec h =
     let e : exec / 16 % 16 ≡ exec / 16 = omega arith in
     rw e
 
--- every size is at least 1 and at most 128, and that of a code which decoding lets pass at most 32
-pub size-at-least : (exec : ℕ) → 1 ≤ execSize exec
-size-at-least exec = rw (exec-size exec) (two-to 0 (exec % 8) (omega arith))
-
+-- every size is at most 128
 pub size-at-most : (exec : ℕ) → execSize exec ≤ 128
 size-at-most exec = rw (exec-size exec) (two-to (exec % 8) 7 (omega arith))
-
-pub good-size-at-most : (exec : ℕ) → exec % 8 < 6 → execSize exec ≤ 32
-good-size-at-most exec h = rw (exec-size exec) (two-to (exec % 8) 5 (omega arith))
-
-pub offset-at-most : (exec : ℕ) → execOffset exec ≤ 28
-offset-at-most exec = omega (arith, exec-offset exec)

@@ -9,7 +9,7 @@ use native.Mathlib.Omega.{arith}
 use lib.ListN.{length, drop}
 use lib.Dec.{ltb, eqb}
 use borrow.Author.Tests.{eqb-false}
-use Rattle.reader.specs.Reply.{Reply, refused, done}
+use Rattle.reader.specs.Reply.{refused, done}
 use Rattle.fields.specs.Told.{LayoutTold, LackingFirst}
 use Rattle.fields.proofs.Told.{lacking-three}
 use Rattle.decoder.specs.declared.Instruction.{Instruction}

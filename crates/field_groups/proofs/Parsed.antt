@@ -8,7 +8,6 @@ use native.Mathlib.Omega.{arith}
 use lib.Dec.{eqb}
 use Rattle.element_types.specs.Types.{hasHighWord}
 use Rattle.little_endian.specs.LittleEndian.{Bytes}
-use Rattle.reader.specs.Reply.{Read}
 use Rattle.reader.proofs.Laws.{cond-then}
 use Rattle.fields.specs.declared.TagRule.{TagRule}
 use Rattle.fields.specs.declared.TagRule.the-variants as tag

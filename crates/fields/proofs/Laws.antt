@@ -9,7 +9,7 @@ use lib.Dec.{eqb}
 use borrow.Author.Tests.{eqb-true, eqb-false}
 use Rattle.little_endian.specs.LittleEndian.{bytesOf, Bytes}
 use Rattle.little_endian.proofs.Laws.{length-bytes}
-use Rattle.reader.specs.Reply.{Reply, refused, done, Read, got, andThen}
+use Rattle.reader.specs.Reply.{Reply, refused, done, Read, andThen}
 use Rattle.reader.proofs.Laws.{Passed, passed-then, cond-then, read-then}
 use Rattle.reader.specs.Reading.{readAt}
 use Rattle.fields.specs.declared.ByteRule.{ByteRule}

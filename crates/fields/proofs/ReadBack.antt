@@ -10,7 +10,6 @@ use lib.Dec.{eqb}
 use borrow.Author.Tests.{eqb-true, ne-eqb}
 use Rattle.little_endian.proofs.Laws.{length-bytes}
 use Rattle.reader.specs.Reply.{Reply, refused, Read, got, andThen}
-use Rattle.reader.specs.Reading.{readAt}
 use Rattle.reader.proofs.Laws.{past, read-there}
 use Rattle.fields.specs.declared.ByteRule.{ByteRule}
 use Rattle.fields.specs.declared.WordRule.{WordRule}

@@ -1,5 +1,5 @@
 -- The writes of a dword of which some bytes are read, in the code's words and in the definition's.
-use Prim.Native.Nat.{ℕ, zero, suc, _+_, _*_, _-_, _/_, _%_, _≤_, _<_}
+use Prim.Native.Nat.{ℕ, zero, suc, _+_, _-_, _/_, _%_, _≤_, _<_}
 use mathlib.Core.Path.{_≡_, refl, sym, _∙_}
 use mathlib.Core.Bool.{Bool, true, false, cond}
 use mathlib.Core.List.{List, _++_}
@@ -14,7 +14,7 @@ use Rattle.cells.specs.Writes.{writtenAll, numberWrites, copyWrites}
 use Rattle.cells.proofs.NumberLaws.{number-none, number-next, element-is}
 use Rattle.cells.proofs.WriteLaws.{written-append}
 use Rattle.plan.specs.declared.Plan.{Plan}
-use Rattle.gather.specs.Gather.{isRead, gatheredByte, gatheredMark, gatherWrites}
+use Rattle.gather.specs.Gather.{isRead, gatheredByte, gatherWrites}
 use Rattle.gather.specs.mirror.FromRoom.{dwordWrites}
 use Rattle.gather.proofs.MarkLaws.{doubtful-mark, zero-mark, zero-byte, read-mark, read-byte}
 

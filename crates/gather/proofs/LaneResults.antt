@@ -1,6 +1,6 @@
 -- What GATHER_SCALED leaves, for a plan that `check` accepts: every enabled lane's dword is the defined one, each byte under its defined mark,
 -- and no other byte of the registers changes, nor its mark.
-use Prim.Native.Nat.{ℕ, zero, suc, _+_, _≤_, _<_}
+use Prim.Native.Nat.{ℕ, zero, suc, _+_, _≤_}
 use mathlib.Core.Path.{_≡_, sym, ap, _∙_}
 use mathlib.Core.Bool.{Bool}
 use mathlib.Core.List.{List, _∷_}
@@ -9,16 +9,14 @@ use lib.ListN.{length}
 use Rattle.gather.specs.Results.{LanesHold, laneAddress, laneByte, laneDoubtful, laneMark}
 use Rattle.cells.specs.Buffer.{Buffer}
 use Rattle.cells.specs.Writes.{Write, writtenAll}
-use Rattle.cells.specs.Results.{Kept, Outside, Holds}
 use Rattle.cells.proofs.RowLaws.{row, row-none, row-next}
 use Rattle.channels.specs.Exec.{execSize}
 use Rattle.plan.specs.declared.Plan.{Plan}
 use Rattle.plan.proofs.PlanLaws.{GatherSound}
 use Rattle.staging.specs.Lanes.{lanesOn}
-use Rattle.staging.specs.Sources.{elementValue, eitherTainted}
-use Rattle.staging.specs.Results.{Enabled, destination}
+use Rattle.staging.specs.Results.{destination}
 use Rattle.staging.proofs.ResultLaws.{Destinations, others-kept, lanes-hold}
-use Rattle.gather.specs.Gather.{gatherAddress, gatheredByte, gatheredMark, gatherWrites, gatherLane, gatherEffect}
+use Rattle.gather.specs.Gather.{gatheredByte, gatheredMark, gatherWrites, gatherLane, gatherEffect}
 
 dword-row : (surfaces : Buffer) (p : Plan) (doubt : Bool) (address at n j : ℕ) → gatherWrites surfaces p doubt address at j n ≡ row (gatheredByte (surfaces .bytes) p address) (gatheredMark (surfaces .taint) p doubt address) at j n
 unfolding gatherWrites

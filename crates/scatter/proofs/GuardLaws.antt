@@ -4,9 +4,8 @@ use mathlib.Core.Path.{_≡_, sym, ap, _∙_}
 use mathlib.Core.Bool.{Bool, true, false, not}
 use mathlib.Core.List.{List}
 use Rattle.cells.specs.Buffer.{Buffer}
-use Rattle.cells.specs.Effect.{Effect, refused, MemoryDone}
+use Rattle.cells.specs.Effect.{refused, MemoryDone}
 use Rattle.cells.proofs.EffectLaws.{unless-refused, unless-passed}
-use Rattle.channels.specs.Exec.{execSize}
 use Rattle.channels.specs.mirror.Prepared.{lanesOf}
 use Rattle.channels.specs.declared.Lanes.{Lanes}
 use Rattle.plan.specs.declared.Plan.{Plan}

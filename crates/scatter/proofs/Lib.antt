@@ -14,7 +14,6 @@ pub mod SameWrites
 pub mod Untainted
 pub mod Refusal
 pub mod Plain
-pub mod DataLaws
 pub mod SoundLaws
 pub mod PairResults
 pub mod FirstTest

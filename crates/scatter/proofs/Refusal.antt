@@ -4,7 +4,6 @@ use mathlib.Core.Bool.{Bool, true, false}
 use mathlib.Core.List.{List, []}
 use Prim.Native.Nat.{ℕ}
 use Rattle.cells.specs.Buffer.{Buffer}
-use Rattle.cells.specs.Writes.{Write}
 use Rattle.cells.specs.Effect.{Effect, unless}
 use Rattle.cells.proofs.EffectLaws.{unless-refused, unless-passed}
 use Rattle.cells.proofs.RefusalLaws.{WritesOnlyWhenDone, done-writes, unless-writes}

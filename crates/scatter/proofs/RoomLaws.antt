@@ -1,23 +1,22 @@
 -- The effect worked out from the room, and from each lane's sum, is the effect of `Scatter`, whose sources stand in the registers.
 use Prim.Native.Nat.{ℕ, _+_, _*_, _-_, _%_, _^_, _≤_, _<_}
-use mathlib.Core.Path.{_≡_, refl, sym, ap, ap₂, _∙_}
+use mathlib.Core.Path.{_≡_, sym, ap, ap₂, _∙_}
 use mathlib.Core.Bool.{Bool, true, false, _&&_}
-use mathlib.Core.List.{List, []}
+use mathlib.Core.List.{List}
 use native.Mathlib.Omega.{arith}
 use lib.Dec.{leb}
 use lib.ListN.{getD}
 use borrow.Author.Tests.{leb-true}
 use Rattle.cells.specs.Buffer.{Buffer}
 use Rattle.cells.specs.Writes.{copyWrites}
-use Rattle.cells.specs.Over.{among, each, some}
-use Rattle.cells.specs.Effect.{Effect, unless}
+use Rattle.cells.specs.Over.{each, some}
 use Rattle.cells.proofs.CopyLaws.{Copied}
 use Rattle.cells.proofs.LaneLaws.{lanes-alike}
 use Rattle.cells.proofs.SearchLaws.{some-alike}
 use Rattle.channels.specs.Bits.{bit}
 use Rattle.channels.specs.Exec.{execSize}
 use Rattle.channels.specs.Lanes.{laneOn}
-use Rattle.channels.specs.mirror.Prepared.{isOn, lanesOf}
+use Rattle.channels.specs.mirror.Prepared.{lanesOf}
 use Rattle.channels.specs.declared.Lanes.{Lanes}
 use Rattle.channels.proofs.LaneLaws.{lane-told}
 use Rattle.plan.specs.declared.Plan.{Plan}
@@ -30,7 +29,7 @@ use Rattle.staging.proofs.LanesOnLaws.{lanes-on-are}
 use Rattle.staging.proofs.RoomLaws.{data-first, data-second, data-either, data-copied}
 use Rattle.scatter.specs.declared.Rule.{Rule}
 use Rattle.scatter.specs.declared.Rule.the-variants as rule
-use Rattle.scatter.specs.Scatter.{Window, channelsOn, target, sourceByte, misaligned, outside, scatterPair, scatterEffect}
+use Rattle.scatter.specs.Scatter.{Window, channelsOn, target, sourceByte, misaligned, scatterPair, scatterEffect}
 use Rattle.scatter.specs.mirror.Guarded.{scatterFits}
 use Rattle.scatter.specs.mirror.Rules.{breaks}
 use Rattle.scatter.specs.mirror.FromRoom.{layoutFor, pairsOf, sourcesStaged, laneSum, WorkedOut, enabledLanes, targetFrom, rowPlace, pairWrites, rowWrites, allWrites, rowBreaks, someBreaks, someTainted, roomEffect}

@@ -8,11 +8,10 @@ use native.Mathlib.Omega.{arith}
 use lib.ListN.{length}
 use Rattle.shl.specs.Results.{LaneHolds, LanesHold}
 use Rattle.cells.specs.Buffer.{Buffer}
-use Rattle.cells.specs.Element.{element}
 use Rattle.cells.specs.Writes.{writtenAll}
 use Rattle.cells.specs.Over.{each}
 use Rattle.cells.proofs.NumberLaws.{element-is}
-use Rattle.cells.specs.Results.{Kept, Outside, Holds}
+use Rattle.cells.specs.Results.{Holds}
 use Rattle.cells.proofs.RowLaws.{row, number-row}
 use Rattle.cells.proofs.NumberWriteLaws.{number-held}
 use Rattle.channels.specs.Exec.{execSize}

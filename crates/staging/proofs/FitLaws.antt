@@ -1,6 +1,6 @@
 -- What the test of fitting elements says: how many lanes there are, how large their elements, and that both sources have room; and which
 -- elements pass it.
-use Prim.Native.Nat.{ℕ, _+_, _*_, _≤_}
+use Prim.Native.Nat.{ℕ, _*_, _≤_}
 use mathlib.Core.Path.{_≡_, refl}
 use mathlib.Core.Bool.{Bool, true, false, _&&_, false≢true}
 use lib.Dec.{leb}

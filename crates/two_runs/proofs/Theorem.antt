@@ -2,7 +2,6 @@
 -- agree give the same answer, whatever it is, and end with equal marks and equal unmarked bytes.
 use mathlib.Core.Path.{_≡_, refl, sym, ap, _∙_}
 use mathlib.Core.Bool.{Bool, true, false, cond}
-use Prim.Native.Nat.{ℕ}
 use lib.ListN.{length, getD}
 use Rattle.cells.specs.Buffer.{Buffer}
 use Rattle.cells.proofs.Untainted.{Agreeing, taint-same}

@@ -1,6 +1,5 @@
 -- `cells::four_at` meets its contract.
 use borrow.Author.Needs.{needs}
-use mathlib.Core.Path.{_∙_}
 use native.Mathlib.Omega.{arith}
 use Rattle.cells.proofs.FourLaws.{four-read}
 use Rattle.cells.proofs.four_at.Statement.{statement}

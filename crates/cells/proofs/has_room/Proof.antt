@@ -1,5 +1,4 @@
 -- `cells::has_room` meets its contract: no sum that could wrap is taken.
-use borrow.Author.Needs.{needs}
 use Rattle.cells.proofs.FourLaws.{room-told, room-short}
 use Rattle.cells.proofs.has_room.Statement.{statement}
 use Rattle.cells.proofs.has_room.Tie as tie

@@ -1,5 +1,5 @@
 -- `codec_tests::kernel_of` meets its contract. The invariant: the array has its 64 bytes.
-use mathlib.Core.Path.{_≡_, refl, sym}
+use mathlib.Core.Path.{_≡_, refl}
 use Prim.Native.Nat.{_-_}
 use native.Mathlib.Omega.{arith}
 use borrow.Author.Needs.{needs}

@@ -2,7 +2,6 @@
 use borrow.Author.Needs.{needs}
 use Rattle.scatter.proofs.write_channel.Statement.{statement}
 use Rattle.scatter.proofs.write_channel.Tie as tie
-use native.Mathlib.Omega.{arith}
 use Rattle.scatter.proofs.PairLaws.{channel-written, channel-skipped}
 
 write-row-requires : tie.Need-write-row-requires
