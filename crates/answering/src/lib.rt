@@ -10,8 +10,8 @@ ghost use Rattle.frames.specs.mirror.Lines.{lengthOf};
 ghost use Rattle.frames.specs.mirror.Verdicts.{taintLength};
 ghost use Rattle.output.specs.mirror.Page.{page, written};
 ghost use Rattle.output.specs.Output.{bufferLines, outputBytes};
+ghost use Rattle.step.specs.Borrowed.{lent};
 ghost use Rattle.run.specs.Run.{outcome, run};
-ghost use Rattle.answering.specs.mirror.Lent.{lentState};
 ghost use Rattle.answering.specs.mirror.Setting.{taintOf, setupOf};
 ghost use Rattle.answering.specs.Outcome.{outcomeOutput};
 ghost use Rattle.answering.specs.mirror.Bench.{goodOutput, caseOutput};
@@ -69,7 +69,7 @@ fn run_case(
     memory: &mut [u8],
     memory_taint: &mut [u8],
 ) -> Answer
-    ensures { λ r. let t = lentTables types starts counts «predicate_values» surfaces «surface_lengths» in let s = lentState registers «register_taint» surfaces «surface_taint» memory «memory_taint» in ⌜ (outcome r (s .exit) ≡ run (setupOf case (now (kernel .entry)) (t .entry)) (s .entry)) × (r .completed ≤ 4096) × (r .position ≤ 4096) ⌝ }
+    ensures { λ r. let t = lentTables types starts counts «predicate_values» surfaces «surface_lengths» in let s = lent registers «register_taint» surfaces «surface_taint» memory «memory_taint» in ⌜ (outcome r (s .exit) ≡ run (setupOf case (now (kernel .entry)) (t .entry)) (s .entry)) × (r .completed ≤ 4096) × (r .position ≤ 4096) ⌝ }
 {
     let constants = Constants {
         base: case.settings.base,
@@ -135,7 +135,7 @@ fn run_and_write(
     memory_taint: &mut [u8],
     out: &mut [u8],
 ) -> usize
-    ensures { λ r. let t = lentTables types starts counts «predicate_values» surfaces «surface_lengths» in let s = lentState registers «register_taint» surfaces «surface_taint» memory «memory_taint» in ⌜ page (now (out .exit)) r ≡ written (outcomeOutput (case .settings .base) (run (setupOf case (now (kernel .entry)) (t .entry)) (s .entry))) (page (now (out .entry)) 0) ⌝ }
+    ensures { λ r. let t = lentTables types starts counts «predicate_values» surfaces «surface_lengths» in let s = lent registers «register_taint» surfaces «surface_taint» memory «memory_taint» in ⌜ page (now (out .exit)) r ≡ written (outcomeOutput (case .settings .base) (run (setupOf case (now (kernel .entry)) (t .entry)) (s .entry))) (page (now (out .entry)) 0) ⌝ }
 {
     let answer = run_case(
         case,

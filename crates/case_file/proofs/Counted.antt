@@ -8,7 +8,7 @@ use lib.ListN.{length, getD, set, length-set}
 use lib.Seq.{getD-set-same, getD-set-other, set-getD}
 use lib.Dec.{eqb, ltb, leb}
 use borrow.Author.Tests.{lt-ltb, le-ltb, eqb-true, eqb-false}
-use Rattle.hex.specs.mirror.Storing.{fits}
+use Rattle.hex.specs.Storing.{fits}
 use Rattle.hex.proofs.DigitLaws.{cond-both}
 use Rattle.frames.specs.declared.Case.{Case}
 use Rattle.frames.specs.mirror.Reading.{Reading}

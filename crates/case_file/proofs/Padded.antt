@@ -7,7 +7,7 @@ use native.Mathlib.Omega.{arith}
 use lib.ListN.{length, set, take, drop, length-append, length-drop}
 use lib.Seq.{take-append-seam, drop-append-add, drop-drop}
 use borrow.Author.Tests.{le-leb, lt-leb}
-use Rattle.hex.specs.mirror.Storing.{placed, fits, stored}
+use Rattle.hex.specs.Storing.{placed, fits, stored}
 use Rattle.hex.proofs.StoringLaws.{placed-is, placed-more, placed-none}
 
 -- the list, and behind it what the buffer had there

@@ -41,7 +41,7 @@ fn exec_reserved(exec: u8) -> bool
     exec / 8 % 2 == 1 || 6 <= exec % 8
 }
 
-// What the exec byte means is found here and nowhere else.
+// What the exec byte means; decoder, encoder and runs ask it here.
 pub fn split(exec: u8) -> Exec
     ensures { λ r. ⌜ r ≡ execOf exec ⌝ }
 {
@@ -56,7 +56,7 @@ pub fn split(exec: u8) -> Exec
     }
 }
 
-// What the pred word means is found by the next five and nowhere else.
+// What the pred word means is found by the next five; decoder, encoder and runs ask them.
 pub fn has_predicate(pred: u16) -> bool
     ensures { λ r. ⌜ r ≡ hasPredicate pred ⌝ }
 {

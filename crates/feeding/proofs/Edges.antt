@@ -6,7 +6,7 @@ use lib.ListN.{replicate}
 use Rattle.little_endian.specs.LittleEndian.{numberAt}
 use Rattle.hex.specs.Digits.{isDecimal, isLetter, isDigit, digitOf, allDigits}
 use Rattle.hex.specs.Bytes.{isHex, hexBytes}
-use Rattle.hex.specs.mirror.Storing.{placed, fits, stored}
+use Rattle.hex.specs.Storing.{placed, fits, stored}
 use Rattle.frames.specs.mirror.Reading.{Reading, reading, contents, tables}
 use Rattle.frames.specs.mirror.Lines.{nothing, next, badLine, longLine, goodLine, metOf, lengthOf, counted, sized, based, masked}
 use Rattle.frames.specs.mirror.Repeated.{variableRead, predicateRead, surfaceRead}

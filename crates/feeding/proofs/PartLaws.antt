@@ -9,7 +9,7 @@ use lib.ListN.{length, getD, set, take, drop, length-set, length-drop, drop-of-l
 use lib.Seq.{drop-cons, getD-drop}
 use lib.Dec.{eqb, ltb}
 use borrow.Author.Tests.{lt-ltb, ne-eqb, eqb-true}
-use Rattle.hex.specs.mirror.Storing.{placed}
+use Rattle.hex.specs.Storing.{placed}
 use Rattle.hex.proofs.StoringLaws.{placed-none, placed-more}
 use Rattle.feeding.specs.mirror.Feeding.{Row, row, Machine, pushed, allPushed, lineLength, byteFed, fed}
 

@@ -5,7 +5,7 @@ ghost use mathlib.Core.Bool.{cond};
 ghost use mathlib.Core.List.{[]};
 ghost use Prim.Native.Nat.{_+_, _≤_};
 ghost use lib.ListN.{length, take, drop};
-ghost use Rattle.hex.specs.mirror.Storing.{placed};
+ghost use Rattle.hex.specs.Storing.{placed};
 ghost use Rattle.frames.specs.mirror.Lent.{lentContents, lentTables};
 ghost use Rattle.feeding.specs.mirror.Feeding.{row, machine, fresh, pushed, allPushed, lineLength, readOn, fed, isBegun, finished};
 

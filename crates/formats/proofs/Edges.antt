@@ -3,7 +3,7 @@ use mathlib.Core.Path.{_≡_, refl}
 use Prim.Native.Nat.{ℕ}
 use Prim.Native.String.{String}
 use Rattle.hex.specs.Digits.{isDecimal, isLetter, characterOf}
-use Rattle.hex.specs.mirror.Storing.{placed}
+use Rattle.hex.specs.Storing.{placed}
 use Rattle.formats.specs.Text.{text}
 use Rattle.formats.specs.Format.{Out, got, stop, pair, through}
 use Rattle.formats.specs.Words.{words, oneOf, table, before, after}

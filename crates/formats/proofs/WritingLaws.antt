@@ -8,7 +8,7 @@ use lib.Dec.{ltb}
 use lib.ListN.{length, set, take, drop, length-append}
 use lib.Seq.{set-out, take-at}
 use borrow.Author.Tests.{ltb-true, ltb-false, le-ltb}
-use Rattle.hex.specs.mirror.Storing.{placed}
+use Rattle.hex.specs.Storing.{placed}
 use Rattle.hex.proofs.StoringLaws.{length-placed, placed-is}
 use Rattle.formats.specs.Writing.{within, Written, wrote, written}
 use Rattle.formats.proofs.Tests.{cond-then}

@@ -12,7 +12,7 @@ abbrev pub onOut {ℓ} : {A : Type 0} {X : Type ℓ} → Out A → (ℕ → X) �
 onOut (got v e) x f = f v e
 onOut (stop k) x f = x k
 
--- what `read` answers follows from `print` and `good` alone: proofs/Law.antt
+-- of a lawful format what `read` answers follows from `print` and `good` alone: proofs/Law.antt
 pub record Format (A : Type 0) : Type 0 where
   pub print : A → List ℕ
   pub good : A → Bool

@@ -4,7 +4,7 @@ use mathlib.Core.List.{List}
 use mathlib.Core.Bool.{cond}
 use lib.Dec.{ltb}
 use lib.ListN.{length}
-use Rattle.hex.specs.mirror.Storing.{placed}
+use Rattle.hex.specs.Storing.{placed}
 
 -- a place in a buffer of that length, its end at most
 unfoldable pub within : ℕ → ℕ → ℕ

@@ -5,7 +5,7 @@ use mathlib.Core.List.{List}
 use Prim.Native.Nat.{ℕ, _+_, _≤_}
 use native.Mathlib.Omega.{arith}
 use lib.ListN.{length}
-use Rattle.hex.specs.mirror.Storing.{fits}
+use Rattle.hex.specs.Storing.{fits}
 use Rattle.hex.proofs.StoringLaws.{fits-room}
 
 pub room-for : (bytes buffer : List ℕ) (at n : ℕ) (f : Bool) → f ≡ fits bytes at buffer → f ≡ true → n ≡ length bytes → at + n ≤ length buffer

@@ -8,7 +8,7 @@ use native.Mathlib.Numerals.{add-one}
 use lib.ListN.{length, getD, set, take, drop, length-set, length-drop, drop-of-length-le}
 use lib.Seq.{sets, sets-eq, drop-cons}
 use borrow.Author.Tests.{le-leb, lt-leb, leb-true}
-use Rattle.hex.specs.mirror.Storing.{placed, fits, stored}
+use Rattle.hex.specs.Storing.{placed, fits, stored}
 
 pub length-placed : (buffer : List ℕ) (at : ℕ) (bs : List ℕ) → length (placed buffer at bs) ≡ length buffer
 unfolding placed

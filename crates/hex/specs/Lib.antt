@@ -1,3 +1,3 @@
 pub mod Digits
 pub mod Bytes
-pub mod mirror
+pub mod Storing

@@ -5,7 +5,7 @@ ghost use lib.ListN.{length, getD, drop};
 ghost use Rattle.little_endian.specs.LittleEndian.{numberAt};
 ghost use Rattle.hex.specs.Digits.{isDecimal, isLetter, isDigit, digitOf, allDigits, characterOf};
 ghost use Rattle.hex.specs.Bytes.{isHex, hexBytes};
-ghost use Rattle.hex.specs.mirror.Storing.{placed, fits, stored};
+ghost use Rattle.hex.specs.Storing.{placed, fits, stored};
 
 pub fn is_decimal(character: u8) -> bool
     ensures { λ r. ⌜ r ≡ isDecimal character ⌝ }

@@ -7,7 +7,7 @@ use native.Mathlib.Numerals.{add-one}
 use lib.ListN.{length, set, take, drop, length-set}
 use lib.Seq.{take-append-seam}
 use borrow.Author.Tests.{lt-ltb}
-use Rattle.hex.specs.mirror.Storing.{placed}
+use Rattle.hex.specs.Storing.{placed}
 use Rattle.hex.proofs.StoringLaws.{placed-none, placed-more, placed-is}
 use Rattle.output.specs.mirror.Page.{Page, page, pushed, written}
 

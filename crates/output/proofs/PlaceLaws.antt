@@ -8,7 +8,7 @@ use lib.ListN.{length, getD, set, drop, length-set, drop-of-length-le}
 use lib.Seq.{drop-cons}
 use Rattle.hex.specs.Digits.{characterOf}
 use Rattle.hex.specs.Bytes.{hexOf}
-use Rattle.hex.specs.mirror.Storing.{placed}
+use Rattle.hex.specs.Storing.{placed}
 use Rattle.hex.proofs.ByteLaws.{hex-none, hex-more, length-written}
 use Rattle.hex.proofs.StoringLaws.{placed-none, placed-more}
 use Rattle.output.specs.mirror.Page.{page, written}

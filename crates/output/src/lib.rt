@@ -5,7 +5,7 @@ ghost use Prim.Native.Nat.{_+_, _*_, _≤_};
 ghost use lib.ListN.{length};
 ghost use Rattle.little_endian.specs.LittleEndian.{bytesOf};
 ghost use Rattle.hex.specs.Bytes.{hexOf};
-ghost use Rattle.hex.specs.mirror.Storing.{placed};
+ghost use Rattle.hex.specs.Storing.{placed};
 ghost use Rattle.output.specs.mirror.Page.{page, written};
 ghost use Rattle.output.specs.Output.{answerLine, contentLine, memoryLine, bufferLines, outputBytes};
 ghost use Rattle.output.specs.mirror.Numbers.{fourBytes};

@@ -5,7 +5,7 @@ use mathlib.Core.List.{List, _++_}
 use Prim.Native.Nat.{ℕ, _+_, _≤_, _<_}
 use native.Mathlib.Omega.{arith}
 use lib.ListN.{length, drop}
-use Rattle.hex.specs.mirror.Storing.{placed, fits, stored}
+use Rattle.hex.specs.Storing.{placed, fits, stored}
 use Rattle.hex.proofs.StoringLaws.{fits-yes, fits-no, stored-all, stored-not, placed-is}
 
 pub whole-fits : (t l m : List ℕ) → length t ≤ length l → m ≡ placed l 0 t → (true ≡ fits t 0 l) × (m ≡ stored t 0 l)

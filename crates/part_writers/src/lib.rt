@@ -1,11 +1,11 @@
-// The parts of an instruction's line, written into a lent buffer. What does not fit is lost, so that the caller looks at the length alone.
+// Parts of an instruction's line, written into a lent buffer. What does not fit is lost.
 use field_groups::Immediate;
 use field_groups::Raw;
 use formats::Base;
 ghost use mathlib.Core.Path.{_≡_};
 ghost use Prim.Native.Nat.{_+_, _*_, _-_, _≤_};
 ghost use lib.ListN.{length};
-ghost use Rattle.hex.specs.mirror.Storing.{placed, fits, stored};
+ghost use Rattle.hex.specs.Storing.{placed, fits, stored};
 ghost use Rattle.formats.specs.Writing.{wrote, written};
 ghost use Rattle.text_parts.specs.Predicate.{ending, predicate};
 ghost use Rattle.text_parts.specs.Exec.{mask, exec, scatterExec};
@@ -108,10 +108,10 @@ fn put_type(out: &mut [u8], at: usize, n: u64, place: u64) -> usize
 fn type_place(code: u8) -> u64
     ensures { λ r. ⌜ r ≡ placeOf code ⌝ }
 {
-    if code == 11 {
+    if code == element_types::UQ {
         return 0;
     }
-    if code == 7 {
+    if code == element_types::F {
         return 7;
     }
     code as u64 + 1

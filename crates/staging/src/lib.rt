@@ -57,7 +57,7 @@ pub fn data_place(layout: Layout) -> u32
 }
 
 // The register byte of a lane's element; 0 past the last lane.
-pub fn position_of(elements: Elements, lane: u8) -> usize
+fn position_of(elements: Elements, lane: u8) -> usize
     ensures { λ r. ⌜ r ≡ getD (elements .at) lane 0 ⌝ }
 {
     let at = elements.at;

@@ -1,4 +1,4 @@
-// The parts of an instruction's line that stand in more than one kind of line: predicate, exec byte, numbers, raw operand, immediate.
+// Parts of an instruction's line, read from a text: predicate, exec byte, numbers, raw operand, immediate.
 use field_groups::Immediate;
 use field_groups::Raw;
 use formats::Base;
@@ -212,10 +212,10 @@ fn type_code(place: u64) -> u8
     ensures { λ r. ⌜ r ≡ codeAt place ⌝ }
 {
     if place == 0 {
-        return 11;
+        return element_types::UQ;
     }
     if place == 7 {
-        return 7;
+        return element_types::F;
     }
     (place - 1) as u8
 }

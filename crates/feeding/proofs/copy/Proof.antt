@@ -4,7 +4,7 @@ use Prim.Native.Nat.{_+_, _-_, _≤_}
 use native.Mathlib.Omega.{arith}
 use borrow.Author.Needs.{needs}
 use lib.ListN.{length, drop}
-use Rattle.hex.specs.mirror.Storing.{placed}
+use Rattle.hex.specs.Storing.{placed}
 use Rattle.feeding.proofs.PartLaws.{copy-none, copy-turn, copy-over}
 use Rattle.feeding.proofs.copy.Statement.{statement}
 use Rattle.feeding.proofs.copy.Tie as tie

@@ -6,7 +6,7 @@ use mathlib.Core.List.{List}
 use lib.Dec.{ltb, leb, eqb}
 use lib.ListN.{length, getD, set, drop}
 use Rattle.little_endian.specs.LittleEndian.{numberAt}
-use Rattle.hex.specs.mirror.Storing.{fits, stored}
+use Rattle.hex.specs.Storing.{fits, stored}
 use Rattle.frames.specs.declared.Case.{Case}
 use Rattle.frames.specs.mirror.Lines.{badLine, goodLine, metOf, lengthOf, counted, sized}
 

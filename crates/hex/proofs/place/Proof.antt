@@ -7,7 +7,7 @@ use borrow.Author.Needs.{needs}
 use denote.Ref.{now}
 use lib.ListN.{length, drop}
 use Rattle.hex.specs.Bytes.{hexBytes}
-use Rattle.hex.specs.mirror.Storing.{placed}
+use Rattle.hex.specs.Storing.{placed}
 use Rattle.hex.proofs.ByteLaws.{length-hex}
 use Rattle.hex.proofs.StoringLaws.{placed-turn, placed-over}
 use Rattle.hex.proofs.place.Statement.{statement}

@@ -5,7 +5,7 @@ use native.Mathlib.Omega.{arith}
 use borrow.Author.Needs.{needs}
 use lib.ListN.{length, drop}
 use Rattle.hex.specs.Bytes.{hexOf}
-use Rattle.hex.specs.mirror.Storing.{placed}
+use Rattle.hex.specs.Storing.{placed}
 use Rattle.output.proofs.PlaceLaws.{place-none, second-inside, place-turn, place-over}
 use Rattle.output.proofs.place.Statement.{statement}
 use Rattle.output.proofs.place.Tie as tie

@@ -4,7 +4,7 @@ use Prim.Native.Nat.{_-_}
 use native.Mathlib.Omega.{arith}
 use borrow.Author.Needs.{needs}
 use lib.ListN.{length, drop}
-use Rattle.hex.specs.mirror.Storing.{placed}
+use Rattle.hex.specs.Storing.{placed}
 use Rattle.hex.proofs.StoringLaws.{placed-turn, placed-over}
 use Rattle.part_writers.proofs.copy.Statement.{statement}
 use Rattle.part_writers.proofs.copy.Tie as tie

@@ -1,4 +1,4 @@
--- A line's bytes in a buffer of the caller's.
+-- Bytes put into a buffer from a place on: as many as there is room for, or all or none.
 use Prim.Native.Nat.{ℕ, suc, _+_}
 use mathlib.Core.Bool.{Bool, cond}
 use mathlib.Core.List.{List, [], _∷_}
