@@ -1,7 +1,7 @@
 -- Four and eight bytes at once, where they lie inside: the number that they make, their taint, and what a store of them writes.
 use Prim.Native.Nat.{ℕ, zero, suc, _+_, _*_, _-_, _/_, _%_, _≤_, _<_}
 use mathlib.Core.Path.{_≡_, refl, sym, ap, _∙_}
-use mathlib.Core.Bool.{Bool, true, false, _&&_, _||_, or-assoc, or-false, false≢true}
+use mathlib.Core.Bool.{Bool, true, false, _&&_, _||_, or-assoc, or-false}
 use mathlib.Core.List.{List, _++_}
 use native.Mathlib.Omega.{arith}
 use lib.Dec.{leb, eqb}
@@ -15,6 +15,7 @@ use Rattle.cells.specs.Writes.{Write, writtenAll, numberWrites, copyWrit
 use Rattle.cells.specs.mirror.CopyRoom.{copyRoom, CopyRoom}
 use Rattle.cells.proofs.NumberLaws.{number-none, number-next, element-is}
 use Rattle.cells.proofs.WriteLaws.{written-append}
+use Rattle.cells.proofs.BoolLaws.{both-true}
 
 -- ---- the tests
 -- a sum up to an end, asked by a difference
@@ -27,11 +28,6 @@ room-told end at count h = told (leb at (end - count)) refl
 
 pub room-short : (end at count : ℕ) → end < count → false ≡ leb (at + count) end
 room-short end at count h = sym (lt-leb (at + count) end (omega arith))
-
-pub both-true : (a b : Bool) → (a && b) ≡ true → (a ≡ true) × (b ≡ true)
-both-true true true e = (refl, refl)
-both-true true false e = absurd (false≢true e)
-both-true false b e = absurd (false≢true e)
 
 -- a size that was asked for, and room for it
 pub sized : (room : Bool) (size n at end : ℕ) → room ≡ leb (at + size) end → (room && eqb size n) ≡ true → (size ≡ n) × (at + n ≤ end)

@@ -14,7 +14,8 @@ use Rattle.plan.specs.declared.Plan.{Plan}
 use Rattle.staging.specs.declared.Layout.{Layout}
 use Rattle.staging.specs.Sources.{elementValue, eitherTainted}
 use Rattle.staging.specs.mirror.Room.{layoutOf, elementsFit, bothStaged, eitherStaged}
-use Rattle.staging.proofs.FitLaws.{both-parts, fit-lanes}
+use Rattle.cells.proofs.BoolLaws.{both-true}
+use Rattle.staging.proofs.FitLaws.{fit-lanes}
 use Rattle.staging.proofs.RoomLaws.{both-first, both-second, both-either}
 use Rattle.gather.specs.declared.Shape.{Shape}
 use Rattle.gather.specs.Gather.{gatherAddress, gatherLane}
@@ -39,7 +40,7 @@ module _ (p : Plan) (fit : gatherFits p ≡ true) where
 
   parts : (elementsFit 4 (p .left) lanes ≡ true) × (elementsFit 4 (p .right) lanes ≡ true)
   unfolding gatherFits
-  parts = both-parts _ _ fit
+  parts = both-true _ _ fit
 
   pub few-told : (s : Shape) → s ≡ shapeOf p → s .layout .lanes ≤ 32
   few-told s told = rw told (fit-lanes 4 (p .left) lanes (parts .0))

@@ -3,7 +3,7 @@
 use Prim.Native.Nat.{ℕ, _+_, _-_, _≤_, _<_}
 use mathlib.Core.Path.{_≡_, refl, ap, _∙_}
 use mathlib.Core.Logic.{inl, inr}
-use mathlib.Core.Bool.{Bool, true, false, _&&_, false≢true}
+use mathlib.Core.Bool.{Bool, false}
 use mathlib.Core.List.{List}
 use native.Mathlib.Omega.{arith}
 use lib.Dec.{leb}
@@ -32,10 +32,7 @@ use Rattle.staging.specs.Sources.{eitherTainted}
 use Rattle.staging.proofs.LanesOnLaws.{lanes-on-are}
 use Rattle.staging.specs.Results.{Enabled}
 use Rattle.scatter.specs.Scatter.{Window, channelsOn, target, sourceByte, misaligned, outside, scatterPair, scatterEffect}
-
-both-true : (a b : Bool) → (a && b) ≡ true → (a ≡ true) × (b ≡ true)
-both-true true b e = (refl, e)
-both-true false b e = absurd (false≢true e)
+use Rattle.cells.proofs.BoolLaws.{both-true}
 
 -- what test 12 lets pass has its four bytes in the window
 inside-window : (w : Window) (address : ℕ) → outside w address ≡ false → address - w .base + 4 ≤ w .length

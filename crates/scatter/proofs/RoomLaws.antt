@@ -24,7 +24,8 @@ use Rattle.plan.specs.Needed.{enabledBelow, channelStride, scatterNeeded}
 use Rattle.staging.specs.Lanes.{lanesOn}
 use Rattle.staging.specs.Sources.{elementValue, eitherTainted}
 use Rattle.staging.specs.mirror.Room.{dataPlace, eitherStaged, elementsFit}
-use Rattle.staging.proofs.FitLaws.{both-parts, fit-size, fit-bytes}
+use Rattle.cells.proofs.BoolLaws.{both-true}
+use Rattle.staging.proofs.FitLaws.{fit-size, fit-bytes}
 use Rattle.staging.proofs.LanesOnLaws.{lanes-on-are}
 use Rattle.staging.proofs.RoomLaws.{data-first, data-second, data-either, data-copied}
 use Rattle.scatter.specs.declared.Rule.{Rule}
@@ -45,13 +46,13 @@ module _ (p : Plan) (fit : scatterFits p ≡ true) where
 
   parts : (leb count 16 ≡ true) × ((elementsFit 8 (p .left) count && elementsFit 8 (p .right) count) ≡ true)
   unfolding scatterFits
-  parts = both-parts (leb count 16) (elementsFit 8 (p .left) count && elementsFit 8 (p .right) count) fit
+  parts = both-true (leb count 16) (elementsFit 8 (p .left) count && elementsFit 8 (p .right) count) fit
 
   pub few : count ≤ 16
   few = leb-true count 16 (parts .0)
 
   elements : (elementsFit 8 (p .left) count ≡ true) × (elementsFit 8 (p .right) count ≡ true)
-  elements = both-parts (elementsFit 8 (p .left) count) (elementsFit 8 (p .right) count) (parts .1)
+  elements = both-true (elementsFit 8 (p .left) count) (elementsFit 8 (p .right) count) (parts .1)
 
   -- 16 lanes of 8 bytes, twice, and 64 dwords
   room-enough : dataPlace (layoutFor p) + scatterNeeded (p .control .exec) (p .channels) ≤ 512

@@ -9,12 +9,7 @@ use native.Mathlib.Omega.{arith}
 use borrow.Author.Tests.{leb-true, le-leb}
 use Rattle.operands.specs.declared.Elements.{Elements}
 use Rattle.staging.specs.mirror.Room.{elementsFit}
-
--- the parts of a test in two parts, and in three
-pub both-parts : (a b : Bool) → (a && b) ≡ true → (a ≡ true) × (b ≡ true)
-both-parts true true e = (refl, refl)
-both-parts true false e = absurd (false≢true e)
-both-parts false b e = absurd (false≢true e)
+use Rattle.cells.proofs.BoolLaws.{both-true}
 
 pub all-three : (a b c : Bool) → (a && b && c) ≡ true → (a ≡ true) × (b ≡ true) × (c ≡ true)
 all-three true true true e = (refl, refl, refl)
@@ -25,7 +20,7 @@ all-three false b c e = absurd (false≢true e)
 module _ (size : ℕ) (e : Elements) (lanes : ℕ) (fit : elementsFit size e lanes ≡ true) where
   parts : (leb lanes 32 ≡ true) × (leb (e .size) size ≡ true)
   unfolding elementsFit
-  parts = both-parts (leb lanes 32) (leb (e .size) size) fit
+  parts = both-true (leb lanes 32) (leb (e .size) size) fit
 
   pub fit-lanes : lanes ≤ 32
   fit-lanes = leb-true lanes 32 (parts .0)
