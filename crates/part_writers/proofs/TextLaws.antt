@@ -68,6 +68,6 @@ pub wide-type : (n k : ℕ) → 4294967296 ≤ n → typeOf n .print k ≡ wordA
 unfolding typeOf oneOf
 wide-type n k h = rw (le-ltb n 4294967296 h)
 
-pub immediate-text : (i : Immediate) (n k : ℕ) → n ≡ i .high * 4294967296 + i .low → k ≡ placeOf (i .code) → immediate .print i ≡ wordAt (words (text "0x|")) 0 ++ (digitsOf 16 n ++ typeOf n .print k)
-unfolding immediate immediateParts before through pair number oneOf
+pub immediate-text : (i : Immediate) (n k : ℕ) → n ≡ i .high * 4294967296 + i .low → k ≡ placeOf (i .code) → immediate .print i ≡ digitsOf 16 n ++ typeOf n .print k
+unfolding immediate immediateParts through pair number
 immediate-text i n k e p = rw (e, p)

@@ -123,14 +123,14 @@ fn whole_number(low: u32, high: u32) -> u64
     high as u64 * 4294967296 + low as u64
 }
 
+// An immediate behind its `0x`.
 pub fn put_immediate(out: &mut [u8], at: usize, i: Immediate) -> usize
     ensures { λ r. ⌜ wrote r (now (out .exit)) ≡ written (now (out .entry)) at (immediate .print i) ⌝ }
 {
     let n = whole_number(i.low, i.high);
     let place = type_place(i.code);
-    let a = formats::put_word(out, at, b"0x|", 0);
-    let b = formats::put_number(out, a, Base::Hexadecimal, n);
-    put_type(out, b, n, place)
+    let a = formats::put_number(out, at, Base::Hexadecimal, n);
+    put_type(out, a, n, place)
 }
 
 // The text at the buffer's start.

@@ -74,11 +74,11 @@ unfoldable immediate-at : String → Out Immediate
 unfolding whole pair through before after words oneOf wordIn scan better chosen common number numberIn begins goesOn moreDigits valueOf isDecimal isLetter typeOf codeAt immediateParts immediate
 immediate-at t = whole immediate (text t)
 
-immediates : (immediate-at "0x20001:uw" ≡ got (record { code = 2; low = 131073; high = 0 }) 10) × (immediate-at "0x200000001:uq" ≡ got (record { code = 11; low = 1; high = 2 }) 14) × (immediate-at "0x0:f" ≡ got (record { code = 7; low = 0; high = 0 }) 5)
+immediates : (immediate-at "20001:uw" ≡ got (record { code = 2; low = 131073; high = 0 }) 8) × (immediate-at "200000001:uq" ≡ got (record { code = 11; low = 1; high = 2 }) 12) × (immediate-at "0:f" ≡ got (record { code = 7; low = 0; high = 0 }) 3)
 unfolding immediate-at
 immediates = (refl, refl, refl)
 
 -- a number past 2 ^ 32 is of type uq alone
-no-immediates : (immediate-at "0x100000000:ud" ≡ stop 13) × (immediate-at "0x10000000000000000:uq" ≡ stop 18) × (immediate-at "0x1:q" ≡ stop 4) × (immediate-at "0x1:u" ≡ stop 5) × (immediate-at "0x01:uw" ≡ stop 3) × (immediate-at "0x:ud" ≡ stop 2) × (immediate-at "0x1:uw " ≡ stop 6)
+no-immediates : (immediate-at "100000000:ud" ≡ stop 11) × (immediate-at "10000000000000000:uq" ≡ stop 16) × (immediate-at "1:q" ≡ stop 2) × (immediate-at "1:u" ≡ stop 3) × (immediate-at "01:uw" ≡ stop 1) × (immediate-at ":ud" ≡ stop 0) × (immediate-at "1:uw " ≡ stop 4)
 unfolding immediate-at
 no-immediates = (refl, refl, refl, refl, refl, refl, refl)

@@ -8,18 +8,16 @@ use native.Mathlib.Omega.{arith}
 use lib.Dec.{eqb, ltb}
 use borrow.Author.Tests.{eqb-true, eqb-false, eq-eqb, ne-eqb, ltb-true, ltb-false, lt-ltb, le-ltb}
 use Rattle.hex.specs.Digits.{isDecimal, isLetter}
-use Rattle.formats.specs.Text.{text}
-use Rattle.formats.specs.Format.{pair, through}
-use Rattle.formats.specs.Words.{table, before}
+use Rattle.formats.specs.Format.{pair}
+use Rattle.formats.specs.Words.{table}
 use Rattle.formats.specs.Numbers.{number}
 use Rattle.formats.specs.mirror.Digits.{isDigit, valueOf}
 use Rattle.formats.proofs.Tests.{both, both-left, both-right, cond-then}
 use Rattle.formats.proofs.Law.{Lawful, free}
 use Rattle.formats.proofs.Following.{Matches, Begins, follows-begins, begins-cond}
 use Rattle.formats.proofs.Combining.{pair-lawful, through-lawful, cond-lawful}
-use Rattle.formats.proofs.TableTests.{sound, opens, single, size, table-under}
+use Rattle.formats.proofs.TableTests.{sound, opens, size, table-under}
 use Rattle.formats.proofs.WordLaws.{table-lawful, begins-table}
-use Rattle.formats.proofs.AroundLaws.{before-lawful}
 use Rattle.formats.proofs.NumberLaws.{number-lawful, number-under}
 use Rattle.element_types.specs.Types.{sizeOf, isListed, hasHighWord}
 use Rattle.field_groups.specs.declared.Immediate.{Immediate}
@@ -148,10 +146,9 @@ place-of c (inr (inr e)) = rw e (refl, omega arith)
 -- ---- the format
 
 immediate-parts-lawful : Lawful immediateParts free
-unfolding immediateParts sound single
+unfolding immediateParts
 immediate-parts-lawful =
-    before-lawful (text "0x|") refl refl
-    (pair-lawful (number-lawful 16 0 18446744073709551615 (omega arith) (omega arith) (omega arith) (omega arith)) type-lawful (follows-begins type-begins))
+    pair-lawful (number-lawful 16 0 18446744073709551615 (omega arith) (omega arith) (omega arith) (omega arith)) type-lawful (follows-begins type-begins)
 
 or-left : (a b : Bool) → a ≡ true → (a || b) ≡ true
 or-left a b e = rw e
@@ -209,7 +206,7 @@ fits-made c l u e h k z =
     (both (ltb u 4294967296) (hasHighWord c || eqb u 0) (lt-ltb u 4294967296 k) z))
 
 pub immediate-matches : Matches immediateTo immediateFrom immediateFits immediateParts
-unfolding immediateParts before through pair
+unfolding immediateParts pair
 immediate-matches =
     record {
       into = λ v h. into (v .0) (v .1) (number-under 16 0 18446744073709551615 (v .0) (both-left (number 16 0 18446744073709551615 .good (v .0)) (typeOf (v .0) .good (v .1)) h) .1) (type-under (v .0) (v .1) (both-right (number 16 0 18446744073709551615 .good (v .0)) (typeOf (v .0) .good (v .1)) h));

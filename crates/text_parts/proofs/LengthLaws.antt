@@ -54,12 +54,12 @@ raw-short =
     (short-before (text "v|") 1 refl refl (short-pair {n = 6} {m = 5} (short-after (text ".|") 1 refl refl (short-number 10 0 65535 4 (omega arith) refl)) (λ _. short-number 10 0 65535 4 (omega arith) refl)))
     raw-matches
 
--- ---- an immediate: `0xffffffffffffffff:uq`
+-- ---- an immediate behind `0x`: `ffffffffffffffff:uq`
 
 type-short : (n : ℕ) → Short (typeOf n) 3
 unfolding typeOf narrow
 type-short n = short-cond (ltb n 4294967296) (short-table types 3 refl) (short-table wideTypes 3 refl)
 
-pub immediate-short : Short immediate 21
-unfolding immediate immediateParts narrow single
-immediate-short = short-through (short-before (text "0x|") 2 refl refl (short-pair {n = 16} {m = 3} (short-number 16 0 18446744073709551615 15 (omega arith) refl) type-short)) immediate-matches
+pub immediate-short : Short immediate 19
+unfolding immediate immediateParts
+immediate-short = short-through (short-pair {n = 16} {m = 3} (short-number 16 0 18446744073709551615 15 (omega arith) refl) type-short) immediate-matches

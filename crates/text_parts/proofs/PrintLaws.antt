@@ -129,8 +129,8 @@ type-print n k g = told (ltb n 4294967296) refl
     told true e = refl
     told false e = let z = g (ltb-false n 4294967296 e) in ap (λ (x : ℕ). wordAt (words wideTypes) x) z ∙ ap (λ (x : ℕ). wordAt (words types) x) (sym z)
 
-pub immediate-prints : (i : Immediate) → immediateFits i ≡ true → immediate .print i ≡ immediateText i
-unfolding immediate immediateParts before through pair number oneOf words wordAt immediateText
+pub immediate-prints : (i : Immediate) → immediateFits i ≡ true → text "0x" ++ immediate .print i ≡ immediateText i
+unfolding immediate immediateParts through pair number immediateText
 immediate-prints i h =
     let f = fits-tells i h in
     let n = i .high * 4294967296 + i .low in

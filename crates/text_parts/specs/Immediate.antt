@@ -1,11 +1,11 @@
--- An immediate's text, `0x20001:uw`: the whole stored number, the high word above the low one, and the type. From 2 ^ 32 on the type is uq.
+-- An immediate's text behind its `0x`, `20001:uw`: the whole stored number, the high word above the low one, and the type. From 2 ^ 32 on the type is uq.
 use Prim.Native.Nat.{ℕ, _+_, _*_, _-_, _/_, _%_}
 use mathlib.Core.List.{List}
 use mathlib.Core.Bool.{Bool, cond, _&&_, _||_}
 use lib.Dec.{ltb, eqb}
 use Rattle.formats.specs.Text.{text}
 use Rattle.formats.specs.Format.{Format, pair, through}
-use Rattle.formats.specs.Words.{table, before}
+use Rattle.formats.specs.Words.{table}
 use Rattle.formats.specs.Numbers.{number}
 use Rattle.element_types.specs.Types.{F, UQ, isListed, hasHighWord}
 use Rattle.field_groups.specs.declared.Immediate.{Immediate}
@@ -34,7 +34,7 @@ abbrev pub immediateFrom : Immediate → ℕ × ℕ
 immediateFrom i = (i .high * 4294967296 + i .low, placeOf (i .code))
 
 unfoldable pub immediateParts : Format (ℕ × ℕ)
-immediateParts = before (text "0x|") (pair (number 16 0 18446744073709551615) typeOf)
+immediateParts = pair (number 16 0 18446744073709551615) typeOf
 
 -- a listed type, both words ud, the high one 0 if the type lacks it
 unfoldable pub immediateFits : Immediate → Bool

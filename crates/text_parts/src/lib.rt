@@ -232,26 +232,22 @@ fn high_word(n: u64) -> u32
     (n / 4294967296) as u32
 }
 
+// An immediate behind its `0x`.
 pub fn immediate_at(text: &[u8], c: Cursor) -> ImmediateRead
     ensures { λ r. ⌜ toldImmediate r ≡ immediate .read (now (text .entry)) (c .at) ⌝ }
 {
-    match c.one_of(text, b"0x|") {
-        NumberRead::Got(opening, c1) => {
-            match c1.number(text, Base::Hexadecimal, 0, 18446744073709551615) {
-                NumberRead::Got(n, c2) => match type_at(text, c2, n) {
-                    NumberRead::Got(place, c3) => ImmediateRead::Got(
-                        Immediate {
-                            code: type_code(place),
-                            low: low_word(n),
-                            high: high_word(n),
-                        },
-                        c3,
-                    ),
-                    NumberRead::Stop(k) => ImmediateRead::Stop(k),
+    match c.number(text, Base::Hexadecimal, 0, 18446744073709551615) {
+        NumberRead::Got(n, c1) => match type_at(text, c1, n) {
+            NumberRead::Got(place, c2) => ImmediateRead::Got(
+                Immediate {
+                    code: type_code(place),
+                    low: low_word(n),
+                    high: high_word(n),
                 },
-                NumberRead::Stop(k) => ImmediateRead::Stop(k),
-            }
-        }
+                c2,
+            ),
+            NumberRead::Stop(k) => ImmediateRead::Stop(k),
+        },
         NumberRead::Stop(k) => ImmediateRead::Stop(k),
     }
 }

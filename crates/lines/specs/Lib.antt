@@ -1,0 +1,5 @@
+pub mod Braces
+pub mod Bodies
+pub mod Line
+pub mod LineOf
+pub mod Reading

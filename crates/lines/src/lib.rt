@@ -1,0 +1,1 @@
+// The line of an instruction, read from a text.

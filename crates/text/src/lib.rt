@@ -1,0 +1,1 @@
+// Kernels as text: an instruction printed as a line, and a text read.
