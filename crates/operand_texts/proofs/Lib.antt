@@ -1,1 +1,3 @@
 pub mod RegionLaws
+pub mod GeneralLaws
+pub mod OperandLaws
