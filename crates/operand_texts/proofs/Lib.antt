@@ -1,3 +1,4 @@
 pub mod RegionLaws
 pub mod GeneralLaws
 pub mod OperandLaws
+pub mod LengthLaws

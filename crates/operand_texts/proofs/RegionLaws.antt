@@ -83,9 +83,11 @@ source-region-matches =
     into v w h r q x y z = let p = parts r v w h q x y z in (parts-good r v w h p x y z, λ i. (p .vertical i, (p .width i, p .masked i)))
 
     out : (r : ℕ) → Region r → ((oneOf (words verticals) .good (r % 16) && (oneOf (words widths) .good (r / 16 % 16) && oneOf (words strides) .good (r / 256 % 16))) ≡ true) × (r % 16 + 16 * (r / 16 % 16) + 256 * (r / 256 % 16) ≡ r)
-    out r k =
-        (both (oneOf (words verticals) .good (r % 16)) (oneOf (words widths) .good (r / 16 % 16) && oneOf (words strides) .good (r / 256 % 16)) (in-table verticals (r % 16) (k .vertical))
-        (both (oneOf (words widths) .good (r / 16 % 16)) (oneOf (words strides) .good (r / 256 % 16)) (in-table widths (r / 16 % 16) (k .width)) (in-table strides (r / 256 % 16) (omega (arith, k .stride)))), omega (arith, k .stride))
+    out r k = (
+      both (oneOf (words verticals) .good (r % 16)) (oneOf (words widths) .good (r / 16 % 16) && oneOf (words strides) .good (r / 256 % 16)) (in-table verticals (r % 16) (k .vertical))
+          (both (oneOf (words widths) .good (r / 16 % 16)) (oneOf (words strides) .good (r / 256 % 16)) (in-table widths (r / 16 % 16) (k .width)) (in-table strides (r / 256 % 16) (omega (arith, k .stride)))),
+      omega (arith, k .stride),
+    )
 
 pub source-region-lawful : Lawful sourceRegion free
 unfolding sourceRegion sound
