@@ -2,3 +2,5 @@ pub mod RegionLaws
 pub mod GeneralLaws
 pub mod OperandLaws
 pub mod LengthLaws
+pub mod BoundLaws
+pub mod ReadLaws
