@@ -2,5 +2,6 @@ pub mod RegionLaws
 pub mod GeneralLaws
 pub mod OperandLaws
 pub mod LengthLaws
+pub mod PrintLaws
 pub mod BoundLaws
 pub mod ReadLaws

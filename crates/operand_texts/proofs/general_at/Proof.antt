@@ -9,18 +9,18 @@ use Rattle.operand_texts.proofs.general_at.Tie as tie
 
 word-of-requires : tie.Need-word-of-requires
 word-of-requires c κs =
-    let a = c .before .before .before .before .before .before .before .before .before .before .before .before .before .before .before in
-    index-bound _ _ _ _ _ (a .before .before .decimal-at .ensures) (a .index .given .1)
+    let index : tie.After-index = search c in
+    index-bound _ _ _ _ _ (index .before .before .decimal-at .ensures) (index .index .given .1)
 
 byte-of-requires : tie.Need-byte-of-requires
 byte-of-requires c κs =
-    let a = c .before .before .before .before .before .before .before .before .before .before .before in
-    row-bound _ _ _ _ _ (a .before .before .decimal-at2 .ensures) (a .row .given .1)
+    let row : tie.After-row = search c in
+    row-bound _ _ _ _ _ (row .before .before .decimal-at2 .ensures) (row .row .given .1)
 
 byte-of-requires-2 : tie.Need-byte-of-requires-2
 byte-of-requires-2 c κs =
-    let a = c .before .before .before .before .before .before .before in
-    column-bound _ _ _ _ _ (a .before .before .decimal-at3 .ensures) (a .column .given .1)
+    let column : tie.After-column = search c in
+    column-bound _ _ _ _ _ (column .before .before .decimal-at3 .ensures) (column .column .given .1)
 
 returns : tie.Need-returns
 unfolding generalOperand general generalParts pair through

@@ -8,13 +8,10 @@ use Rattle.operand_texts.proofs.source_region_at.Tie as tie
 
 region-word-requires : tie.Need-region-word-requires
 region-word-requires c κs =
-    let a = c .before in
-    let b = a .before .before in
-    let d = b .before .before .before in
-    let e = d .before .before in
-    let f = e .before .before .before in
-    let g = f .before .before in
-    (vertical-bound _ _ _ _ _ (g .one-of .ensures) (f .v .given .1), width-bound _ _ _ _ _ (e .one-of2 .ensures) (d .w .given .1), stride-bound _ _ _ _ _ (b .one-of3 .ensures) (a .h .given .1))
+    let third : tie.After-h = search c in
+    let second : tie.After-w = search third in
+    let first : tie.After-v = search second in
+    (vertical-bound _ _ _ _ _ (first .before .before .one-of .ensures) (first .v .given .1), width-bound _ _ _ _ _ (second .before .before .one-of2 .ensures) (second .w .given .1), stride-bound _ _ _ _ _ (third .before .before .one-of3 .ensures) (third .h .given .1))
 
 returns : tie.Need-returns
 unfolding sourceRegion pair through
