@@ -5,3 +5,4 @@ pub mod LengthLaws
 pub mod PrintLaws
 pub mod BoundLaws
 pub mod ReadLaws
+pub mod Edges

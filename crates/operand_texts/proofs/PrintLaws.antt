@@ -2,9 +2,9 @@
 use mathlib.Core.Path.{_≡_, refl, sym, ap, _∙_}
 use mathlib.Core.List.{List, _++_, append-assoc, append-nil}
 use mathlib.Core.Bool.{Bool, true, false, cond, _&&_, not, true≢false}
-use Prim.Native.Nat.{ℕ, zero, suc, _+_, _-_, _/_, _%_, _≤_, _<_}
+use Prim.Native.Nat.{ℕ, zero, suc, _+_, _/_, _%_, _≤_, _<_}
 use native.Mathlib.Omega.{arith}
-use lib.Dec.{eqb, ltb}
+use lib.Dec.{eqb}
 use borrow.Author.Tests.{eqb-true, eqb-false, eq-eqb, ne-eqb, lt-ltb, le-ltb}
 use Rattle.hex.specs.Digits.{characterOf}
 use Rattle.formats.specs.Text.{text}
@@ -16,11 +16,10 @@ use Rattle.field_groups.specs.declared.General.{General}
 use Rattle.field_groups.specs.declared.Operand.{Operand}
 use Rattle.field_groups.specs.declared.Operand.the-variants as operand
 use Rattle.text_parts.specs.Fields.{decimal}
-use Rattle.text_parts.specs.Predicate.{nothing}
 use Rattle.text_parts.proofs.PrintLaws.{immediate-prints}
 use Rattle.operand_texts.specs.Region.{verticals, widths, strides, regionFits, sourceRegion, firsts, nullStride, strideBehind, widthAndStride, destinationRegion}
-use Rattle.operand_texts.specs.General.{generalParts, generalFits, general}
-use Rattle.operand_texts.specs.Operand.{forms, formOf, asGeneral, asImmediate, generalOperandFits, operandFits, generalOperand, immediateOperand, formed, source, destination}
+use Rattle.operand_texts.specs.General.{generalParts, general}
+use Rattle.operand_texts.specs.Operand.{formOf, asGeneral, asImmediate, generalOperandFits, operandFits, generalOperand, immediateOperand, formed, source, destination}
 use Rattle.operand_texts.specs.Texts.{codeText, regionText, destinationRegionText, generalText, operandText, destinationText}
 use Rattle.operand_texts.proofs.RegionLaws.{Region, region-tells, alone-tells, not-alone-tells}
 use Rattle.operand_texts.proofs.GeneralLaws.{general-tells}
@@ -103,7 +102,7 @@ three-words v w h x y z =
     ∙ ap (λ (t : List ℕ). (text "<" ++ (codeText v ++ text ";")) ++ ((codeText w ++ text ",") ++ t)) (stride-text h z)
     ∙ joined (codeText v) (codeText w) (codeText h)
 
-source-print : (r : ℕ) → sourceRegion .print r ≡ wordAt (words verticals) (r % 16) ++ (wordAt (words widths) (r / 16 % 16) ++ wordAt (words strides) (r / 256 % 16))
+pub source-print : (r : ℕ) → sourceRegion .print r ≡ wordAt (words verticals) (r % 16) ++ (wordAt (words widths) (r / 16 % 16) ++ wordAt (words strides) (r / 256 % 16))
 unfolding sourceRegion through pair oneOf
 source-print r = refl
 
