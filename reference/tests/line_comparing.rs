@@ -104,9 +104,9 @@ fn wrong_listings_are_caught() {
             300,
             "more than the answer is there: got \"\\n\" behind it",
         ),
-        ("4096", 1000, "got \"! 13 0\\n\""),
-        ("no-limit", 6000, "expected \"! 14 0\\n\", got \""),
-        ("cut-at-65536", 6000, "expected \"! 14 0\\n\", got \""),
+        ("4096", 500, "got \"! 13 0\\n\""),
+        ("no-limit", 1000, "expected \"! 14 0\\n\", got \""),
+        ("cut-at-65536", 1000, "expected \"! 14 0\\n\", got \""),
         ("hex-later", 60, "expected \"! 14 0\\n\", got \""),
         ("silent", 40, "the output ends before line 1 of the answer"),
     ] {
@@ -131,7 +131,7 @@ fn wrong_assemblers_are_caught() {
         ("three-fields", 1500, "expected \"! 16 "),
         ("upper-case", 1500, "expected \"! 16 "),
         ("scale-lost", 300, "expected \""),
-        ("first-108", 6000, "expected \"! 16 109\\n\", got \""),
+        ("first-108", 1500, "expected \"! 16 109\\n\", got \""),
         ("behind-128", 1500, "expected \"! 16 "),
         ("pieces-of-128", 1500, "behind it"),
         ("silent", 40, "the output ends before line 1 of the answer"),
@@ -328,7 +328,10 @@ fn lines_are_spread() {
         listed.iter().all(|(_, count)| **count > 20_000),
         "{listed:?}"
     );
-    assert_eq!(listed.iter().map(|(_, count)| **count).sum::<u64>(), 105_921);
+    assert_eq!(
+        listed.iter().map(|(_, count)| **count).sum::<u64>(),
+        105_921
+    );
     assert_eq!(read, 5532);
     // The longest line has 108 characters.
     assert!(columns.iter().copied().eq(1..=109), "{columns:?}");

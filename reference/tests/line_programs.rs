@@ -133,10 +133,10 @@ fn the_longest_kernel() {
 /// The generated lines through both programs and back.
 #[test]
 fn there_and_back() {
-    let kernels = run(LINES, &["kernels", "--count", "300", "--seed", "7"], b"").stdout;
+    let kernels = run(LINES, &["kernels", "--count", "1000", "--seed", "7"], b"").stdout;
     let listing = answer(LISTING, kernels);
     let good: Vec<&str> = listing.lines().filter(|l| !l.starts_with('!')).collect();
-    assert!(good.len() > 1000, "{}", good.len());
+    assert!(good.len() > 2000, "{}", good.len());
     let encodings = answer(ASSEMBLER, good.join("\n"));
     assert_eq!(answer(LISTING, encodings), good.join("\n") + "\n");
 }
