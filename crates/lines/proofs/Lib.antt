@@ -1,3 +1,5 @@
 pub mod Assumed
 pub mod EndLaws
 pub mod BracesLaws
+pub mod BodiesLaws
+pub mod LineLaws
