@@ -3,3 +3,5 @@ pub mod EndLaws
 pub mod BracesLaws
 pub mod BodiesLaws
 pub mod LineLaws
+pub mod TakenLaws
+pub mod EncodesLaws
