@@ -32,28 +32,8 @@ use Rattle.operand_texts.specs.Operand.{generalOperandFits, operandFits}
 use Rattle.lines.specs.Braces.{gatherBracesFit}
 use Rattle.lines.specs.Bodies.{scalarAndRawsFit, shlFits, gatherFits, scatterFits, messageFits, rawSendFits}
 use Rattle.lines.specs.Line.{predOf, bodyFits, lineFits}
+use Rattle.lines.proofs.FitLaws.{all-each, each-all, shlTests, gatherTests, scatterTests, rawSendTests}
 use Rattle.lines.proofs.TakenLaws.{Taken, TakenIf, taken-append, taken-encodes, judged-good, good-judged, control-alike, scatter-control-alike, raw-alike, destination-alike, source-alike, scalar-alike, access-alike, message-alike}
-
--- ---- tests that all hold
-
-abbrev All : List Bool → Bool
-All [] = true
-All (a ∷ []) = a
-All (a ∷ b ∷ ts) = a && All (b ∷ ts)
-
-abbrev Each : List Bool → Type 0
-Each [] = Unit
-Each (a ∷ ts) = (a ≡ true) × Each ts
-
-all-each : (ts : List Bool) → All ts ≡ true → Each ts
-all-each [] h = tt
-all-each (a ∷ []) h = (h, tt)
-all-each (a ∷ b ∷ ts) h = (both-left a (All (b ∷ ts)) h, all-each (b ∷ ts) (both-right a (All (b ∷ ts)) h))
-
-each-all : (ts : List Bool) → Each ts → All ts ≡ true
-each-all [] h = refl
-each-all (a ∷ []) h = h .0
-each-all (a ∷ b ∷ ts) h = both a (All (b ∷ ts)) (h .0) (each-all (b ∷ ts) (h .1))
 
 -- two groups of fields, one after the other
 both-taken : {P Q : Type 0} {fs gs : List Field} → TakenIf fs P → TakenIf gs Q → TakenIf (fs ++ gs) (P × Q)
@@ -82,10 +62,9 @@ unfolding shlFields lineFits predOf bodyFits shlFits
 shl-alike x =
     let p = x .control .pred in
     let a = both-taken (opcode 0x24 (omega arith)) (both-taken (control-alike (x .control)) (both-taken (destination-alike (x .destination)) (both-taken (source-alike (x .source)) (source-alike (x .count))))) in
-    let tests = predicateFits p ∷ eqb p p ∷ execFits (x .control .exec) ∷ generalOperandFits (x .destination) ∷ operandFits (x .source) ∷ operandFits (x .count) ∷ [] in
     record {
-      to = λ h. let t = a .to h in each-all tests (t .1 .0 .1, (eq-eqb p p refl, (t .1 .0 .0, (t .1 .1 .0, (t .1 .1 .1 .0, (t .1 .1 .1 .1, tt))))));
-      from = λ h. let t = all-each tests h in a .from (tt, ((t .1 .1 .0, t .0), (t .1 .1 .1 .0, (t .1 .1 .1 .1 .0, t .1 .1 .1 .1 .1 .0))));
+      to = λ h. let t = a .to h in each-all (shlTests x) (t .1 .0 .1, (eq-eqb p p refl, (t .1 .0 .0, (t .1 .1 .0, (t .1 .1 .1 .0, (t .1 .1 .1 .1, tt))))));
+      from = λ h. let t = all-each (shlTests x) h in a .from (tt, ((t .1 .1 .0, t .0), (t .1 .1 .1 .0, (t .1 .1 .1 .1 .0, t .1 .1 .1 .1 .1 .0))));
     }
 
 gather-alike : (x : Gather) → TakenIf (gatherFields x) (lineFits (instruction.Gather x) ≡ true)
@@ -93,13 +72,12 @@ unfolding gatherFields lineFits predOf bodyFits gatherFits
 gather-alike x =
     let p = x .control .pred in
     let a = both-taken (opcode 0x78 (omega arith)) (both-taken (control-alike (x .control)) (both-taken (access-alike (x .access)) (scalar-and-raws-alike (x .offset) (x .«element_offset») (x .destination)))) in
-    let tests = predicateFits p ∷ eqb p p ∷ ltb (x .access .«num_blocks») 3 ∷ execFits (x .control .exec) ∷ leb (x .access .surface) 255 ∷ scalarAndRawsFit (x .offset) (x .«element_offset») (x .destination) ∷ gatherBracesFit (x .access .«block_size», x .access .scale) ∷ [] in
     record {
       to = λ h.
           let t = a .to h in
-          each-all tests (t .1 .0 .1, (eq-eqb p p refl, (t .1 .1 .0 .0, (t .1 .0 .0, (t .1 .1 .0 .1 .0, (t .1 .1 .1, (t .1 .1 .0 .1 .1, tt)))))));
+          each-all (gatherTests x) (t .1 .0 .1, (eq-eqb p p refl, (t .1 .1 .0 .0, (t .1 .0 .0, (t .1 .1 .0 .1 .0, (t .1 .1 .1, (t .1 .1 .0 .1 .1, tt)))))));
       from = λ h.
-          let t = all-each tests h in
+          let t = all-each (gatherTests x) h in
           a .from (tt, ((t .1 .1 .1 .0, t .0), ((t .1 .1 .0, (t .1 .1 .1 .1 .0, t .1 .1 .1 .1 .1 .1 .0)), t .1 .1 .1 .1 .1 .0)));
     }
 
@@ -121,13 +99,12 @@ scatter-alike x =
     let p = x .control .pred in
     let b = both-taken (channels-alike (x .channels)) (both-taken (scale-alike (x .scale)) (scalar-and-raws-alike (x .address) (x .«element_offset») (x .source))) in
     let a = both-taken (opcode 0x4e (omega arith)) (both-taken (opcode 0x07 (omega arith)) (both-taken (scatter-control-alike (x .control)) b)) in
-    let tests = predicateFits p ∷ eqb p p ∷ channelsGood (x .channels) ∷ scatterExecFits (x .control .exec) ∷ scalarAndRawsFit (x .address) (x .«element_offset») (x .source) ∷ leb (x .scale) 65535 ∷ [] in
     record {
       to = λ h.
           let t = a .to h .1 .1 in
-          each-all tests (t .0 .1, (eq-eqb p p refl, (t .1 .0, (t .0 .0, (t .1 .1 .1, (t .1 .1 .0, tt))))));
+          each-all (scatterTests x) (t .0 .1, (eq-eqb p p refl, (t .1 .0, (t .0 .0, (t .1 .1 .1, (t .1 .1 .0, tt))))));
       from = λ h.
-          let t = all-each tests h in
+          let t = all-each (scatterTests x) h in
           a .from (tt, (tt, ((t .1 .1 .1 .0, t .0), (t .1 .1 .0, (t .1 .1 .1 .1 .1 .0, t .1 .1 .1 .1 .0)))));
     }
 
@@ -139,16 +116,14 @@ raw-send-alike : (x : RawSend) → TakenIf (rawSendFields x) (lineFits (instruct
 unfolding rawSendFields lineFits predOf bodyFits rawSendFits
 raw-send-alike x =
     let p = x .control .pred in
-    let m = messageFits (x .message .extended) (x .message .«num_src») (x .message .«num_dst») in
     let b = both-taken (control-alike (x .control)) (both-taken (message-alike (x .message)) (scalar-and-raws-alike (x .descriptor) (x .source) (x .destination))) in
     let a = both-taken (opcode 0x5d (omega arith)) (both-taken (modifiers-alike (x .modifiers)) b) in
-    let tests = predicateFits p ∷ eqb p p ∷ ltb (x .modifiers) 2 ∷ execFits (x .control .exec) ∷ m ∷ scalarAndRawsFit (x .descriptor) (x .source) (x .destination) ∷ [] in
     record {
       to = λ h.
           let t = a .to h .1 in
-          each-all tests (t .1 .0 .1, (eq-eqb p p refl, (t .0, (t .1 .0 .0, (t .1 .1 .0, (t .1 .1 .1, tt))))));
+          each-all (rawSendTests x) (t .1 .0 .1, (eq-eqb p p refl, (t .0, (t .1 .0 .0, (t .1 .1 .0, (t .1 .1 .1, tt))))));
       from = λ h.
-          let t = all-each tests h in
+          let t = all-each (rawSendTests x) h in
           a .from (tt, (t .1 .1 .0, ((t .1 .1 .1 .0, t .0), (t .1 .1 .1 .1 .0, t .1 .1 .1 .1 .1 .0))));
     }
 

@@ -3,5 +3,7 @@ pub mod EndLaws
 pub mod BracesLaws
 pub mod BodiesLaws
 pub mod LineLaws
+pub mod FitLaws
 pub mod TakenLaws
 pub mod EncodesLaws
+pub mod PrintLaws
