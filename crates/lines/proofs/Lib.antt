@@ -7,3 +7,4 @@ pub mod FitLaws
 pub mod TakenLaws
 pub mod EncodesLaws
 pub mod PrintLaws
+pub mod LengthLaws
