@@ -34,7 +34,7 @@ use Rattle.text_parts.proofs.RawLaws.{raw-lawful}
 use Rattle.operand_texts.specs.Operand.{generalOperandFits, operandFits, generalOperand, source, destination}
 use Rattle.lines.specs.Braces.{gatherBraces, scatterBraces}
 use Rattle.lines.specs.Bodies.{space, shlParts, shlTo, shlFrom, shlFits, shl, scalarAndRaws, scalarAndRawsFit, blocks, surface, gatherParts, gatherTo, gatherFrom, gatherFits, gather, letters, scatterParts, scatterTo, scatterFrom, scatterFits, scatter, sends, message, messageFits, rawSendParts, rawSendTo, rawSendFrom, rawSendFits, rawSend}
-use Rattle.lines.proofs.Assumed.{source-lawful, destination-lawful}
+use Rattle.operand_texts.proofs.OperandLaws.{source-lawful, destination-lawful}
 use Rattle.lines.proofs.EndLaws.{goesOn, no-digit, keep-more}
 use Rattle.lines.proofs.BracesLaws.{gather-braces-lawful, gather-braces-follow, scatter-braces-lawful, scatter-braces-follow}
 

@@ -13,7 +13,7 @@ use Rattle.text_parts.proofs.LengthLaws.{predicate-short, exec-short, scatter-e
 use Rattle.lines.specs.Braces.{bracing, scaleBehind, sizeAndScale, gatherBraces, scaleAlone, scatterBraces}
 use Rattle.lines.specs.Bodies.{space, shlParts, shl, scalarAndRaws, blocks, surface, gatherParts, gather, letters, scatterParts, scatter, sends, message, rawSendParts, rawSend}
 use Rattle.lines.specs.Line.{names, body, named, line}
-use Rattle.lines.proofs.Assumed.{source-short, destination-short}
+use Rattle.operand_texts.proofs.LengthLaws.{source-short, destination-short}
 use Rattle.lines.proofs.BracesLaws.{gather-braces-matches, scatter-braces-matches}
 use Rattle.lines.proofs.BodiesLaws.{shl-matches, gather-matches, scatter-matches, raw-send-matches}
 use Rattle.lines.proofs.LineLaws.{line-matches}

@@ -1,4 +1,3 @@
-pub mod Assumed
 pub mod EndLaws
 pub mod BracesLaws
 pub mod BodiesLaws

@@ -35,7 +35,7 @@ use Rattle.lines.specs.Braces.{bracing, scaleBehind, sizeAndScale, gathe
 use Rattle.lines.specs.Bodies.{shlParts, shlFrom, shlFits, shl, scalarAndRaws, scalarAndRawsFit, blocks, surface, gatherParts, gatherFrom, gatherFits, gather, letters, scatterParts, scatterFrom, scatterFits, scatter, sends, message, rawSendParts, rawSendFrom, rawSendFits, rawSend}
 use Rattle.lines.specs.Line.{nameOf, predOf, body, named, bodyFits, lineFits, line}
 use Rattle.lines.specs.LineOf.{spaced, shlLine, gatherBracesText, gatherLine, lettersText, scatterBracesText, scatterLine, rawSendLine, lineOf}
-use Rattle.lines.proofs.Assumed.{source-prints, destination-prints}
+use Rattle.operand_texts.proofs.PrintLaws.{source-prints, destination-prints}
 use Rattle.lines.proofs.FitLaws.{all-each, shlTests, gatherTests, scatterTests, rawSendTests}
 
 -- ---- SHL
