@@ -9,3 +9,4 @@ pub mod PrintLaws
 pub mod LengthLaws
 pub mod BoundLaws
 pub mod ReadLaws
+pub mod Statements

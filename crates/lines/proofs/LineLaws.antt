@@ -103,3 +103,7 @@ pub line-lawful : Lawful line goesOn
 unfolding line named opens
 line-lawful =
     through-lawful (pair-lawful predicate-lawful named-lawful (follows-begins (λ pred. begins-pair (λ name. body pred name) (begins-table names bracket refl)))) line-matches
+
+pub line-good : (i : Instruction) → line .good i ≡ lineFits i
+unfolding line through
+line-good i = refl

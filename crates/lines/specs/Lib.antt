@@ -4,3 +4,4 @@ pub mod Line
 pub mod LineOf
 pub mod Reading
 pub mod Told
+pub mod Claims
