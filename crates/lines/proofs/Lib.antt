@@ -10,3 +10,4 @@ pub mod LengthLaws
 pub mod BoundLaws
 pub mod ReadLaws
 pub mod Statements
+pub mod LongLaws
