@@ -1,0 +1,9 @@
+pub mod EndLaws
+pub mod BracesLaws
+pub mod BodiesLaws
+pub mod LineLaws
+pub mod FitLaws
+pub mod TakenLaws
+pub mod EncodesLaws
+pub mod PrintLaws
+pub mod LengthLaws
