@@ -52,11 +52,15 @@ follows-none v test = record { apart = λ a b u x y z. no-space u z }
 lowest : (size : ℕ) → cond (eqb size 0) 1 0 ≤ 1
 lowest size = cond-then (λ (n : ℕ). n ≤ 1) (eqb size 0) (λ _. omega arith) (λ _. omega arith)
 
-scale-behind-lawful : (size : ℕ) → Lawful (scaleBehind size) goesOn
+pub scale-behind-lawful : (size : ℕ) → Lawful (scaleBehind size) goesOn
 unfolding scaleBehind sound single opens isDigit valueOf isDecimal isLetter
 scale-behind-lawful size =
     let l = lowest size in
     weaken goesOn (decimal-lawful (cond (eqb size 0) 1 0) 65535 (text "}|") l (omega (arith, l)) refl refl refl)
+
+pub scale-behind-under : (size n : ℕ) → scaleBehind size .good n ≡ true → n ≤ 65535
+unfolding scaleBehind
+scale-behind-under size n h = decimal-between (cond (eqb size 0) 1 0) 65535 (text "}|") n h .1
 
 size-and-scale-lawful : (braced : ℕ) → Lawful (sizeAndScale braced) goesOn
 unfolding sizeAndScale sound single opens isDigit valueOf isDecimal isLetter

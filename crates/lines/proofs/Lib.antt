@@ -7,3 +7,5 @@ pub mod TakenLaws
 pub mod EncodesLaws
 pub mod PrintLaws
 pub mod LengthLaws
+pub mod BoundLaws
+pub mod ReadLaws

@@ -3,3 +3,4 @@ pub mod Bodies
 pub mod Line
 pub mod LineOf
 pub mod Reading
+pub mod Told
