@@ -10,7 +10,7 @@ use Rattle.formats.specs.mirror.Digits.{numberIn}
 use Rattle.formats.specs.declared.Base.{Base}
 use Rattle.formats.specs.declared.Base.the-variants as base
 
--- the digits of n; the second number bounds how many there are, less one
+-- the digits of n, at most k + 1 of them, where k is the second number
 unfoldable pub digits : ℕ → ℕ → ℕ → List ℕ
 digits b zero n = characterOf n ∷ []
 digits b (suc k) n = cond (ltb n b) (characterOf n ∷ []) (digits b k (n / b) ++ (characterOf (n % b) ∷ []))

@@ -2,7 +2,6 @@
 -- the encoding at its start.
 use Prim.Native.Nat.{ℕ}
 use mathlib.Core.List.{List}
-use lib.ListN.{length}
 use Rattle.reader.specs.Reply.{onReply}
 use Rattle.encoder.specs.Encoding.{encodedIn, encodedInto}
 use Rattle.lines.specs.Reading.{onReading, readingOf}

@@ -1,4 +1,4 @@
--- The text of each part, as the pages write it. Nothing of reading is used here; proofs/PrintLaws.antt says that the formats print these texts.
+-- The text of each part, as document 02 and the pages write it. Nothing of reading is used here; proofs/PrintLaws.antt says that the formats print these texts.
 use Prim.Native.Nat.{ℕ, _+_, _*_}
 use mathlib.Core.List.{List, [], _++_}
 use mathlib.Core.Bool.{Bool, cond}
