@@ -1,5 +1,5 @@
 -- The texts of the ignored fields are lawful formats, behind which neither a digit nor a space may stand.
-use mathlib.Core.Path.{_≡_, refl, sym, ap}
+use mathlib.Core.Path.{_≡_, refl, sym}
 use mathlib.Core.List.{List, _++_}
 use mathlib.Core.Bool.{Bool, true, false, cond, _&&_}
 use Prim.Native.Nat.{ℕ, _≤_, _<_}
@@ -20,7 +20,7 @@ use Rattle.formats.proofs.Combining.{pair-lawful, through-lawful, blank-lawful,
 use Rattle.formats.proofs.TableTests.{sound, opens, single, size, table-under}
 use Rattle.formats.proofs.WordLaws.{table-lawful}
 use Rattle.formats.proofs.AroundLaws.{begins-after}
-use Rattle.formats.proofs.NumberLaws.{number-under, begins-number, decimal-characters}
+use Rattle.formats.proofs.NumberLaws.{begins-number, decimal-characters}
 use Rattle.text_parts.specs.Predicate.{zeros, nothing}
 use Rattle.text_parts.specs.Fields.{decimal}
 use Rattle.text_parts.proofs.PartLaws.{in-table, in-range}
