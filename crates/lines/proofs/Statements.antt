@@ -1,9 +1,9 @@
 -- What is claimed of lines: each instruction that the encoder takes has one, which is read back; no other text is read; and what the column of a 16 says.
 use mathlib.Core.Path.{_≡_, refl, sym, ap, _∙_, subst}
-use mathlib.Core.List.{List, _++_}
+use mathlib.Core.List.{List}
 use mathlib.Core.Logic.{_⊎_, inl, inr}
 use mathlib.Core.Bool.{true}
-use Prim.Native.Nat.{ℕ, suc, _+_, _-_}
+use Prim.Native.Nat.{ℕ, suc, _+_, _-_, _≤_}
 use native.Mathlib.Omega.{arith}
 use lib.ListN.{length, take}
 use Rattle.formats.specs.Format.{Out, got, stop, onOut}
@@ -18,6 +18,7 @@ use Rattle.lines.proofs.EndLaws.{goesOn}
 use Rattle.lines.proofs.LineLaws.{line-lawful, line-good}
 use Rattle.lines.proofs.EncodesLaws.{fits-encodes, encodes-fits}
 use Rattle.lines.proofs.PrintLaws.{line-prints}
+use Rattle.lines.proofs.LengthLaws.{line-short}
 
 -- ---- two readings that are the same
 
@@ -53,6 +54,10 @@ read-line t i = told (whole line t) refl
 -- no two instructions have the same line
 pub one-line : (i j : Instruction) → Encodes i → Encodes j → lineOf i ≡ lineOf j → i ≡ j
 one-line i j e f p = same-line i j (sym (line-read i e) ∙ ap readingOf p ∙ line-read j f)
+
+-- a bound for buffers
+pub line-length : (i : Instruction) → Encodes i → length (lineOf i) ≤ 128
+line-length i e = let h = encodes-fits i (e .0) (e .1) in rw (← line-prints i h) (line-short .most i (rw (line-good i) h))
 
 -- ---- the column
 
