@@ -25,7 +25,7 @@ use Rattle.decoder.specs.declared.Instruction.{Instruction}
 use Rattle.lines.specs.declared.LineRead.{LineRead}
 use Rattle.lines.specs.declared.LineRead.the-variants as line-read
 use Rattle.lines.specs.Braces.{scaleBehind}
-use Rattle.lines.specs.Bodies.{space, blocks, letters, sends}
+use Rattle.lines.specs.Bodies.{space, blocks, letters, sendEndings}
 use Rattle.lines.specs.Line.{line}
 use Rattle.lines.specs.Told.{toldLine}
 use Rattle.lines.proofs.EndLaws.{goesOn}
@@ -78,9 +78,9 @@ module _ (s : List ℕ) (at : ℕ) (r : NumberRead) (n : ℕ) (c : Cursor) where
   unfolding sound size
   letters-bound = word-under letters free refl s at r n c
 
-  pub sends-bound : told r ≡ oneOf (words sends) .read s at → r ≡ read.Got n c → n ≤ 255
+  pub sends-bound : told r ≡ oneOf (words sendEndings) .read s at → r ≡ read.Got n c → n ≤ 255
   unfolding sound size
-  sends-bound e g = let h : n < 2 = word-under sends free refl s at r n c e g in omega (arith, h)
+  sends-bound e g = let h : n < 2 = word-under sendEndings free refl s at r n c e g in omega (arith, h)
 
 -- ---- positions: no line is longer than 128, so reading ends or stops by there
 

@@ -5,7 +5,7 @@ use mathlib.Core.List.{List, _++_}
 use mathlib.Core.Bool.{not, _&&_}
 use lib.Dec.{eqb}
 use Rattle.formats.specs.Text.{text}
-use Rattle.formats.specs.Numbers.{digitsOf}
+use Rattle.formats.specs.Numerals.{digitsOf}
 use Rattle.channels.specs.Bits.{bit}
 use Rattle.field_groups.specs.declared.Access.{Access}
 use Rattle.decoder.specs.declared.Shl.{Shl}

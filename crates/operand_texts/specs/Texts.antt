@@ -4,7 +4,7 @@ use mathlib.Core.List.{List, [], _++_}
 use mathlib.Core.Bool.{cond, _&&_, not}
 use lib.Dec.{eqb}
 use Rattle.formats.specs.Text.{text}
-use Rattle.formats.specs.Numbers.{digitsOf}
+use Rattle.formats.specs.Numerals.{digitsOf}
 use Rattle.field_groups.specs.declared.General.{General}
 use Rattle.field_groups.specs.declared.Operand.{Operand}
 use Rattle.field_groups.specs.declared.Operand.the-variants as operand

@@ -4,7 +4,7 @@ use mathlib.Core.List.{List, [], _++_}
 use mathlib.Core.Bool.{Bool, cond}
 use lib.Dec.{eqb}
 use Rattle.formats.specs.Text.{text}
-use Rattle.formats.specs.Numbers.{digitsOf}
+use Rattle.formats.specs.Numerals.{digitsOf}
 use Rattle.channels.specs.Exec.{execSize, maskNumber, noMask}
 use Rattle.channels.specs.Predicate.{hasPredicate, predicateId, predicateCombine, predicateInverse, ANY, ALL}
 use Rattle.element_types.specs.Types.{UD, D, UW, W, UB, B, F, UQ}
