@@ -1,22 +1,21 @@
 -- What stands behind each instruction's name is a lawful format.
 use mathlib.Core.Path.{_≡_, refl, sym, ap, _∙_}
-use mathlib.Core.List.{List}
 use mathlib.Core.Bool.{Bool, true, false, _&&_, true≢false}
-use Prim.Native.Nat.{ℕ, _+_, _-_, _≤_, _<_}
+use Prim.Native.Nat.{ℕ, _+_, _-_, _≤_}
 use native.Mathlib.Omega.{arith}
 use lib.Dec.{ltb, leb, eqb}
 use borrow.Author.Tests.{eqb-true, eq-eqb, ltb-true, ltb-false, lt-ltb, le-ltb, le-leb}
 use Rattle.hex.specs.Digits.{isDecimal, isLetter}
 use Rattle.formats.specs.Text.{text}
 use Rattle.formats.specs.Format.{Format, pair, through}
-use Rattle.formats.specs.Words.{words, oneOf, table, before, after}
+use Rattle.formats.specs.Words.{table, before, after}
 use Rattle.formats.specs.Numbers.{number}
 use Rattle.formats.specs.mirror.Digits.{isDigit, valueOf}
 use Rattle.formats.proofs.Tests.{both, both-left, both-right}
 use Rattle.formats.proofs.Law.{Lawful, free, weaken}
 use Rattle.formats.proofs.Following.{Matches, follows-free}
 use Rattle.formats.proofs.Combining.{pair-lawful, through-lawful}
-use Rattle.formats.proofs.TableTests.{sound, opens, single, size, table-under, table-good}
+use Rattle.formats.proofs.TableTests.{sound, opens, single, size, table-good}
 use Rattle.formats.proofs.WordLaws.{table-lawful}
 use Rattle.formats.proofs.AroundLaws.{before-lawful, after-lawful}
 use Rattle.fields.specs.Rules.{channelsGood, sourceCountGood}
@@ -24,14 +23,13 @@ use Rattle.field_groups.specs.declared.Raw.{Raw}
 use Rattle.field_groups.specs.declared.Operand.{Operand}
 use Rattle.decoder.specs.declared.Instruction.{Instruction}
 use Rattle.decoder.specs.declared.Instruction.the-variants as instruction
-use Rattle.text_parts.specs.Exec.{execOf, execFits, exec, scatterExecFits, scatterExec}
+use Rattle.text_parts.specs.Exec.{execOf, exec, scatterExecFits, scatterExec}
 use Rattle.text_parts.specs.Fields.{decimal, hexadecimal}
-use Rattle.text_parts.specs.Raw.{rawFits, raw}
-use Rattle.text_parts.proofs.PartLaws.{in-table}
+use Rattle.text_parts.specs.Raw.{raw}
 use Rattle.text_parts.proofs.ExecLaws.{exec-lawful, scatter-exec-lawful}
 use Rattle.text_parts.proofs.FieldLaws.{decimal-lawful, hexadecimal-lawful}
 use Rattle.text_parts.proofs.RawLaws.{raw-lawful}
-use Rattle.operand_texts.specs.Operand.{generalOperandFits, operandFits, generalOperand, source, destination}
+use Rattle.operand_texts.specs.Operand.{generalOperand, source, destination}
 use Rattle.lines.specs.Braces.{gatherBraces, scatterBraces}
 use Rattle.lines.specs.Bodies.{space, shlParts, shlTo, shlFrom, shlFits, shl, scalarAndRaws, scalarAndRawsFit, blocks, surface, gatherParts, gatherTo, gatherFrom, gatherFits, gather, letters, scatterParts, scatterTo, scatterFrom, scatterFits, scatter, sends, message, messageFits, rawSendParts, rawSendTo, rawSendFrom, rawSendFits, rawSend}
 use Rattle.operand_texts.proofs.OperandLaws.{source-lawful, destination-lawful}

@@ -2,12 +2,12 @@
 use mathlib.Core.Path.{_≡_, refl, sym, ap, _∙_, subst}
 use mathlib.Core.List.{List}
 use mathlib.Core.Bool.{true}
-use Prim.Native.Nat.{ℕ, _+_, _≤_, _<_}
+use Prim.Native.Nat.{ℕ, _≤_, _<_}
 use native.Mathlib.Omega.{arith}
 use lib.ListN.{drop}
 use Rattle.hex.specs.Digits.{isDecimal, isLetter}
 use Rattle.formats.specs.Text.{text}
-use Rattle.formats.specs.Format.{Format, got, stop, through}
+use Rattle.formats.specs.Format.{through}
 use Rattle.formats.specs.Words.{words, oneOf, before, after}
 use Rattle.formats.specs.Told.{told}
 use Rattle.formats.specs.mirror.Digits.{isDigit, valueOf}
@@ -15,8 +15,7 @@ use Rattle.formats.specs.declared.Cursor.{Cursor}
 use Rattle.formats.specs.declared.NumberRead.{NumberRead}
 use Rattle.formats.specs.declared.NumberRead.the-variants as read
 use Rattle.formats.proofs.Agree.{common-right}
-use Rattle.formats.proofs.Law.{Got, Stopped, Right, Lawful, free}
-use Rattle.formats.proofs.ShortLaws.{Short}
+use Rattle.formats.proofs.Law.{Got, Stopped, Right, free}
 use Rattle.formats.proofs.NumberLaws.{number-under}
 use Rattle.formats.proofs.TableTests.{sound, size, single, opens}
 use Rattle.formats.proofs.AnswerLaws.{told-good, word-under}

@@ -101,8 +101,10 @@ body-short pred name =
     short-cond (eqb name 0) (shl-short pred)
     (short-cond (eqb name 1) (short-more 82 90 refl (gather-short pred)) (short-cond (eqb name 2) (short-more 76 90 refl (scatter-short pred)) (short-more 82 90 refl (raw-send-short pred))))
 
-pub line-short : Short line 128
+pub line-below : Short line 123
 unfolding line named narrow
-line-short =
-    short-more 123 128 refl
-    (short-through (short-pair {n = 13} {m = 110} predicate-short (λ pred. short-pair {n = 20} {m = 90} (short-table names 20 refl) (body-short pred))) line-matches)
+line-below = short-through (short-pair {n = 13} {m = 110} predicate-short (λ pred. short-pair {n = 20} {m = 90} (short-table names 20 refl) (body-short pred))) line-matches
+
+-- a round number that is enough
+pub line-short : Short line 128
+line-short = short-more 123 128 refl line-below

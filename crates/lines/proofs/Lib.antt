@@ -9,3 +9,6 @@ pub mod PrintLaws
 pub mod LengthLaws
 pub mod BoundLaws
 pub mod ReadLaws
+pub mod Statements
+pub mod LongLaws
+pub mod Worked

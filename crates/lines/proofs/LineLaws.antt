@@ -6,7 +6,7 @@ use native.Mathlib.Omega.{arith}
 use lib.Dec.{eqb}
 use borrow.Author.Tests.{eqb-true}
 use Rattle.formats.specs.Format.{pair, through}
-use Rattle.formats.specs.Words.{words, oneOf, table}
+use Rattle.formats.specs.Words.{words, oneOf}
 use Rattle.formats.proofs.Tests.{both, both-left, both-right}
 use Rattle.formats.proofs.Law.{Lawful, free}
 use Rattle.formats.proofs.Following.{Matches, follows-free, follows-begins, begins-pair}
@@ -103,3 +103,7 @@ pub line-lawful : Lawful line goesOn
 unfolding line named opens
 line-lawful =
     through-lawful (pair-lawful predicate-lawful named-lawful (follows-begins (λ pred. begins-pair (λ name. body pred name) (begins-table names bracket refl)))) line-matches
+
+pub line-good : (i : Instruction) → line .good i ≡ lineFits i
+unfolding line through
+line-good i = refl

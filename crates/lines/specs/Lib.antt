@@ -4,3 +4,5 @@ pub mod Line
 pub mod LineOf
 pub mod Reading
 pub mod Told
+pub mod Claims
+pub mod mirror

@@ -1,8 +1,8 @@
 -- The line of an instruction, to be held beside the Text line of its page. Nothing of reading is used here; proofs/PrintLaws.antt says that the format
 -- prints it. The texts of predicate and exec byte have the space that follows them.
-use Prim.Native.Nat.{ℕ, _/_, _%_, _^_}
+use Prim.Native.Nat.{ℕ, _^_}
 use mathlib.Core.List.{List, _++_}
-use mathlib.Core.Bool.{cond, not, _&&_}
+use mathlib.Core.Bool.{not, _&&_}
 use lib.Dec.{eqb}
 use Rattle.formats.specs.Text.{text}
 use Rattle.formats.specs.Numbers.{digitsOf}
