@@ -79,11 +79,11 @@ column t k = told (whole line t) refl
     here j (inl e) = inl (omega (arith, e))
     here j (inr n) = inr (λ b. n (viable (take (suc j) t) b))
 
-    of : (j : ℕ) → Column line t j → IsColumn t (suc j)
-    of j c =
+    of : (j : ℕ) → readingOf t ≡ noLine (suc j) → Column line t j → IsColumn t (suc j)
+    of j p c =
         let e : suc j - 1 ≡ j = omega arith in
-        record { first = omega arith; last = omega (arith, c .inside); before = rw e (begins (take j t) (c .before)); here = here j (c .here) }
+        record { none = λ i h q. no-line i (suc j) (sym (line-read i h) ∙ ap readingOf q ∙ p); first = omega arith; last = omega (arith, c .inside); before = rw e (begins (take j t) (c .before)); here = here j (c .here) }
 
     told : (o : Out Instruction) → whole line t ≡ o → onOut o (λ k. noLine (suc k)) (λ i e. isLine i) ≡ noLine k → IsColumn t k
     told (got j n) w p = absurd (no-line j k p)
-    told (stop j) w p = subst (IsColumn t) (same-column (suc j) k p) (of j (read-column line goesOn line-lawful t j w))
+    told (stop j) w p = subst (IsColumn t) (same-column (suc j) k p) (of j (ap (λ (o : Out Instruction). onOut o (λ k. noLine (suc k)) (λ i e. isLine i)) w) (read-column line goesOn line-lawful t j w))
