@@ -4,6 +4,5 @@ pub mod KeptLaws
 pub mod StayLaws
 pub mod PartLaws
 pub mod FeedingLaws
-pub mod RowLaws
 pub mod TextLaws
 pub mod Edges

@@ -1,8 +1,8 @@
--- `feeding::push_all` meets its contract, with room for all the characters and without.
+-- `line_blocks::push_all` meets its contract, with room for all the characters and without.
 use borrow.Author.Needs.{needs}
-use Rattle.feeding.proofs.PartLaws.{copied-pushed}
-use Rattle.feeding.proofs.push_all.Statement.{statement}
-use Rattle.feeding.proofs.push_all.Tie as tie
+use Rattle.line_blocks.proofs.PushLaws.{copied-pushed}
+use Rattle.line_blocks.proofs.push_all.Statement.{statement}
+use Rattle.line_blocks.proofs.push_all.Tie as tie
 
 returns : tie.Need-returns
 returns c =

@@ -1,9 +1,9 @@
--- `feeding::push` meets its contract, with room for the character and without.
+-- `line_blocks::push` meets its contract, with room for the character and without.
 use mathlib.Core.Path.{refl}
 use borrow.Author.Needs.{needs}
-use Rattle.feeding.proofs.RowLaws.{pushed-inside, pushed-over}
-use Rattle.feeding.proofs.push.Statement.{statement}
-use Rattle.feeding.proofs.push.Tie as tie
+use Rattle.line_blocks.proofs.RowLaws.{pushed-inside, pushed-over}
+use Rattle.line_blocks.proofs.push.Statement.{statement}
+use Rattle.line_blocks.proofs.push.Tie as tie
 
 returns : tie.Need-returns
 returns c = pushed-inside _ _ _ (c .if1 .taken) refl

@@ -1,37 +1,37 @@
--- `feeding::line_end` meets its contract. The invariant: no 0x0a stands before i.
+-- `line_blocks::line_end` meets its contract. The invariant: no 0x0a stands before i.
 use mathlib.Core.Path.{_≡_, refl, _∙_}
-use Prim.Native.Nat.{_+_, _-_, _≤_}
+use Prim.Native.Nat.{_+_, _-_}
 use native.Mathlib.Omega.{arith}
 use lib.ListN.{length, drop}
-use Rattle.feeding.specs.mirror.Feeding.{lineLength}
-use Rattle.feeding.proofs.PartLaws.{end-here, end-on, end-over, end-is}
-use Rattle.feeding.proofs.line_end.Statement.{statement}
-use Rattle.feeding.proofs.line_end.Tie as tie
+use Rattle.line_blocks.specs.mirror.Rows.{lineLength}
+use Rattle.line_blocks.proofs.PartLaws.{end-here, end-on, end-over, end-is}
+use Rattle.line_blocks.proofs.line_end.Statement.{statement}
+use Rattle.line_blocks.proofs.line_end.Tie as tie
 
 abbrev Inv-loop : tie.InvT-loop
-Inv-loop block from i₀ i = (i ≤ length block) × (i + lineLength (drop i block) ≡ from + lineLength (drop from block))
+Inv-loop block from i₀ i = i + lineLength (drop i block) ≡ from + lineLength (drop from block)
 
 abbrev μ-loop : tie.MeasureT-loop
 μ-loop block from i₀ i = length block - i
 
 loop-holds : tie.Need-loop-holds Inv-loop μ-loop
-loop-holds c = let start : tie.Start Inv-loop μ-loop = search c in (start .pre, refl)
+loop-holds c = refl
 
 returns : tie.Need-returns Inv-loop μ-loop
 returns c =
     let turn : tie.In-loop Inv-loop μ-loop = search c in
     let l = turn .before .loop in
-    end-is _ _ (end-here _ (l .i) (turn .loop-test .taken) (c .if1 .taken)) ∙ l .inv .1
+    end-is _ _ (end-here _ (l .i) (turn .loop-test .taken) (c .if1 .taken)) ∙ l .inv
 
 loop-again : tie.Need-loop-again Inv-loop μ-loop
 loop-again c =
     let other : tie.Else1 Inv-loop μ-loop = search c in
     let turn : tie.In-loop Inv-loop μ-loop = search other in
     let l = turn .before .loop in
-    (omega arith, end-on _ (l .i) (turn .loop-test .taken) (other .if1 .left) ∙ l .inv .1)
+    end-on _ (l .i) (turn .loop-test .taken) (other .if1 .left) ∙ l .inv
 
 returns-2 : tie.Need-returns-2 Inv-loop μ-loop
-returns-2 c = end-is _ _ (end-over _ _ (c .loop-test .left)) ∙ c .before .loop .inv .1
+returns-2 c = end-is _ _ (end-over _ _ (c .loop-test .left)) ∙ c .before .loop .inv
 
 pub line-end-spec : {M : Type 1} → statement M
 line-end-spec =

@@ -1,13 +1,13 @@
--- `feeding::push_each` meets its contract. The invariant: pushing what is left of the characters comes to what pushing all of them comes to.
+-- `line_blocks::push_each` meets its contract. The invariant: pushing what is left of the characters comes to what pushing all of them comes to.
 use mathlib.Core.Path.{_≡_, refl, sym, _∙_}
 use Prim.Native.Nat.{_-_, _≤_}
 use native.Mathlib.Omega.{arith}
 use borrow.Author.Needs.{needs}
 use lib.ListN.{length, drop}
-use Rattle.feeding.specs.mirror.Feeding.{row, allPushed}
-use Rattle.feeding.proofs.PartLaws.{each-turn, each-over}
-use Rattle.feeding.proofs.push_each.Statement.{statement}
-use Rattle.feeding.proofs.push_each.Tie as tie
+use Rattle.line_blocks.specs.mirror.Rows.{row, allPushed}
+use Rattle.line_blocks.proofs.PushLaws.{each-turn, each-over}
+use Rattle.line_blocks.proofs.push_each.Statement.{statement}
+use Rattle.line_blocks.proofs.push_each.Tie as tie
 
 abbrev Inv-loop : tie.InvT-loop
 Inv-loop line₀ characters used long count₀ more₀ i₀ line count more i =

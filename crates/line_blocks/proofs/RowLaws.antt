@@ -9,7 +9,7 @@ use lib.ListN.{length, take, set, length-set, length-append}
 use lib.Seq.{take-suc-set}
 use lib.Dec.{ltb}
 use borrow.Author.Tests.{lt-ltb, le-ltb, ltb-true, ltb-false}
-use Rattle.feeding.specs.mirror.Feeding.{Row, row, pushed}
+use Rattle.line_blocks.specs.mirror.Rows.{Row, row, pushed}
 
 -- the whole line stands in the buffer
 pub record Whole (w : Row) (line : List ℕ) : Type 0 where

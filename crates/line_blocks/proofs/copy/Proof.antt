@@ -1,13 +1,13 @@
--- `feeding::copy` meets its contract. The invariant: placing what is left of the characters comes to what placing all of them comes to.
+-- `line_blocks::copy` meets its contract. The invariant: placing what is left of the characters comes to what placing all of them comes to.
 use mathlib.Core.Path.{_≡_, refl, sym, _∙_}
 use Prim.Native.Nat.{_+_, _-_, _≤_}
 use native.Mathlib.Omega.{arith}
 use borrow.Author.Needs.{needs}
 use lib.ListN.{length, drop}
 use Rattle.hex.specs.Storing.{placed}
-use Rattle.feeding.proofs.PartLaws.{copy-none, copy-turn, copy-over}
-use Rattle.feeding.proofs.copy.Statement.{statement}
-use Rattle.feeding.proofs.copy.Tie as tie
+use Rattle.line_blocks.proofs.PushLaws.{copy-none, copy-turn, copy-over}
+use Rattle.line_blocks.proofs.copy.Statement.{statement}
+use Rattle.line_blocks.proofs.copy.Tie as tie
 
 abbrev Inv-loop : tie.InvT-loop
 Inv-loop line₀ characters at i₀ line i =
