@@ -1,4 +1,3 @@
-pub mod TakeLaws
 pub mod EndLaws
 pub mod KeptLaws
 pub mod StayLaws

@@ -11,9 +11,9 @@ use borrow.Author.Tests.{lt-ltb, le-leb, lt-leb, ltb-true}
 use Rattle.frames.specs.mirror.Reading.{Contents, Tables, Reading, reading}
 use Rattle.frames.specs.mirror.Lines.{nothing}
 use Rattle.line_blocks.specs.LinesOf.{linesFrom, linesOf}
-use Rattle.line_blocks.specs.mirror.Rows.{pushed}
+use Rattle.line_blocks.specs.mirror.Rows.{isBegun, pushed}
 use Rattle.line_blocks.proofs.RowLaws.{Begun, begun-none, begun-more}
-use Rattle.feeding.specs.mirror.Feeding.{Machine, machine, fresh, ended, byteFed, fed, isBegun, finished}
+use Rattle.feeding.specs.mirror.Feeding.{Machine, machine, fresh, ended, byteFed, fed, finished}
 use Rattle.feeding.specs.mirror.Text.{anyLineRead, linesRead, textRead}
 use Rattle.feeding.proofs.StayLaws.{all-stay, finished-stays}
 use Rattle.feeding.proofs.FeedingLaws.{fed-stays, blocksFed, blocks-fed}

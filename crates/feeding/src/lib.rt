@@ -5,7 +5,8 @@ ghost use mathlib.Core.Bool.{cond};
 ghost use mathlib.Core.List.{[]};
 ghost use lib.ListN.{take};
 ghost use Rattle.frames.specs.mirror.Lent.{lentContents, lentTables};
-ghost use Rattle.feeding.specs.mirror.Feeding.{machine, fresh, readOn, fed, isBegun, finished};
+ghost use Rattle.line_blocks.specs.mirror.Rows.{isBegun};
+ghost use Rattle.feeding.specs.mirror.Feeding.{machine, fresh, readOn, fed, finished};
 
 // How many characters of the line begun stand in the line buffer, whether there were more, and what the lines before came to.
 pub struct State {
@@ -28,11 +29,7 @@ pub fn start() -> State
 pub fn first_bytes(buffer: &[u8], count: usize) -> &[u8]
     ensures { λ r. ⌜ now r ≡ take count (now (buffer .entry)) ⌝ }
 {
-    if count <= buffer.len() {
-        &buffer[..count]
-    } else {
-        buffer
-    }
+    line_blocks::first_bytes(buffer, count)
 }
 
 pub fn first_words(buffer: &[u16], count: usize) -> &[u16]

@@ -3,10 +3,10 @@ use mathlib.Core.Path.{_≡_, refl, sym, ap, _∙_}
 use mathlib.Core.Bool.{Bool, true, false}
 use mathlib.Core.Logic.{_⊎_, inl, inr, ⊎-elim}
 use mathlib.Core.List.{List, [], _∷_, _++_}
-use Prim.Native.Nat.{ℕ, suc, _+_, _≤_, _<_}
+use Prim.Native.Nat.{ℕ, zero, suc, _+_, _≤_, _<_}
 use native.Mathlib.Omega.{arith}
 use lib.ListN.{length, take, set, length-set, length-append}
-use lib.Seq.{take-suc-set}
+use lib.Seq.{take-suc-set, take-all}
 use lib.Dec.{ltb}
 use borrow.Author.Tests.{lt-ltb, le-ltb, ltb-true, ltb-false}
 use Rattle.line_blocks.specs.mirror.Rows.{Row, row, pushed}
@@ -23,6 +23,7 @@ pub record Cut (w : Row) (line : List ℕ) : Type 0 where
   pub long : w .long ≡ true
   pub over : length (w .line) < length line
   pub filled : length (w .line) ≤ w .used
+  pub text : take (w .used) (w .line) ≡ take (length (w .line)) line
 
 pub record Begun (limit : ℕ) (w : Row) (line : List ℕ) : Type 0 where
   pub room : length (w .line) ≡ limit
@@ -34,6 +35,12 @@ begun-none buffer = record { room = refl; state = inl (record { short = refl; co
 less-or-not : (a b : ℕ) (t : Bool) → ltb a b ≡ t → (a < b) ⊎ (b ≤ a)
 less-or-not a b true e = inl (ltb-true a b e)
 less-or-not a b false e = inr (ltb-false a b e)
+
+-- a start is one of the line with a character more
+take-more : (n : ℕ) (line more : List ℕ) → n ≤ length line → take n (line ++ more) ≡ take n line
+take-more zero line more h = refl
+take-more (suc n) [] more h = absurd (omega (arith, h))
+take-more (suc n) (c ∷ line) more h = ap (λ (l : List ℕ). c ∷ l) (take-more n line more (omega (arith, h)))
 
 length-more : (line : List ℕ) (b : ℕ) → length (line ++ (b ∷ [])) ≡ suc (length line)
 length-more line b = length-append line (b ∷ []) ∙ omega arith
@@ -67,22 +74,30 @@ module _ (b : ℕ) (w : Row) (line : List ℕ) where
         }),
       )
 
-  push-cut : length (w .line) ≤ w .used → length (w .line) ≤ length line → Grown (pushed b w)
+  push-cut : length (w .line) ≤ w .used → length (w .line) ≤ length line → take (w .used) (w .line) ≡ take (length (w .line)) line → Grown (pushed b w)
   unfolding pushed
-  push-cut h k =
+  push-cut h k t =
       rw (le-ltb (w .used) (length (w .line)) h)
-      (refl, inr (record { long = refl; over = rw (length-more line b) (omega arith); filled = h }))
+      (refl, inr (record { long = refl; over = rw (length-more line b) (omega arith); filled = h; text = t ∙ sym (take-more (length (w .line)) line (b ∷ []) k) }))
 
   push-grows : Whole w line ⊎ Cut w line → Grown (pushed b w)
   push-grows =
       ⊎-elim
       (λ s.
       let c : w .used ≡ length line = s .count in
-      ⊎-elim (λ h. push-whole h s) (λ h. push-cut h (omega arith)) (less-or-not (w .used) (length (w .line)) (ltb (w .used) (length (w .line))) refl))
-      (λ s. let o : length (w .line) < length line = s .over in push-cut (s .filled) (omega arith))
+      ⊎-elim (λ h. push-whole h s) (λ h. push-cut h (omega arith) (s .text ∙ sym (take-all (length (w .line)) line (s .inside)))) (less-or-not (w .used) (length (w .line)) (ltb (w .used) (length (w .line))) refl))
+      (λ s. let o : length (w .line) < length line = s .over in push-cut (s .filled) (omega arith) (s .text))
 
 -- one character more
 pub begun-more : (limit b : ℕ) (w : Row) (line : List ℕ) → Begun limit w line → Begun limit (pushed b w) (line ++ (b ∷ []))
 begun-more limit b w line g =
     let s = push-grows b w line (g .state) in
     record { room = s .0 ∙ g .room; state = s .1 }
+
+-- what stands in the buffer is the line's start, all of it that there is room for
+pub begun-text : (limit : ℕ) (w : Row) (line : List ℕ) → Begun limit w line → take (w .used) (w .line) ≡ take limit line
+begun-text limit w line g =
+    ⊎-elim
+    (λ s. s .text ∙ sym (take-all limit line (omega (arith, s .inside, g .room))))
+    (λ s. s .text ∙ ap (λ (n : ℕ). take n line) (g .room))
+    (g .state)

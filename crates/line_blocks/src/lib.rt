@@ -1,9 +1,22 @@
 // A text that comes in blocks, cut into lines: the line begun stands in a buffer of the caller's until it is whole.
 ghost use mathlib.Core.Path.{_≡_};
+ghost use mathlib.Core.Bool.{cond};
+ghost use mathlib.Core.List.{[]};
 ghost use Prim.Native.Nat.{_+_, _≤_};
-ghost use lib.ListN.{length, drop};
+ghost use lib.ListN.{length, take, drop};
 ghost use Rattle.hex.specs.Storing.{placed};
-ghost use Rattle.line_blocks.specs.mirror.Rows.{row, pushed, allPushed, lineLength};
+ghost use Rattle.line_blocks.specs.mirror.Rows.{row, isBegun, pushed, allPushed, lineLength};
+
+// The first bytes of a buffer; all of them if there are fewer.
+pub fn first_bytes(buffer: &[u8], count: usize) -> &[u8]
+    ensures { λ r. ⌜ now r ≡ take count (now (buffer .entry)) ⌝ }
+{
+    if count <= buffer.len() {
+        &buffer[..count]
+    } else {
+        buffer
+    }
+}
 
 // Of the line begun, how many characters stand in the line buffer, and whether there were more.
 pub struct Begun {
@@ -74,6 +87,13 @@ pub fn push_all(line: &mut [u8], characters: &[u8], used: usize, long: bool) -> 
     } else {
         push_each(line, characters, used, long)
     }
+}
+
+// What the end of a text is read as: as the end of the line that is begun, or as nothing.
+pub fn last_end(end: &[u8], used: usize, long: bool) -> &[u8]
+    ensures { λ r. ⌜ now r ≡ cond (isBegun used long) (now (end .entry)) [] ⌝ }
+{
+    if long | (0 < used) { end } else { &end[..0] }
 }
 
 // The place of the next 0x0a in a block; the block's end if there is none, and `from` past it.

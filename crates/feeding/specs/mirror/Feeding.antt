@@ -1,6 +1,6 @@
 -- What a case file says, byte by byte, with a line buffer of some length.
 use Prim.Native.Nat.{ℕ}
-use mathlib.Core.Bool.{Bool, true, false, cond, _||_}
+use mathlib.Core.Bool.{Bool, true, false, cond}
 use mathlib.Core.List.{List, [], _∷_}
 use lib.ListN.{take}
 use lib.Dec.{ltb, eqb}
@@ -8,7 +8,7 @@ use Rattle.frames.specs.declared.Case.{Case}
 use Rattle.frames.specs.mirror.Reading.{Contents, Tables, Reading, reading, only}
 use Rattle.frames.specs.mirror.Lines.{nothing, longLine}
 use Rattle.frames.specs.mirror.Frames.{lineRead}
-use Rattle.line_blocks.specs.mirror.Rows.{Row, row, pushed}
+use Rattle.line_blocks.specs.mirror.Rows.{Row, row, isBegun, pushed}
 use Rattle.feeding.specs.declared.State.{State}
 
 pub record Machine : Type 0 where
@@ -42,10 +42,6 @@ readOn bad next end = cond (ltb 0 bad) end next
 unfoldable pub fed : List ℕ → Machine → Machine
 fed [] m = m
 fed (b ∷ block) m = fed block (byteFed b m)
-
--- a line is begun that has no end yet
-unfoldable pub isBegun : ℕ → Bool → Bool
-isBegun used long = long || ltb 0 used
 
 -- "which the last may lack"
 unfoldable pub finished : Machine → Machine

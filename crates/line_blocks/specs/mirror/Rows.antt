@@ -1,6 +1,6 @@
 -- The line begun, in a buffer of some length, and where the next line ends.
 use Prim.Native.Nat.{ℕ, suc, _+_}
-use mathlib.Core.Bool.{Bool, true, cond}
+use mathlib.Core.Bool.{Bool, true, cond, _||_}
 use mathlib.Core.List.{List, [], _∷_}
 use lib.ListN.{length, set}
 use lib.Dec.{ltb, eqb}
@@ -23,6 +23,10 @@ pushed b w =
 unfoldable pub allPushed : List ℕ → Row → Row
 allPushed [] w = w
 allPushed (b ∷ bs) w = allPushed bs (pushed b w)
+
+-- a line is begun that has no end yet
+unfoldable pub isBegun : ℕ → Bool → Bool
+isBegun used long = long || ltb 0 used
 
 -- how many characters stand before the first 0x0a
 unfoldable pub lineLength : List ℕ → ℕ

@@ -1,10 +1,10 @@
--- `feeding::first_bytes` meets its contract.
+-- `line_blocks::first_bytes` meets its contract.
 use mathlib.Core.Path.{sym}
 use borrow.Author.Needs.{needs}
 use lib.Seq.{length-take-le}
-use Rattle.feeding.proofs.TakeLaws.{take-past}
-use Rattle.feeding.proofs.first_bytes.Statement.{statement}
-use Rattle.feeding.proofs.first_bytes.Tie as tie
+use Rattle.line_blocks.proofs.TakeLaws.{take-past}
+use Rattle.line_blocks.proofs.first_bytes.Statement.{statement}
+use Rattle.line_blocks.proofs.first_bytes.Tie as tie
 
 slice-aggregate-result : tie.Need-slice-aggregate-result
 slice-aggregate-result c = sym (length-take-le _ _ (c .before .if1 .taken))

@@ -1,0 +1,4 @@
+pub mod Assumed
+pub mod StepLaws
+pub mod LoadLaws
+pub mod WholeLaws
