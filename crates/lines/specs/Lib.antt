@@ -3,3 +3,5 @@ pub mod Bodies
 pub mod Line
 pub mod LineOf
 pub mod Reading
+pub mod Told
+pub mod Claims

@@ -1,7 +1,7 @@
 -- The text of a source or a scalar, `v0(0,0)<8;8,1>` or `0x1:uw`, and of a destination, `v1(0,0)<1>`.
 use Prim.Native.Nat.{ℕ}
 use mathlib.Core.List.{List}
-use mathlib.Core.Bool.{Bool, true, false, cond}
+use mathlib.Core.Bool.{Bool, false, cond}
 use lib.Dec.{eqb}
 use Rattle.formats.specs.Text.{text}
 use Rattle.formats.specs.Format.{Format, pair, through}

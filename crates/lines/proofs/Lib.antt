@@ -1,0 +1,13 @@
+pub mod EndLaws
+pub mod BracesLaws
+pub mod BodiesLaws
+pub mod LineLaws
+pub mod FitLaws
+pub mod TakenLaws
+pub mod EncodesLaws
+pub mod PrintLaws
+pub mod LengthLaws
+pub mod BoundLaws
+pub mod ReadLaws
+pub mod Statements
+pub mod LongLaws

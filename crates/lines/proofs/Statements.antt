@@ -1,0 +1,84 @@
+-- What is claimed of lines: each instruction that the encoder takes has one, which is read back; no other text is read; and what the column of a 16 says.
+use mathlib.Core.Path.{_≡_, refl, sym, ap, _∙_, subst}
+use mathlib.Core.List.{List, _++_}
+use mathlib.Core.Logic.{_⊎_, inl, inr}
+use mathlib.Core.Bool.{true}
+use Prim.Native.Nat.{ℕ, suc, _+_, _-_}
+use native.Mathlib.Omega.{arith}
+use lib.ListN.{length, take}
+use Rattle.formats.specs.Format.{Out, got, stop, onOut}
+use Rattle.formats.specs.Whole.{whole, Viable, Column}
+use Rattle.formats.proofs.WholeLaws.{print-read, read-print, read-column}
+use Rattle.decoder.specs.declared.Instruction.{Instruction}
+use Rattle.lines.specs.Line.{lineFits, line}
+use Rattle.lines.specs.LineOf.{lineOf}
+use Rattle.lines.specs.Reading.{Reading, isLine, noLine, readingOf, onReading}
+use Rattle.lines.specs.Claims.{Encodes, LineBegins, IsColumn}
+use Rattle.lines.proofs.EndLaws.{goesOn}
+use Rattle.lines.proofs.LineLaws.{line-lawful, line-good}
+use Rattle.lines.proofs.EncodesLaws.{fits-encodes, encodes-fits}
+use Rattle.lines.proofs.PrintLaws.{line-prints}
+
+-- ---- two readings that are the same
+
+same-line : (i j : Instruction) → isLine i ≡ isLine j → i ≡ j
+same-line i j p = ap (λ (r : Reading). onReading r (λ k. k) (λ _. i)) p
+
+same-column : (k j : ℕ) → noLine k ≡ noLine j → k ≡ j
+same-column k j p = ap (λ (r : Reading). onReading r (λ _. k) (λ n. n)) p
+
+no-line : (i : Instruction) (k : ℕ) → isLine i ≡ noLine k → ⊥
+no-line i k p = subst (λ (r : Reading). onReading r (λ _. Unit) (λ _. ⊥)) p tt
+
+-- ---- what is printed and what is read
+
+pub line-read : (i : Instruction) → Encodes i → readingOf (lineOf i) ≡ isLine i
+unfolding readingOf
+line-read i e =
+    let h = encodes-fits i (e .0) (e .1) in
+    let w : whole line (line .print i) ≡ got i (length (line .print i)) = print-read line goesOn line-lawful i (rw (line-good i) h) in
+    rw (← line-prints i h, w)
+
+pub read-line : (t : List ℕ) (i : Instruction) → readingOf t ≡ isLine i → Encodes i × (t ≡ lineOf i)
+unfolding readingOf
+read-line t i = told (whole line t) refl
+  where
+    told : (o : Out Instruction) → whole line t ≡ o → onOut o (λ k. noLine (suc k)) (λ i e. isLine i) ≡ isLine i → Encodes i × (t ≡ lineOf i)
+    told (got j n) w p =
+        let r = read-print line goesOn line-lawful t j n w in
+        let h : lineFits j ≡ true = rw (line-good j) at (r .0) in
+        subst (λ (x : Instruction). Encodes x × (t ≡ lineOf x)) (same-line j i p) (fits-encodes j h, r .1 ∙ line-prints j h)
+    told (stop k) w p = absurd (no-line i (suc k) (sym p))
+
+-- no two instructions have the same line
+pub one-line : (i j : Instruction) → Encodes i → Encodes j → lineOf i ≡ lineOf j → i ≡ j
+one-line i j e f p = same-line i j (sym (line-read i e) ∙ ap readingOf p ∙ line-read j f)
+
+-- ---- the column
+
+begins : (p : List ℕ) → Viable line p → LineBegins p
+begins p v =
+    let h : lineFits (v .value) ≡ true = rw (line-good (v .value)) at (v .fine) in
+    record { of = v .value; encodes = fits-encodes (v .value) h; rest = v .rest; text = sym (line-prints (v .value) h) ∙ v .text }
+
+viable : (p : List ℕ) → LineBegins p → Viable line p
+viable p b =
+    let h = encodes-fits (b .of) (b .encodes .0) (b .encodes .1) in
+    record { value = b .of; fine = rw (line-good (b .of)) h; rest = b .rest; text = line-prints (b .of) h ∙ b .text }
+
+pub column : (t : List ℕ) (k : ℕ) → readingOf t ≡ noLine k → IsColumn t k
+unfolding readingOf
+column t k = told (whole line t) refl
+  where
+    here : (j : ℕ) → (j ≡ length t) ⊎ (Viable line (take (suc j) t) → ⊥) → (suc j ≡ length t + 1) ⊎ (LineBegins (take (suc j) t) → ⊥)
+    here j (inl e) = inl (omega (arith, e))
+    here j (inr n) = inr (λ b. n (viable (take (suc j) t) b))
+
+    of : (j : ℕ) → Column line t j → IsColumn t (suc j)
+    of j c =
+        let e : suc j - 1 ≡ j = omega arith in
+        record { first = omega arith; last = omega (arith, c .inside); before = rw e (begins (take j t) (c .before)); here = here j (c .here) }
+
+    told : (o : Out Instruction) → whole line t ≡ o → onOut o (λ k. noLine (suc k)) (λ i e. isLine i) ≡ noLine k → IsColumn t k
+    told (got j n) w p = absurd (no-line j k p)
+    told (stop j) w p = subst (IsColumn t) (same-column (suc j) k p) (of j (read-column line goesOn line-lawful t j w))
