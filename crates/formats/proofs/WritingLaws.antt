@@ -107,6 +107,12 @@ wrote-two l at t u v e m d n p q k = wrote-then l at t u e m d n p q ∙ ap (wri
 pub wrote-three : (l : List ℕ) (at : ℕ) (t u w v : List ℕ) (e : ℕ) (m : List ℕ) (d : ℕ) (n : List ℕ) (f : ℕ) (o : List ℕ) → wrote e m ≡ written l at t → wrote d n ≡ written m e u → wrote f o ≡ written n d w → v ≡ t ++ (u ++ w) → wrote f o ≡ written l at v
 wrote-three l at t u w v e m d n f o p q r k = wrote-two l at t (u ++ w) v e m f o p (wrote-then m e u w d n f o q r) k
 
+pub wrote-four : (l : List ℕ) (at : ℕ) (t u w x v : List ℕ) (e : ℕ) (m : List ℕ) (d : ℕ) (n : List ℕ) (f : ℕ) (o : List ℕ) (g : ℕ) (p : List ℕ) → wrote e m ≡ written l at t → wrote d n ≡ written m e u → wrote f o ≡ written n d w → wrote g p ≡ written o f x → v ≡ t ++ (u ++ (w ++ x)) → wrote g p ≡ written l at v
+wrote-four l at t u w x v e m d n f o g p q r s h k = wrote-three l at t u (w ++ x) v e m d n g p q r (wrote-then n d w x f o g p s h) k
+
+pub wrote-five : (l : List ℕ) (at : ℕ) (t u w x y v : List ℕ) (e : ℕ) (m : List ℕ) (d : ℕ) (n : List ℕ) (f : ℕ) (o : List ℕ) (g : ℕ) (p : List ℕ) (a : ℕ) (b : List ℕ) → wrote e m ≡ written l at t → wrote d n ≡ written m e u → wrote f o ≡ written n d w → wrote g p ≡ written o f x → wrote a b ≡ written p g y → v ≡ t ++ (u ++ (w ++ (x ++ y))) → wrote a b ≡ written l at v
+wrote-five l at t u w x y v e m d n f o g p a b q r s h i k = wrote-four l at t u w (x ++ y) v e m d n f o a b q r s (wrote-then o f x y g p a b h i) k
+
 -- nothing is written
 pub wrote-none : (l t : List ℕ) (at : ℕ) → at ≤ length l → t ≡ [] → wrote at l ≡ written l at t
 unfolding written placed

@@ -14,7 +14,7 @@ use Rattle.field_groups.specs.declared.Raw.{Raw}
 use Rattle.field_groups.specs.declared.Immediate.{Immediate}
 use Rattle.text_parts.specs.Predicate.{openings, endings, groupEndings, ending, idAndEnding, predicate}
 use Rattle.text_parts.specs.Exec.{maskEndings, sizes, scatterSizes, maskParts, mask, execOf, exec, scatterExec}
-use Rattle.text_parts.specs.Fields.{decimal, hexadecimal}
+use Rattle.text_parts.specs.Fields.{decimal}
 use Rattle.text_parts.specs.Raw.{rawParts, raw}
 use Rattle.text_parts.specs.Immediate.{types, wideTypes, typeOf, placeOf, immediateParts, immediate}
 
@@ -48,16 +48,12 @@ scatter-exec-text e k p = rw p
 
 -- ---- numbers, raw operands, immediates
 
-pub decimal-text : (low high : ℕ) (end : List ℕ) (n : ℕ) → decimal low high end .print n ≡ digitsOf 10 n ++ wordAt (words end) 0
-unfolding decimal after through pair number oneOf
-decimal-text low high end n = refl
+pub hexadecimal-text : (t : List ℕ) → text "0x" ++ t ≡ wordAt (words (text "0x|")) 0 ++ t
+unfolding words wordAt
+hexadecimal-text t = refl
 
-pub hexadecimal-text : (high : ℕ) (end : List ℕ) (n : ℕ) → hexadecimal high end .print n ≡ wordAt (words (text "0x|")) 0 ++ (digitsOf 16 n ++ wordAt (words end) 0)
-unfolding hexadecimal before after through pair number oneOf
-hexadecimal-text high end n = refl
-
-pub raw-text : (r : Raw) → raw .print r ≡ wordAt (words (text "v|")) 0 ++ (decimal 0 65535 (text ".|") .print (r .index) ++ digitsOf 10 (r .offset))
-unfolding raw rawParts before through pair number oneOf
+pub raw-text : (r : Raw) → raw .print r ≡ wordAt (words (text "v|")) 0 ++ ((digitsOf 10 (r .index) ++ wordAt (words (text ".|")) 0) ++ digitsOf 10 (r .offset))
+unfolding raw rawParts decimal before after through pair number oneOf
 raw-text r = refl
 
 pub narrow-type : (n k : ℕ) → n < 4294967296 → typeOf n .print k ≡ wordAt (words types) k

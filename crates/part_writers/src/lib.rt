@@ -4,12 +4,15 @@ use field_groups::Raw;
 use formats::Base;
 ghost use mathlib.Core.Path.{_≡_};
 ghost use Prim.Native.Nat.{_+_, _*_, _-_, _≤_};
+ghost use mathlib.Core.List.{_++_};
 ghost use lib.ListN.{length};
 ghost use Rattle.hex.specs.Storing.{placed, fits, stored};
+ghost use Rattle.formats.specs.Text.{text};
+ghost use Rattle.formats.specs.Words.{words, wordAt};
+ghost use Rattle.formats.specs.Numbers.{digitsOf};
 ghost use Rattle.formats.specs.Writing.{wrote, written};
 ghost use Rattle.text_parts.specs.Predicate.{ending, predicate};
 ghost use Rattle.text_parts.specs.Exec.{mask, exec, scatterExec};
-ghost use Rattle.text_parts.specs.Fields.{decimal, hexadecimal};
 ghost use Rattle.text_parts.specs.Raw.{raw};
 ghost use Rattle.text_parts.specs.Immediate.{typeOf, placeOf, immediate};
 
@@ -63,21 +66,23 @@ pub fn put_scatter_exec(out: &mut [u8], at: usize, byte: u8) -> usize
 }
 
 // How much a number exceeds another; 0 if it does not.
-fn above(n: u64, least: u64) -> u64
+pub fn above(n: u64, least: u64) -> u64
     ensures { λ r. ⌜ r ≡ n - least ⌝ }
 {
     if least <= n { n - least } else { 0 }
 }
 
-pub fn put_decimal(out: &mut [u8], at: usize, low: u64, high: u64, end: &[u8], n: u64) -> usize
-    ensures { λ r. ⌜ wrote r (now (out .exit)) ≡ written (now (out .entry)) at (decimal low high (now (end .entry)) .print n) ⌝ }
+// A decimal number and the word that ends it, the first of a table.
+pub fn put_decimal(out: &mut [u8], at: usize, end: &[u8], n: u64) -> usize
+    ensures { λ r. ⌜ wrote r (now (out .exit)) ≡ written (now (out .entry)) at (digitsOf 10 n ++ wordAt (words (now (end .entry))) 0) ⌝ }
 {
     let a = formats::put_number(out, at, Base::Decimal, n);
     formats::put_word(out, a, end, 0)
 }
 
-pub fn put_hexadecimal(out: &mut [u8], at: usize, high: u64, end: &[u8], n: u64) -> usize
-    ensures { λ r. ⌜ wrote r (now (out .exit)) ≡ written (now (out .entry)) at (hexadecimal high (now (end .entry)) .print n) ⌝ }
+// The same in hex, behind `0x`.
+pub fn put_hexadecimal(out: &mut [u8], at: usize, end: &[u8], n: u64) -> usize
+    ensures { λ r. ⌜ wrote r (now (out .exit)) ≡ written (now (out .entry)) at (text "0x" ++ (digitsOf 16 n ++ wordAt (words (now (end .entry))) 0)) ⌝ }
 {
     let a = formats::put_word(out, at, b"0x|", 0);
     let b = formats::put_number(out, a, Base::Hexadecimal, n);
@@ -90,7 +95,7 @@ pub fn put_raw(out: &mut [u8], at: usize, r: Raw) -> usize
     let index = r.index as u64;
     let offset = r.offset as u64;
     let a = formats::put_word(out, at, b"v|", 0);
-    let b = put_decimal(out, a, 0, 65535, b".|", index);
+    let b = put_decimal(out, a, b".|", index);
     formats::put_number(out, b, Base::Decimal, offset)
 }
 

@@ -9,6 +9,8 @@ use Rattle.reader.specs.Reply.{Reply, refused, done, onReply}
 use Rattle.decoder.specs.declared.Instruction.{Instruction}
 use Rattle.decoder.specs.Format.{instructionRefusal}
 use Rattle.lines.specs.LineOf.{lineOf}
+use Rattle.text.specs.declared.Printed.{Printed}
+use Rattle.text.specs.declared.Printed.the-variants as printed
 
 -- the line's length, if the buffer has room for it
 unfoldable pub printedIn : ℕ → Instruction → Reply ℕ
@@ -20,3 +22,8 @@ printedIn room i =
 -- the buffer after it
 unfoldable pub printedInto : List ℕ → Instruction → List ℕ
 printedInto l i = onReply (printedIn (length l) i) (λ n. l) (λ n. lineOf i ++ drop n l)
+
+-- number and values of each case
+abbrev pub printedReply : Printed → Reply ℕ
+printedReply (printed.Wrote n) = done n
+printedReply (printed.Refused n) = refused n
