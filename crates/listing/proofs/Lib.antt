@@ -1,4 +1,4 @@
-pub mod Assumed
+pub mod DecodedLaws
 pub mod StepLaws
 pub mod LoadLaws
 pub mod WholeLaws

@@ -22,7 +22,7 @@ use Rattle.decoder.proofs.Laws.{accepted-within}
 use Rattle.lines.specs.Line.{line}
 use Rattle.lines.specs.LineOf.{lineOf}
 use Rattle.listing.specs.Listing.{lineEnd, refusalLine, stepText, stepNext, steps, listedFrom}
-use Rattle.listing.proofs.Assumed.{decoded-line}
+use Rattle.listing.proofs.DecodedLaws.{decoded-line}
 
 -- ---- written piece by piece
 

@@ -27,7 +27,8 @@ fn put_refusal(out: &mut [u8], at: usize, number: u64, position: u64) -> usize
 fn put_instruction(out: &mut [u8], at: usize, instruction: Instruction) -> usize
     ensures { λ r. ⌜ wrote r (now (out .exit)) ≡ written (now (out .entry)) at (line .print instruction ++ lineEnd) ⌝ }
 {
-    formats::put_word(out, at, b"\n|", 0)
+    let a = line_writers::put_line(out, at, instruction);
+    formats::put_word(out, a, b"\n|", 0)
 }
 
 // How much of the output buffer is used, and where listing goes on.
