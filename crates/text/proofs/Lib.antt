@@ -1,1 +1,3 @@
 pub mod PrintingLaws
+pub mod AssemblingLaws
+pub mod RefusedAlike

@@ -5,7 +5,7 @@ use mathlib.Core.Bool.{Bool, true, false, cond}
 use Prim.Native.Nat.{ℕ, _+_, _≤_, _<_}
 use native.Mathlib.Omega.{arith}
 use lib.ListN.{length, take, drop}
-use lib.Dec.{ltb, leb, eqb}
+use lib.Dec.{ltb, eqb}
 use borrow.Author.Tests.{lt-ltb, le-ltb, eq-eqb, ne-eqb, eqb-true, eqb-false, leb-true, leb-false}
 use Rattle.little_endian.specs.LittleEndian.{Bytes}
 use Rattle.little_endian.proofs.Parts.{bytes-before}
@@ -14,7 +14,7 @@ use Rattle.formats.specs.Format.{through}
 use Rattle.formats.specs.Writing.{wrote, written}
 use Rattle.formats.proofs.WritingLaws.{wrote-text}
 use Rattle.part_writers.proofs.WholeLaws.{whole-text, whole-not}
-use Rattle.reader.specs.Reply.{Reply, refused, done}
+use Rattle.reader.specs.Reply.{refused, done}
 use Rattle.decoder.specs.declared.Instruction.{Instruction}
 use Rattle.decoder.specs.Format.{instructionBytes, instructionRefusal}
 use Rattle.decoder.proofs.FormatLaws.{instruction-at-most}
