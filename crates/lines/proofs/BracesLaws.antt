@@ -8,7 +8,7 @@ use lib.Dec.{leb, eqb}
 use borrow.Author.Tests.{eqb-true, eqb-false, eq-eqb, ne-eqb, leb-true, le-leb}
 use Rattle.hex.specs.Digits.{isDecimal, isLetter}
 use Rattle.formats.specs.Text.{text}
-use Rattle.formats.specs.Format.{Format, pair, through, blank}
+use Rattle.formats.specs.Format.{Out, Format, pair, through, blank}
 use Rattle.formats.specs.Words.{words, wordAt, oneOf, table, after}
 use Rattle.formats.specs.Numbers.{number}
 use Rattle.formats.specs.mirror.Digits.{isDigit, valueOf}
@@ -61,6 +61,15 @@ scale-behind-lawful size =
 pub scale-behind-under : (size n : ℕ) → scaleBehind size .good n ≡ true → n ≤ 65535
 unfolding scaleBehind
 scale-behind-under size n h = decimal-between (cond (eqb size 0) 1 0) 65535 (text "}|") n h .1
+
+-- what is read in the range that the code gives
+pub read-some-scale : (size : ℕ) (s : List ℕ) (at : ℕ) (o : Out ℕ) → size ≡ 0 → o ≡ decimal 1 65535 (text "}|") .read s at → o ≡ scaleBehind size .read s at
+unfolding scaleBehind
+read-some-scale size s at o e p = rw (eq-eqb size 0 e) p
+
+pub read-any-scale : (size : ℕ) (s : List ℕ) (at : ℕ) (o : Out ℕ) → (size ≡ 0 → ⊥) → o ≡ decimal 0 65535 (text "}|") .read s at → o ≡ scaleBehind size .read s at
+unfolding scaleBehind
+read-any-scale size s at o n p = rw (ne-eqb size 0 n) p
 
 size-and-scale-lawful : (braced : ℕ) → Lawful (sizeAndScale braced) goesOn
 unfolding sizeAndScale sound single opens isDigit valueOf isDecimal isLetter

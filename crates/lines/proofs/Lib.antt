@@ -11,3 +11,4 @@ pub mod BoundLaws
 pub mod ReadLaws
 pub mod Statements
 pub mod LongLaws
+pub mod Worked

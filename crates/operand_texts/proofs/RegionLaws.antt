@@ -219,3 +219,11 @@ destination-region-matches =
 pub destination-region-lawful : Lawful destinationRegion free
 unfolding destinationRegion sound
 destination-region-lawful = through-lawful (pair-lawful (table-lawful firsts free refl) width-and-stride-lawful follows-free) destination-region-matches
+
+-- ---- the test of the code
+
+pub both-null : (v w : ℕ) → v ≡ 0 → eqb w 0 ≡ (eqb v 0 && eqb w 0)
+both-null v w e = rw (eq-eqb v 0 e)
+
+pub not-both-null : (v w : ℕ) → (v ≡ 0 → ⊥) → false ≡ (eqb v 0 && eqb w 0)
+not-both-null v w n = rw (ne-eqb v 0 n)

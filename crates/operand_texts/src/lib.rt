@@ -35,6 +35,7 @@ fn region_word(v: u64, w: u64, h: u64) -> u16
     (v + 16 * w + 256 * h) as u16
 }
 
+// All three fields.
 fn source_region_at(text: &[u8], c: Cursor) -> WordRead
     ensures { λ r. ⌜ toldWord r ≡ sourceRegion .read (now (text .entry)) (c .at) ⌝ }
 {
@@ -50,6 +51,7 @@ fn source_region_at(text: &[u8], c: Cursor) -> WordRead
     }
 }
 
+// Whether the codes of V and W are both Null.
 fn are_null(v: u64, w: u64) -> bool
     ensures { λ r. ⌜ r ≡ (eqb v 0 && eqb w 0) ⌝ }
 {
@@ -75,6 +77,7 @@ fn stride_word(first: u64) -> u16
     (256 * (first - 7)) as u16
 }
 
+// H alone, or all three fields.
 fn destination_region_at(text: &[u8], c: Cursor) -> WordRead
     ensures { λ r. ⌜ toldWord r ≡ destinationRegion .read (now (text .entry)) (c .at) ⌝ }
 {

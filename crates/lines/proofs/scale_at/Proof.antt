@@ -1,21 +1,18 @@
--- `lines::scale_at` meets its contract: at each return, what the calls and tests on the way say picks the case of `Braces`.
+-- `lines::scale_at` meets its contract: the lowest Scale depends on the Block_size alone.
 use borrow.Author.Needs.{needs}
-use borrow.Author.Tests.{eq-eqb, ne-eqb}
-use Rattle.lines.specs.Braces.{scaleBehind}
+use Rattle.lines.proofs.BracesLaws.{read-some-scale, read-any-scale}
 use Rattle.lines.proofs.scale_at.Statement.{statement}
 use Rattle.lines.proofs.scale_at.Tie as tie
 
 returns : tie.Need-returns
-unfolding scaleBehind
 returns c =
-    let a = c .before .before in
-    rw (eq-eqb _ _ (a .if1 .taken), ← c .decimal-at .ensures)
+    let f = c .before .before in
+    read-some-scale _ _ _ _ (f .if1 .taken) (c .decimal-at .ensures)
 
 returns-2 : tie.Need-returns-2
-unfolding scaleBehind
 returns-2 c =
-    let a = c .before .before in
-    rw (ne-eqb _ _ (a .if1 .left), ← c .decimal-at2 .ensures)
+    let f = c .before .before in
+    read-any-scale _ _ _ _ (f .if1 .left) (c .decimal-at2 .ensures)
 
 pub scale-at-spec : {M : Type 1} → statement M
 scale-at-spec = tie.close (tie.spec (λ c. search needs) (λ c κs. search needs) (λ c. search needs) (λ c κs. search needs) returns returns-2)
