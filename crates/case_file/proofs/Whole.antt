@@ -14,7 +14,7 @@ use Rattle.hex.proofs.DigitLaws.{cond-both}
 use Rattle.frames.specs.mirror.Reading.{Contents, Tables, Reading, reading}
 use Rattle.frames.specs.mirror.Lines.{KINDS, nothing, metOf, lengthOf}
 use Rattle.frames.specs.mirror.Verdicts.{taintLength, verdictOf}
-use Rattle.feeding.specs.LinesOf.{linesOf}
+use Rattle.line_blocks.specs.LinesOf.{linesOf}
 use Rattle.feeding.specs.mirror.Text.{linesRead, textRead}
 use Rattle.feeding.specs.mirror.Feeding.{finished}
 use Rattle.feeding.proofs.FeedingLaws.{blocksFed}

@@ -2,7 +2,7 @@
 use Prim.Native.Nat.{ℕ, zero, suc, min}
 use mathlib.Core.List.{List, [], map}
 use Rattle.hex.specs.Bytes.{hexBytes}
-use Rattle.feeding.specs.LinesOf.{linesOf}
+use Rattle.line_blocks.specs.LinesOf.{linesOf}
 use Rattle.output.specs.Output.{answerLine}
 use Rattle.run.specs.Run.{run}
 use Rattle.answering.specs.Outcome.{outcomeOutput}

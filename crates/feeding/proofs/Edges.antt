@@ -13,7 +13,7 @@ use Rattle.frames.specs.mirror.Repeated.{variableRead, predicateRead, surfaceRe
 use Rattle.frames.specs.mirror.Once.{contentRead, memoryRead, maskRead, onceRead}
 use Rattle.frames.specs.mirror.Frames.{frameRead, lineRead}
 use Rattle.frames.specs.mirror.Verdicts.{verdict, verdictOf, taintLength}
-use Rattle.feeding.specs.LinesOf.{linesFrom, linesOf}
+use Rattle.line_blocks.specs.LinesOf.{linesFrom, linesOf}
 use Rattle.feeding.specs.mirror.Text.{anyLineRead, linesRead, textRead}
 
 -- small buffers of zeros, as the caller has them: 32 bytes for registers and kernel, two variables, one predicate, one surface of 4 bytes

@@ -8,7 +8,8 @@ use Rattle.frames.specs.mirror.Reading.{Reading, only}
 use Rattle.frames.specs.mirror.Lines.{longLine}
 use Rattle.frames.specs.mirror.Frames.{lineRead}
 use Rattle.frames.proofs.FrameLaws.{empty-is-long}
-use Rattle.feeding.specs.mirror.Feeding.{Machine, row, ended, isBegun, finished}
+use Rattle.line_blocks.specs.mirror.Rows.{row, isBegun}
+use Rattle.feeding.specs.mirror.Feeding.{Machine, ended, finished}
 
 -- what is read of a line, too long or not
 read-either : (long : Bool) (line : List ℕ) (r : Reading) → lineRead (cond long [] line) r ≡ cond long (only (longLine (r .case)) r) (lineRead line r)

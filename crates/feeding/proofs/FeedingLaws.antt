@@ -13,9 +13,11 @@ use mir.Syntax.{w64}
 use borrow.Author.Tests.{eq-eqb}
 use Rattle.frames.specs.mirror.Reading.{Reading}
 use Rattle.frames.specs.mirror.Frames.{lineRead}
-use Rattle.feeding.specs.mirror.Feeding.{Row, Machine, allPushed, lineLength, ended, byteFed, readOn, fed}
+use Rattle.line_blocks.specs.mirror.Rows.{Row, allPushed, lineLength}
+use Rattle.line_blocks.proofs.PartLaws.{part-inside}
+use Rattle.feeding.specs.mirror.Feeding.{Machine, ended, byteFed, readOn, fed}
 use Rattle.feeding.proofs.EndLaws.{lineOver, line-ended}
-use Rattle.feeding.proofs.PartLaws.{part-inside, line-pushed}
+use Rattle.feeding.proofs.PartLaws.{line-pushed}
 use Rattle.feeding.proofs.KeptLaws.{Told, Kept, kept-none, kept-more}
 
 -- the place after one inside a block

@@ -1,9 +1,7 @@
-pub mod TakeLaws
 pub mod EndLaws
 pub mod KeptLaws
 pub mod StayLaws
 pub mod PartLaws
 pub mod FeedingLaws
-pub mod RowLaws
 pub mod TextLaws
 pub mod Edges

@@ -9,7 +9,8 @@ use Rattle.frames.specs.declared.Case.{Case}
 use Rattle.frames.specs.mirror.Reading.{Reading, only}
 use Rattle.frames.specs.mirror.Lines.{longLine}
 use Rattle.frames.proofs.Stays.{line-stays, long-stays}
-use Rattle.feeding.specs.mirror.Feeding.{Machine, ended, isBegun, finished}
+use Rattle.line_blocks.specs.mirror.Rows.{isBegun}
+use Rattle.feeding.specs.mirror.Feeding.{Machine, ended, finished}
 use Rattle.feeding.specs.mirror.Text.{anyLineRead, linesRead}
 
 too-long-stays : (r : Reading) → 0 < r .case .bad → only (longLine (r .case)) r ≡ r

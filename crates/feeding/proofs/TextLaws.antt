@@ -10,12 +10,13 @@ use lib.Dec.{eqb, ltb, eqb·suc-zero}
 use borrow.Author.Tests.{lt-ltb, le-leb, lt-leb, ltb-true}
 use Rattle.frames.specs.mirror.Reading.{Contents, Tables, Reading, reading}
 use Rattle.frames.specs.mirror.Lines.{nothing}
-use Rattle.feeding.specs.mirror.Feeding.{Machine, machine, fresh, pushed, ended, byteFed, fed, isBegun, finished}
-use Rattle.feeding.specs.LinesOf.{linesFrom, linesOf}
+use Rattle.line_blocks.specs.LinesOf.{linesFrom, linesOf}
+use Rattle.line_blocks.specs.mirror.Rows.{isBegun, pushed}
+use Rattle.line_blocks.proofs.RowLaws.{Begun, begun-none, begun-more}
+use Rattle.feeding.specs.mirror.Feeding.{Machine, machine, fresh, ended, byteFed, fed, finished}
 use Rattle.feeding.specs.mirror.Text.{anyLineRead, linesRead, textRead}
 use Rattle.feeding.proofs.StayLaws.{all-stay, finished-stays}
 use Rattle.feeding.proofs.FeedingLaws.{fed-stays, blocksFed, blocks-fed}
-use Rattle.feeding.proofs.RowLaws.{Begun, begun-none, begun-more}
 
 -- a line that ends is read as the line that it is
 ended-reads : (limit : ℕ) (m : Machine) (line : List ℕ) → Begun limit (m .row) line → ended m .reading ≡ anyLineRead limit line (m .reading)

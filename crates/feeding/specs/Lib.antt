@@ -1,2 +1,1 @@
-pub mod LinesOf
 pub mod mirror

@@ -3,11 +3,10 @@ use frames::Case;
 ghost use mathlib.Core.Path.{_≡_};
 ghost use mathlib.Core.Bool.{cond};
 ghost use mathlib.Core.List.{[]};
-ghost use Prim.Native.Nat.{_+_, _≤_};
-ghost use lib.ListN.{length, take, drop};
-ghost use Rattle.hex.specs.Storing.{placed};
+ghost use lib.ListN.{take};
 ghost use Rattle.frames.specs.mirror.Lent.{lentContents, lentTables};
-ghost use Rattle.feeding.specs.mirror.Feeding.{row, machine, fresh, pushed, allPushed, lineLength, readOn, fed, isBegun, finished};
+ghost use Rattle.line_blocks.specs.mirror.Rows.{isBegun};
+ghost use Rattle.feeding.specs.mirror.Feeding.{machine, fresh, readOn, fed, finished};
 
 // How many characters of the line begun stand in the line buffer, whether there were more, and what the lines before came to.
 pub struct State {
@@ -30,11 +29,7 @@ pub fn start() -> State
 pub fn first_bytes(buffer: &[u8], count: usize) -> &[u8]
     ensures { λ r. ⌜ now r ≡ take count (now (buffer .entry)) ⌝ }
 {
-    if count <= buffer.len() {
-        &buffer[..count]
-    } else {
-        buffer
-    }
+    line_blocks::first_bytes(buffer, count)
 }
 
 pub fn first_words(buffer: &[u16], count: usize) -> &[u16]
@@ -66,91 +61,6 @@ fn line_characters(line: &[u8], used: usize, long: bool) -> &[u8]
     } else {
         first_bytes(line, used)
     }
-}
-
-// Of the line begun, how many characters stand in the line buffer, and whether there were more.
-struct Begun {
-    used: usize,
-    long: bool,
-}
-
-// One more character of the line begun.
-fn push(line: &mut [u8], byte: u8, used: usize, long: bool) -> Begun
-    ensures { λ r. ⌜ row (now (line .exit)) (r .used) (r .long) ≡ pushed byte (row (now (line .entry)) used long) ⌝ }
-{
-    if used < line.len() {
-        line[used] = byte;
-        Begun {
-            used: used + 1,
-            long,
-        }
-    } else {
-        Begun { used, long: true }
-    }
-}
-
-// The same of several characters.
-fn push_each(line: &mut [u8], characters: &[u8], used: usize, long: bool) -> Begun
-    ensures { λ r. ⌜ row (now (line .exit)) (r .used) (r .long) ≡ allPushed (now (characters .entry)) (row (now (line .entry)) used long) ⌝ }
-{
-    let mut count = used;
-    let mut more = long;
-    let mut i = 0;
-    while i < characters.len() {
-        let begun = push(line, characters[i], count, more);
-        count = begun.used;
-        more = begun.long;
-        i += 1;
-    }
-    Begun {
-        used: count,
-        long: more,
-    }
-}
-
-// Characters for which there is room: a loop that asks nothing takes several at a time.
-fn copy(line: &mut [u8], characters: &[u8], at: usize)
-    requires { ⌜ at + length (now characters) ≤ length (now line) ⌝ }
-    ensures { λ _. ⌜ now (line .exit) ≡ placed (now (line .entry)) at (now (characters .entry)) ⌝ }
-{
-    let mut i = 0;
-    while i < characters.len() {
-        line[at + i] = characters[i];
-        i += 1;
-    }
-}
-
-fn push_all(line: &mut [u8], characters: &[u8], used: usize, long: bool) -> Begun
-    ensures { λ r. ⌜ row (now (line .exit)) (r .used) (r .long) ≡ allPushed (now (characters .entry)) (row (now (line .entry)) used long) ⌝ }
-{
-    if used <= line.len() {
-        if characters.len() <= line.len() - used {
-            copy(line, characters, used);
-            Begun {
-                used: used + characters.len(),
-                long,
-            }
-        } else {
-            push_each(line, characters, used, long)
-        }
-    } else {
-        push_each(line, characters, used, long)
-    }
-}
-
-// The place of the next 0x0a in a block; the block's end if there is none.
-fn line_end(block: &[u8], from: usize) -> usize
-    requires { ⌜ from ≤ length (now block) ⌝ }
-    ensures { λ r. ⌜ r ≡ from + lineLength (drop from (now (block .entry))) ⌝ }
-{
-    let mut i = from;
-    while i < block.len() {
-        if block[i] == b'\n' {
-            return i;
-        }
-        i += 1;
-    }
-    i
 }
 
 // Where a block is read on, `next` or its end: after a bad line nothing counts.
@@ -185,8 +95,8 @@ pub fn feed(
     let mut case = state.case;
     let mut i = read_on(state.case.bad, 0, block.len());
     while i < block.len() {
-        let end = line_end(block, i);
-        let begun = push_all(line, &block[i..end], used, long);
+        let end = line_blocks::line_end(block, i);
+        let begun = line_blocks::push_all(line, &block[i..end], used, long);
         if block.len() <= end {
             used = begun.used;
             long = begun.long;

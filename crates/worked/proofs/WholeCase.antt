@@ -4,7 +4,7 @@ use mathlib.Core.List.{_++_, flatten}
 use Rattle.little_endian.specs.LittleEndian.{bytesOf}
 use Rattle.hex.specs.Digits.{isDecimal, isLetter, isDigit, digitOf, allDigits, characterOf}
 use Rattle.hex.specs.Bytes.{isHex, hexBytes, hexOf}
-use Rattle.feeding.specs.LinesOf.{linesFrom, linesOf}
+use Rattle.line_blocks.specs.LinesOf.{linesFrom, linesOf}
 use Rattle.output.specs.Output.{lineOf, answerLine, contentLine, memoryLine, bufferLines, outputBytes}
 use Rattle.answering.specs.Outcome.{outcomeOutput}
 use Rattle.case_file.specs.Frames.{ofKind, firstOf}

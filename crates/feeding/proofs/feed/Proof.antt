@@ -4,7 +4,7 @@ use lib.ListN.{length}
 use Rattle.frames.specs.mirror.Reading.{contents, tables}
 use Rattle.feeding.specs.mirror.Feeding.{state, machine}
 use Rattle.feeding.proofs.FeedingLaws.{next-fits, end-nearer, on-nearer, Fed, none-fed, part-more, line-more, all-fed}
-use Rattle.feeding.proofs.PartLaws.{part-ends, part-inside, part-after}
+use Rattle.line_blocks.proofs.PartLaws.{part-ends, part-inside, part-after}
 use Rattle.feeding.proofs.feed.Statement.{statement}
 use Rattle.feeding.proofs.feed.Tie as tie
 
@@ -91,7 +91,7 @@ returns c = all-fed _ _ _ _ (c .before .loop .inv) (c .loop-test .left)
 pub feed-spec : {M : Type 1} → statement M
 feed-spec =
     tie.close
-    (tie.spec Inv-loop μ-loop (λ c κs. tt) loop-holds (λ c κs. c .before .loop .inv .inside) sub-part part-start part-end (λ c κs. tt) loop-less loop-again (λ c κs. tt) (λ c κs. tt) add-read-on (λ c κs. tt) loop-less-2 loop-again-2
+    (tie.spec Inv-loop μ-loop (λ c κs. tt) loop-holds (λ c κs. tt) sub-part part-start part-end (λ c κs. tt) loop-less loop-again (λ c κs. tt) (λ c κs. tt) add-read-on (λ c κs. tt) loop-less-2 loop-again-2
     (λ c. c .before .loop .inv .line)
     (λ c. c .before .loop .inv .kept .registers)
     (λ c. c .before .loop .inv .kept .memory)

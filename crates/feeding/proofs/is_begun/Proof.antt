@@ -1,6 +1,6 @@
 -- `feeding::is_begun` meets its contract.
 use mathlib.Core.Path.{refl}
-use Rattle.feeding.specs.mirror.Feeding.{isBegun}
+use Rattle.line_blocks.specs.mirror.Rows.{isBegun}
 use Rattle.feeding.proofs.is_begun.Statement.{statement}
 use Rattle.feeding.proofs.is_begun.Tie as tie
 

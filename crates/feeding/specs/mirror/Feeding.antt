@@ -1,27 +1,19 @@
 -- What a case file says, byte by byte, with a line buffer of some length.
-use Prim.Native.Nat.{ℕ, suc, _+_}
-use mathlib.Core.Bool.{Bool, true, false, cond, _||_}
+use Prim.Native.Nat.{ℕ}
+use mathlib.Core.Bool.{Bool, true, false, cond}
 use mathlib.Core.List.{List, [], _∷_}
-use lib.ListN.{length, set, take}
+use lib.ListN.{take}
 use lib.Dec.{ltb, eqb}
 use Rattle.frames.specs.declared.Case.{Case}
 use Rattle.frames.specs.mirror.Reading.{Contents, Tables, Reading, reading, only}
 use Rattle.frames.specs.mirror.Lines.{nothing, longLine}
 use Rattle.frames.specs.mirror.Frames.{lineRead}
+use Rattle.line_blocks.specs.mirror.Rows.{Row, row, isBegun, pushed}
 use Rattle.feeding.specs.declared.State.{State}
-
--- the line begun: its buffer, how many characters stand in it, and whether there were more
-pub record Row : Type 0 where
-  pub line : List ℕ
-  pub used : ℕ
-  pub long : Bool
 
 pub record Machine : Type 0 where
   pub row : Row
   pub reading : Reading
-
-abbrev pub row : List ℕ → ℕ → Bool → Row
-row line used long = record { line = line; used = used; long = long }
 
 abbrev pub state : ℕ → Bool → Case → State
 state used long case = record { used = used; long = long; case = case }
@@ -31,21 +23,6 @@ machine line s contents tables = record { row = row line (s .used) (s .long); re
 
 unfoldable pub fresh : State
 fresh = record { used = 0; long = false; case = nothing }
-
-unfoldable pub pushed : ℕ → Row → Row
-pushed b w =
-    cond (ltb (w .used) (length (w .line)))
-    (row (set (w .line) (w .used) b) (w .used + 1) (w .long))
-    (row (w .line) (w .used) true)
-
-unfoldable pub allPushed : List ℕ → Row → Row
-allPushed [] w = w
-allPushed (b ∷ bs) w = allPushed bs (pushed b w)
-
--- how many characters stand before the first 0x0a
-unfoldable pub lineLength : List ℕ → ℕ
-lineLength [] = 0
-lineLength (b ∷ bs) = cond (eqb b 10) 0 (suc (lineLength bs))
 
 unfoldable pub ended : Machine → Machine
 ended m =
@@ -65,10 +42,6 @@ readOn bad next end = cond (ltb 0 bad) end next
 unfoldable pub fed : List ℕ → Machine → Machine
 fed [] m = m
 fed (b ∷ block) m = fed block (byteFed b m)
-
--- a line is begun that has no end yet
-unfoldable pub isBegun : ℕ → Bool → Bool
-isBegun used long = long || ltb 0 used
 
 -- "which the last may lack"
 unfoldable pub finished : Machine → Machine

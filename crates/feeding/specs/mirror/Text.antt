@@ -7,7 +7,7 @@ use lib.ListN.{length}
 use Rattle.frames.specs.mirror.Reading.{Reading, only}
 use Rattle.frames.specs.mirror.Lines.{longLine}
 use Rattle.frames.specs.mirror.Frames.{lineRead}
-use Rattle.feeding.specs.LinesOf.{linesOf}
+use Rattle.line_blocks.specs.LinesOf.{linesOf}
 
 -- a line of at most `limit` characters, or one that is too long
 unfoldable pub anyLineRead : ℕ → List ℕ → Reading → Reading

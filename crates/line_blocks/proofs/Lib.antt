@@ -1,0 +1,5 @@
+pub mod TakeLaws
+pub mod PushLaws
+pub mod PartLaws
+pub mod RowLaws
+pub mod TextOutLaws

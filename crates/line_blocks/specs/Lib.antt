@@ -1,0 +1,2 @@
+pub mod LinesOf
+pub mod mirror

@@ -1,0 +1,4 @@
+pub mod DecodedLaws
+pub mod StepLaws
+pub mod LoadLaws
+pub mod WholeLaws
