@@ -33,11 +33,11 @@ use Rattle.lines.specs.LineOf.{lineOf}
 use Rattle.lines.specs.Reading.{Reading, isLine, noLine, readingOf}
 use Rattle.lines.proofs.Statements.{read-line}
 
-unfoldable reading : List ℕ → Reading
+unfoldable pub reading : List ℕ → Reading
 unfolding whole pair through blank before after words oneOf wordIn scan better chosen common number numberIn begins goesOn moreDigits valueOf isDecimal isLetter ending idAndEnding predicate maskParts mask execFrom exec scatterExec decimal hexadecimal rawParts raw typeBehind codeAt immediateParts immediate sourceRegion strideBehind widthAndStride destinationRegion generalParts general generalOperand immediateOperand formed source destination scaleBehind sizeAndScale gatherBraces scaleAlone scatterBraces shlParts shl scalarAndRaws surface gatherParts gather scatterParts scatter message rawSendParts rawSend body named line readingOf
 reading t = readingOf t
 
-reading-is : (t : List ℕ) → reading t ≡ readingOf t
+pub reading-is : (t : List ℕ) → reading t ≡ readingOf t
 unfolding reading
 reading-is t = refl
 

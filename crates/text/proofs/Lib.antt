@@ -1,3 +1,4 @@
 pub mod PrintingLaws
 pub mod AssemblingLaws
 pub mod RefusedAlike
+pub mod Worked
