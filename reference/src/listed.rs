@@ -5,12 +5,16 @@ use crate::hex::bytes_of;
 use crate::number::BAD_LINE;
 use crate::print::print;
 
-/// A line for each instruction, and `! NUMBER POSITION` where decoding refuses; `! 14 0` for a line that is no hex. An
-/// empty line is an empty kernel, which has no instruction. Lines come in and go out without their 0x0a.
+/// The longest kernel that is listed, in bytes.
+pub const LONGEST_KERNEL: usize = 65_536;
+
+/// A line for each instruction, and `! NUMBER POSITION` where decoding refuses; `! 14 0` for a line that is no hex or
+/// longer than the longest kernel. An empty line is an empty kernel, which has no instruction. Lines come in and go out
+/// without their 0x0a.
 pub fn listed(line: &[u8]) -> Vec<String> {
     match bytes_of(line) {
-        Some(kernel) => instructions(&kernel),
-        None => vec![format!("! {BAD_LINE} 0")],
+        Some(kernel) if kernel.len() <= LONGEST_KERNEL => instructions(&kernel),
+        _ => vec![format!("! {BAD_LINE} 0")],
     }
 }
 

@@ -104,7 +104,10 @@ fn wrong_listings_are_caught() {
             300,
             "more than the answer is there: got \"\\n\" behind it",
         ),
-        ("4096", 300, "got \"! 13 0\\n\""),
+        ("4096", 500, "got \"! 13 0\\n\""),
+        ("no-limit", 1000, "expected \"! 14 0\\n\", got \""),
+        ("cut-at-65536", 1000, "expected \"! 14 0\\n\", got \""),
+        ("hex-later", 60, "expected \"! 14 0\\n\", got \""),
         ("silent", 40, "the output ends before line 1 of the answer"),
     ] {
         is_caught(LineKind::Kernels, way, count, words);
@@ -128,10 +131,27 @@ fn wrong_assemblers_are_caught() {
         ("three-fields", 1500, "expected \"! 16 "),
         ("upper-case", 1500, "expected \"! 16 "),
         ("scale-lost", 300, "expected \""),
+        ("first-108", 1500, "expected \"! 16 109\\n\", got \""),
+        ("behind-128", 1500, "expected \"! 16 "),
+        ("pieces-of-128", 1500, "behind it"),
         ("silent", 40, "the output ends before line 1 of the answer"),
     ] {
         is_caught(LineKind::Texts, way, count, words);
     }
+}
+
+/// The longest line has 108 characters, so that what stands behind the 109th of a text does not matter.
+#[test]
+fn the_first_109_characters_are_enough() {
+    let mut longer = 0;
+    for index in 0..20_000 {
+        let line = line_case(LineKind::Texts, 1, index).line;
+        if line.len() > 109 {
+            longer += 1;
+            assert_eq!(assembled(&line), assembled(&line[..109]), "{index}");
+        }
+    }
+    assert!(longer > 300, "{longer}");
 }
 
 /// Commands that are no such program at all, and one that ends in the middle.
@@ -160,12 +180,12 @@ fn other_commands_fail() {
     assert_eq!(last_line(&output), last);
 }
 
-/// Wrong only where lines come together: the program forgets what stands behind its first 4,096 characters.
+/// Wrong only where lines come together: the program forgets what stands behind its first 16,384 characters.
 #[test]
 fn wrong_together_is_caught() {
     let folder = env!("CARGO_TARGET_TMPDIR");
     let script = format!("{folder}/forgets.sh");
-    std::fs::write(&script, format!("head -c 4096 | {ASSEMBLER}\n")).unwrap();
+    std::fs::write(&script, format!("head -c 16384 | {ASSEMBLER}\n")).unwrap();
     let output = compare("texts", &format!("sh {script}"), &["--count", "300"]);
     assert_eq!(output.status.code(), Some(1));
     let report = text(&output);
@@ -282,7 +302,10 @@ fn lines_are_spread() {
             }
         }
     }
-    assert_eq!(names.len(), 9 + 14);
+    assert_eq!(names.len(), 10 + 15);
+    // The longest kernels take their time.
+    let longest = names.remove("about the longest kernel");
+    assert!(longest.is_some_and(|count| (10..40).contains(&count)));
     assert!(names.values().all(|count| *count > 100), "{names:?}");
     // The README has these numbers.
     let (refused, listed): (Vec<_>, Vec<_>) = answers
@@ -290,8 +313,8 @@ fn lines_are_spread() {
         .partition(|(answer, _)| answer.parse::<u8>().is_ok());
     let refused: Vec<(&str, u64)> = refused.iter().map(|(n, k)| (n.as_str(), **k)).collect();
     let expected = [
-        ("1", 1582),
-        ("14", 2212),
+        ("1", 1548),
+        ("14", 2244),
         ("2", 980),
         ("3", 2098),
         ("4", 308),
@@ -305,8 +328,11 @@ fn lines_are_spread() {
         listed.iter().all(|(_, count)| **count > 20_000),
         "{listed:?}"
     );
-    assert_eq!(listed.iter().map(|(_, count)| **count).sum::<u64>(), 98_960);
-    assert_eq!(read, 5912);
+    assert_eq!(
+        listed.iter().map(|(_, count)| **count).sum::<u64>(),
+        105_921
+    );
+    assert_eq!(read, 5532);
     // The longest line has 108 characters.
     assert!(columns.iter().copied().eq(1..=109), "{columns:?}");
 }

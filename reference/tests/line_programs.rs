@@ -102,26 +102,41 @@ fn lines_of_an_assembler() {
     assert_eq!(answer(ASSEMBLER, b"\0\xff\n\xff"), "! 16 1\n! 16 1\n");
 }
 
-/// One kernel of 1,200,000 bytes, and its listing back.
+/// Many kernels, and their listing back.
 #[test]
 fn any_length() {
-    let kernel = SHL.repeat(50_000);
-    let listing = answer(LISTING, &kernel);
+    let kernels = format!("{SHL}\n").repeat(50_000);
+    let listing = answer(LISTING, &kernels);
     assert!(listing == SHL_LINE.repeat(50_000));
-    let again = answer(ASSEMBLER, &listing);
-    assert!(again == format!("{SHL}\n").repeat(50_000));
+    assert!(answer(ASSEMBLER, &listing) == kernels);
     let long = " ".repeat(1_000_000);
     assert_eq!(answer(ASSEMBLER, &long), "! 16 1\n");
     assert_eq!(answer(LISTING, &long), "! 14 0\n");
 }
 
+/// A kernel has 65,536 bytes at most, 2,730 times 24 and 16; a line of more than 131,072 characters is 14.
+#[test]
+fn the_longest_kernel() {
+    let longest = SHL.repeat(2_730) + &SHL[..32];
+    assert_eq!(longest.len(), 131_072);
+    let lines = SHL_LINE.repeat(2_730) + "! 1 65520\n";
+    assert!(answer(LISTING, &longest) == lines);
+    assert!(answer(LISTING, &longest[..131_070]) == lines);
+    let then = format!("{longest}\n{SHL}\n{longest}");
+    assert!(answer(LISTING, then) == [&lines, SHL_LINE, &lines].concat());
+    for more in ["0", "00", " ", &SHL[32..], &longest] {
+        let input = format!("{longest}{more}\n{SHL}\n");
+        assert_eq!(answer(LISTING, input), format!("! 14 0\n{SHL_LINE}"));
+    }
+}
+
 /// The generated lines through both programs and back.
 #[test]
 fn there_and_back() {
-    let kernels = run(LINES, &["kernels", "--count", "300", "--seed", "7"], b"").stdout;
+    let kernels = run(LINES, &["kernels", "--count", "1000", "--seed", "7"], b"").stdout;
     let listing = answer(LISTING, kernels);
     let good: Vec<&str> = listing.lines().filter(|l| !l.starts_with('!')).collect();
-    assert!(good.len() > 1000, "{}", good.len());
+    assert!(good.len() > 2000, "{}", good.len());
     let encodings = answer(ASSEMBLER, good.join("\n"));
     assert_eq!(answer(LISTING, encodings), good.join("\n") + "\n");
 }

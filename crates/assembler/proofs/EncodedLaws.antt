@@ -12,7 +12,8 @@ use Rattle.reader.specs.Reply.{done, onReply}
 use Rattle.hex.specs.Bytes.{hexOf}
 use Rattle.hex.proofs.ByteLaws.{length-written}
 use Rattle.formats.specs.Text.{text}
-use Rattle.formats.specs.Numbers.{digitsOf, number}
+use Rattle.formats.specs.Numerals.{digitsOf}
+use Rattle.formats.specs.Numbers.{number}
 use Rattle.formats.specs.Writing.{wrote, written}
 use Rattle.formats.proofs.Tests.{both}
 use Rattle.formats.proofs.ShortLaws.{short-number}

@@ -12,7 +12,7 @@ use Rattle.hex.specs.Bytes.{hexOf}
 use Rattle.hex.proofs.ByteLaws.{hex-none, hex-more, hex-append}
 use Rattle.formats.specs.Text.{text}
 use Rattle.formats.specs.Words.{words, wordAt}
-use Rattle.formats.specs.Numbers.{digits, digitsOf}
+use Rattle.formats.specs.Numerals.{digits, digitsOf}
 use Rattle.formats.specs.Writing.{wrote, written}
 use Rattle.formats.proofs.WritingLaws.{wrote-then, wrote-none, wrote-inside}
 use Rattle.assembler.specs.Assembling.{lineEnd, columnLine}

@@ -3,7 +3,7 @@ use Prim.Native.Nat.{ℕ}
 use mathlib.Core.List.{List, [], _∷_, _++_, map, flatten}
 use Rattle.hex.specs.Bytes.{hexOf}
 use Rattle.formats.specs.Text.{text}
-use Rattle.formats.specs.Numbers.{digitsOf}
+use Rattle.formats.specs.Numerals.{digitsOf}
 use Rattle.decoder.specs.Format.{instructionBytes}
 use Rattle.lines.specs.Reading.{onReading, readingOf}
 use Rattle.line_blocks.specs.LinesOf.{linesOf}

@@ -12,7 +12,8 @@ use lib.Seq.{drop-cons}
 use borrow.Author.Tests.{leb-true, leb-false, le-leb, lt-leb, lt-ltb, le-ltb, eq-eqb, ne-eqb}
 use Rattle.hex.specs.Digits.{characterOf}
 use Rattle.formats.specs.Format.{got, stop}
-use Rattle.formats.specs.Numbers.{digits, digitsOf, number, radixOf}
+use Rattle.formats.specs.Numerals.{digits, digitsOf}
+use Rattle.formats.specs.Numbers.{number, radixOf}
 use Rattle.formats.specs.mirror.Digits.{valueOf, goesOn, moreDigits, begins, numberIn}
 use Rattle.formats.specs.Writing.{wrote, written}
 use Rattle.formats.specs.declared.Base.{Base}

@@ -7,7 +7,8 @@ use Rattle.hex.specs.Storing.{placed}
 use Rattle.formats.specs.Text.{text}
 use Rattle.formats.specs.Format.{Out, got, stop, pair, through}
 use Rattle.formats.specs.Words.{words, oneOf, table, before, after}
-use Rattle.formats.specs.Numbers.{digits, digitsOf, number}
+use Rattle.formats.specs.Numerals.{digits, digitsOf}
+use Rattle.formats.specs.Numbers.{number}
 use Rattle.formats.specs.Whole.{whole}
 use Rattle.formats.specs.Writing.{within, wrote, written}
 use Rattle.formats.specs.mirror.Scan.{common, better, scan, chosen, wordIn}

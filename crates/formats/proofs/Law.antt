@@ -41,13 +41,16 @@ pub ends-free : (u : List ℕ) → ends free u ≡ true
 ends-free [] = refl
 ends-free (c ∷ u) = refl
 
--- a law that keeps no character from following holds where some are kept
-pub weaken : {A : Type 0} {f : Format A} (n : ℕ → Bool) → Lawful f free → Lawful f n
-weaken {A} {f} n law = record { right = λ s at. on s at (f .read s at) (law .right s at); some = law .some; fine = law .fine }
+-- a law that keeps fewer characters from following holds where more are kept
+pub keep-more : {A : Type 0} {f : Format A} {m n : ℕ → Bool} → ((u : List ℕ) → ends n u ≡ true → ends m u ≡ true) → Lawful f m → Lawful f n
+keep-more {A} {f} {m} {n} more law = record { right = λ s at. on s at (f .read s at) (law .right s at); some = law .some; fine = law .fine }
   where
-    on : (s : List ℕ) (at : ℕ) (o : Out A) → Right f free s at o → Right f n s at o
-    on s at (got v e) r = record { fine = r .fine; end = r .end; text = r .text; only = λ w u h z. r .only w u h (ends-free u) }
-    on s at (stop k) r = record { most = r .most; fine = r .fine; reach = r .reach; none = λ w u h z. r .none w u h (ends-free u) }
+    on : (s : List ℕ) (at : ℕ) (o : Out A) → Right f m s at o → Right f n s at o
+    on s at (got v e) r = record { fine = r .fine; end = r .end; text = r .text; only = λ w u h z. r .only w u h (more u z) }
+    on s at (stop k) r = record { most = r .most; fine = r .fine; reach = r .reach; none = λ w u h z. r .none w u h (more u z) }
+
+pub weaken : {A : Type 0} {f : Format A} (n : ℕ → Bool) → Lawful f free → Lawful f n
+weaken n law = keep-more (λ u _. ends-free u) law
 
 -- what is read is good
 pub read-good : {A : Type 0} {f : Format A} {m : ℕ → Bool} → Lawful f m → (s : List ℕ) (at : ℕ) (v : A) (e : ℕ) → f .read s at ≡ got v e → f .good v ≡ true

@@ -12,7 +12,8 @@ use borrow.Author.Tests.{eqb-true, eqb-false, ne-eqb, ltb-true, ltb-false, lt-lt
 use Rattle.hex.specs.Digits.{isDecimal, isLetter, characterOf}
 use Rattle.hex.proofs.DigitLaws.{decimal-between, letter-between}
 use Rattle.formats.specs.Format.{Out, got, stop}
-use Rattle.formats.specs.Numbers.{digits, digitsOf, number}
+use Rattle.formats.specs.Numerals.{digits, digitsOf}
+use Rattle.formats.specs.Numbers.{number}
 use Rattle.formats.specs.mirror.Digits.{valueOf, isDigit, goesOn, moreDigits, begins, numberIn}
 use Rattle.formats.proofs.Tests.{both, both-left, both-right, cond-then}
 use Rattle.formats.proofs.Agree.{same, ends, past}

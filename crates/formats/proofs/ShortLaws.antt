@@ -11,7 +11,8 @@ use borrow.Author.Tests.{ltb-true, ltb-false, leb-true}
 use Rattle.hex.specs.Digits.{characterOf}
 use Rattle.formats.specs.Format.{Format, pair, through, blank}
 use Rattle.formats.specs.Words.{words, wordAt, oneOf, table, before, after}
-use Rattle.formats.specs.Numbers.{digits, number}
+use Rattle.formats.specs.Numerals.{digits}
+use Rattle.formats.specs.Numbers.{number}
 use Rattle.formats.proofs.Tests.{both-left, both-right, cond-then}
 use Rattle.formats.proofs.Following.{Matches}
 use Rattle.formats.proofs.AroundLaws.{matches-before, matches-after}

@@ -1,22 +1,13 @@
 -- Numbers of a range, in the digits of a base from 2 to 16: small letters, no leading zero.
-use Prim.Native.Nat.{ℕ, zero, suc, _/_, _%_}
-use mathlib.Core.List.{List, [], _∷_, _++_}
-use mathlib.Core.Bool.{cond, _&&_}
-use lib.Dec.{ltb, leb}
+use Prim.Native.Nat.{ℕ, zero}
+use mathlib.Core.Bool.{_&&_}
+use lib.Dec.{leb}
 use lib.ListN.{drop}
-use Rattle.hex.specs.Digits.{characterOf}
 use Rattle.formats.specs.Format.{Format}
+use Rattle.formats.specs.Numerals.{digitsOf}
 use Rattle.formats.specs.mirror.Digits.{numberIn}
 use Rattle.formats.specs.declared.Base.{Base}
 use Rattle.formats.specs.declared.Base.the-variants as base
-
--- the digits of n; the second number bounds how many there are, less one
-unfoldable pub digits : ℕ → ℕ → ℕ → List ℕ
-digits b zero n = characterOf n ∷ []
-digits b (suc k) n = cond (ltb n b) (characterOf n ∷ []) (digits b k (n / b) ++ (characterOf (n % b) ∷ []))
-
-abbrev pub digitsOf : ℕ → ℕ → List ℕ
-digitsOf b n = digits b n n
 
 -- the numbers from low to high; low is 0 or 1, so that every start of a number but the empty one is itself a number of the range
 unfoldable pub number : ℕ → ℕ → ℕ → Format ℕ

@@ -96,11 +96,11 @@ fn write_dword(
 {
     let place = at as usize;
     if doubtful {
-        let value = cells::number_at(surfaces, from, count);
-        cells::set_number(registers, register_taint, place, 4, value, true);
+        let value = cell_reads::number_at(surfaces, from, count);
+        cell_writes::set_number(registers, register_taint, place, 4, value, true);
     } else {
         let length = count as usize;
-        cells::copy(
+        cell_writes::copy(
             surfaces,
             surface_taint,
             from,
@@ -109,7 +109,7 @@ fn write_dword(
             place,
             length,
         );
-        cells::set_number(
+        cell_writes::set_number(
             registers,
             register_taint,
             place + length,

@@ -9,7 +9,8 @@ use borrow.Author.Tests.{eq-eqb, ne-eqb, eqb-true, eqb-false, not-true, not-fals
 use Rattle.formats.specs.Text.{text}
 use Rattle.formats.specs.Format.{pair, through, blank}
 use Rattle.formats.specs.Words.{words, wordAt, oneOf, table, before, after}
-use Rattle.formats.specs.Numbers.{digitsOf, number}
+use Rattle.formats.specs.Numerals.{digitsOf}
+use Rattle.formats.specs.Numbers.{number}
 use Rattle.formats.proofs.Tests.{both-left, both-right}
 use Rattle.field_groups.specs.declared.General.{General}
 use Rattle.field_groups.specs.declared.Immediate.{Immediate}
@@ -33,7 +34,7 @@ use Rattle.operand_texts.specs.General.{generalParts, general}
 use Rattle.operand_texts.specs.Operand.{forms, formOf, asGeneral, asImmediate, generalOperand, immediateOperand, formed, source, destination}
 use Rattle.operand_texts.specs.Texts.{generalText}
 use Rattle.lines.specs.Braces.{bracing, scaleBehind, sizeAndScale, gatherBraces, scaleAlone, scatterBraces}
-use Rattle.lines.specs.Bodies.{space, shlParts, shlFrom, shl, scalarAndRaws, blocks, surface, gatherParts, gatherFrom, gather, letters, scatterParts, scatterFrom, scatter, sends, message, rawSendParts, rawSendFrom, rawSend}
+use Rattle.lines.specs.Bodies.{space, shlParts, shlFrom, shl, scalarAndRaws, blocks, surface, gatherParts, gatherFrom, gather, letters, scatterParts, scatterFrom, scatter, sendEndings, message, rawSendParts, rawSendFrom, rawSend}
 use Rattle.lines.specs.Line.{names, nameOf, predOf, body, named, line}
 
 -- ---- regions
@@ -188,7 +189,7 @@ pub scatter-text : (pred : ℕ) (x : Scatter) (k : ℕ) → k ≡ x .channels - 
 unfolding scatter scatterParts scatterFrom pair through oneOf
 scatter-text pred x k e = rw e
 
-pub raw-send-text : (pred : ℕ) (x : RawSend) → rawSend pred .print (instruction.RawSend x) ≡ wordAt (words sends) (x .modifiers) ++ (exec .print (x .control .exec) ++ (message .print (x .message .extended, (x .message .«num_src», x .message .«num_dst»)) ++ scalarAndRaws .print (x .descriptor, (x .source, x .destination))))
+pub raw-send-text : (pred : ℕ) (x : RawSend) → rawSend pred .print (instruction.RawSend x) ≡ wordAt (words sendEndings) (x .modifiers) ++ (exec .print (x .control .exec) ++ (message .print (x .message .extended, (x .message .«num_src», x .message .«num_dst»)) ++ scalarAndRaws .print (x .descriptor, (x .source, x .destination))))
 unfolding rawSend rawSendParts rawSendFrom pair through oneOf
 raw-send-text pred x = refl
 

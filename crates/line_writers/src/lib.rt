@@ -131,7 +131,7 @@ fn put_scalar_and_raws(out: &mut [u8], at: usize, scalar: Operand, first: Raw, s
     part_writers::put_raw(out, d, second)
 }
 
-fn are_null(size: u64, scale: u64) -> bool
+fn carries_nothing(size: u64, scale: u64) -> bool
     ensures { λ r. ⌜ r ≡ zeros (size, scale) ⌝ }
 {
     if size == 0 { scale == 0 } else { false }
@@ -143,7 +143,7 @@ fn put_gather_braces(out: &mut [u8], at: usize, size: u8, scale: u16) -> usize
 {
     let first = size as u64;
     let second = scale as u64;
-    if are_null(first, second) {
+    if carries_nothing(first, second) {
         return formats::put_word(out, at, b"| {|", 0);
     }
     let a = formats::put_word(out, at, b"| {|", 1);

@@ -1,22 +1,21 @@
 -- What stands behind each instruction's name is a lawful format.
 use mathlib.Core.Path.{_≡_, refl, sym, ap, _∙_}
-use mathlib.Core.List.{List}
 use mathlib.Core.Bool.{Bool, true, false, _&&_, true≢false}
-use Prim.Native.Nat.{ℕ, _+_, _-_, _≤_, _<_}
+use Prim.Native.Nat.{ℕ, _+_, _-_, _≤_}
 use native.Mathlib.Omega.{arith}
 use lib.Dec.{ltb, leb, eqb}
 use borrow.Author.Tests.{eqb-true, eq-eqb, ltb-true, ltb-false, lt-ltb, le-ltb, le-leb}
 use Rattle.hex.specs.Digits.{isDecimal, isLetter}
 use Rattle.formats.specs.Text.{text}
 use Rattle.formats.specs.Format.{Format, pair, through}
-use Rattle.formats.specs.Words.{words, oneOf, table, before, after}
+use Rattle.formats.specs.Words.{table, before, after}
 use Rattle.formats.specs.Numbers.{number}
 use Rattle.formats.specs.mirror.Digits.{isDigit, valueOf}
 use Rattle.formats.proofs.Tests.{both, both-left, both-right}
-use Rattle.formats.proofs.Law.{Lawful, free, weaken}
+use Rattle.formats.proofs.Law.{Lawful, free, weaken, keep-more}
 use Rattle.formats.proofs.Following.{Matches, follows-free}
 use Rattle.formats.proofs.Combining.{pair-lawful, through-lawful}
-use Rattle.formats.proofs.TableTests.{sound, opens, single, size, table-under, table-good}
+use Rattle.formats.proofs.TableTests.{sound, opens, single, size, table-good}
 use Rattle.formats.proofs.WordLaws.{table-lawful}
 use Rattle.formats.proofs.AroundLaws.{before-lawful, after-lawful}
 use Rattle.fields.specs.Rules.{channelsGood, sourceCountGood}
@@ -24,18 +23,17 @@ use Rattle.field_groups.specs.declared.Raw.{Raw}
 use Rattle.field_groups.specs.declared.Operand.{Operand}
 use Rattle.decoder.specs.declared.Instruction.{Instruction}
 use Rattle.decoder.specs.declared.Instruction.the-variants as instruction
-use Rattle.text_parts.specs.Exec.{execOf, execFits, exec, scatterExecFits, scatterExec}
+use Rattle.text_parts.specs.Exec.{execFrom, exec, scatterExecFits, scatterExec}
 use Rattle.text_parts.specs.Fields.{decimal, hexadecimal}
-use Rattle.text_parts.specs.Raw.{rawFits, raw}
-use Rattle.text_parts.proofs.PartLaws.{in-table}
+use Rattle.text_parts.specs.Raw.{raw}
 use Rattle.text_parts.proofs.ExecLaws.{exec-lawful, scatter-exec-lawful}
 use Rattle.text_parts.proofs.FieldLaws.{decimal-lawful, hexadecimal-lawful}
 use Rattle.text_parts.proofs.RawLaws.{raw-lawful}
-use Rattle.operand_texts.specs.Operand.{generalOperandFits, operandFits, generalOperand, source, destination}
+use Rattle.operand_texts.specs.Operand.{generalOperand, source, destination}
 use Rattle.lines.specs.Braces.{gatherBraces, scatterBraces}
-use Rattle.lines.specs.Bodies.{space, shlParts, shlTo, shlFrom, shlFits, shl, scalarAndRaws, scalarAndRawsFit, blocks, surface, gatherParts, gatherTo, gatherFrom, gatherFits, gather, letters, scatterParts, scatterTo, scatterFrom, scatterFits, scatter, sends, message, messageFits, rawSendParts, rawSendTo, rawSendFrom, rawSendFits, rawSend}
+use Rattle.lines.specs.Bodies.{space, shlParts, shlTo, shlFrom, shlFits, shl, scalarAndRaws, scalarAndRawsFit, blocks, surface, gatherParts, gatherTo, gatherFrom, gatherFits, gather, letters, scatterParts, scatterTo, scatterFrom, scatterFits, scatter, sendEndings, message, messageFits, rawSendParts, rawSendTo, rawSendFrom, rawSendFits, rawSend}
 use Rattle.operand_texts.proofs.OperandLaws.{source-lawful, destination-lawful}
-use Rattle.lines.proofs.EndLaws.{goesOn, no-digit, keep-more}
+use Rattle.lines.proofs.EndLaws.{goesOn, no-digit}
 use Rattle.lines.proofs.BracesLaws.{gather-braces-lawful, gather-braces-follow, scatter-braces-lawful, scatter-braces-follow}
 
 -- ---- a body's values and the instructions of its kind, where its test asks for the predicate's word and what its parts ask
@@ -60,7 +58,7 @@ shl-parts-lawful =
     pair-lawful (after-lawful space refl refl refl source-lawful) (λ _. source-lawful) follows-free) follows-free) follows-free
 
 shl-good : (pred : ℕ) (v : ℕ × (Operand × (Operand × Operand))) → shlFits pred (shlTo pred v) ≡ (eqb pred pred && shlParts .good v)
-unfolding shlParts shlFits pair through before after exec execOf source destination generalOperand
+unfolding shlParts shlFits pair through before after exec execFrom source destination generalOperand
 shl-good pred v = refl
 
 pub shl-matches : (pred : ℕ) → Matches (shlTo pred) shlFrom (shlFits pred) shlParts
@@ -108,7 +106,7 @@ gather-parts-lawful =
     pair-lawful scalar-and-raws-lawful (λ _. gather-braces-lawful) gather-braces-follow) follows-free) follows-free) follows-free
 
 gather-good : (pred : ℕ) (v : ℕ × (ℕ × (ℕ × ((Operand × (Raw × Raw)) × (ℕ × ℕ))))) → gatherFits pred (gatherTo pred v) ≡ (eqb pred pred && gatherParts .good v)
-unfolding gatherParts gatherFits pair through exec execOf gatherBraces size
+unfolding gatherParts gatherFits pair through exec execFrom gatherBraces size
 gather-good pred v = rw (table-good blocks (v .0), surface-good (v .1 .1 .0), scalar-and-raws-good (v .1 .1 .1 .0))
 
 pub gather-matches : (pred : ℕ) → Matches (gatherTo pred) gatherFrom (gatherFits pred) gatherParts
@@ -148,7 +146,7 @@ unfolding channelsGood
 channels-some c h = ltb-true 0 c (both-left (ltb 0 c) (ltb c 16) h)
 
 scatter-good : (pred : ℕ) (v : ℕ × (ℕ × ((Operand × (Raw × Raw)) × ℕ))) → scatterFits pred (scatterTo pred v) ≡ (eqb pred pred && scatterParts .good v)
-unfolding scatterParts scatterFits pair through scatterExec execOf scatterBraces
+unfolding scatterParts scatterFits pair through scatterExec execFrom scatterBraces
 scatter-good pred v = rw (letters-good (v .0), scalar-and-raws-good (v .1 .1 .0))
 
 pub scatter-matches : (pred : ℕ) → Matches (scatterTo pred) scatterFrom (scatterFits pred) scatterParts
@@ -189,13 +187,13 @@ message-good v = rw (le-leb 0 (v .0) (omega arith), le-leb 0 (v .1 .1) (omega ar
 raw-send-parts-lawful : Lawful rawSendParts (isDigit 10)
 unfolding rawSendParts sound
 raw-send-parts-lawful =
-    pair-lawful (table-lawful sends free refl) (λ _.
+    pair-lawful (table-lawful sendEndings free refl) (λ _.
     pair-lawful exec-lawful (λ _.
     pair-lawful message-lawful (λ _. scalar-and-raws-lawful) follows-free) follows-free) follows-free
 
 raw-send-good : (pred : ℕ) (v : ℕ × (ℕ × ((ℕ × (ℕ × ℕ)) × (Operand × (Raw × Raw))))) → rawSendFits pred (rawSendTo pred v) ≡ (eqb pred pred && rawSendParts .good v)
-unfolding rawSendParts rawSendFits pair through exec execOf size
-raw-send-good pred v = rw (table-good sends (v .0), message-good (v .1 .1 .0), scalar-and-raws-good (v .1 .1 .1))
+unfolding rawSendParts rawSendFits pair through exec execFrom size
+raw-send-good pred v = rw (table-good sendEndings (v .0), message-good (v .1 .1 .0), scalar-and-raws-good (v .1 .1 .1))
 
 pub raw-send-matches : (pred : ℕ) → Matches (rawSendTo pred) rawSendFrom (rawSendFits pred) rawSendParts
 unfolding rawSendFrom rawSendFits

@@ -2,12 +2,12 @@
 use mathlib.Core.Path.{_≡_, refl, sym, ap, _∙_, subst}
 use mathlib.Core.List.{List}
 use mathlib.Core.Bool.{true}
-use Prim.Native.Nat.{ℕ, _+_, _≤_, _<_}
+use Prim.Native.Nat.{ℕ, _≤_, _<_}
 use native.Mathlib.Omega.{arith}
 use lib.ListN.{drop}
 use Rattle.hex.specs.Digits.{isDecimal, isLetter}
 use Rattle.formats.specs.Text.{text}
-use Rattle.formats.specs.Format.{Format, got, stop, through}
+use Rattle.formats.specs.Format.{through}
 use Rattle.formats.specs.Words.{words, oneOf, before, after}
 use Rattle.formats.specs.Told.{told}
 use Rattle.formats.specs.mirror.Digits.{isDigit, valueOf}
@@ -15,8 +15,7 @@ use Rattle.formats.specs.declared.Cursor.{Cursor}
 use Rattle.formats.specs.declared.NumberRead.{NumberRead}
 use Rattle.formats.specs.declared.NumberRead.the-variants as read
 use Rattle.formats.proofs.Agree.{common-right}
-use Rattle.formats.proofs.Law.{Got, Stopped, Right, Lawful, free}
-use Rattle.formats.proofs.ShortLaws.{Short}
+use Rattle.formats.proofs.Law.{Got, Stopped, Right, free}
 use Rattle.formats.proofs.NumberLaws.{number-under}
 use Rattle.formats.proofs.TableTests.{sound, size, single, opens}
 use Rattle.formats.proofs.AnswerLaws.{told-good, word-under}
@@ -26,7 +25,7 @@ use Rattle.decoder.specs.declared.Instruction.{Instruction}
 use Rattle.lines.specs.declared.LineRead.{LineRead}
 use Rattle.lines.specs.declared.LineRead.the-variants as line-read
 use Rattle.lines.specs.Braces.{scaleBehind}
-use Rattle.lines.specs.Bodies.{space, blocks, letters, sends}
+use Rattle.lines.specs.Bodies.{space, blocks, letters, sendEndings}
 use Rattle.lines.specs.Line.{line}
 use Rattle.lines.specs.Told.{toldLine}
 use Rattle.lines.proofs.EndLaws.{goesOn}
@@ -79,9 +78,9 @@ module _ (s : List ℕ) (at : ℕ) (r : NumberRead) (n : ℕ) (c : Cursor) where
   unfolding sound size
   letters-bound = word-under letters free refl s at r n c
 
-  pub sends-bound : told r ≡ oneOf (words sends) .read s at → r ≡ read.Got n c → n ≤ 255
+  pub sends-bound : told r ≡ oneOf (words sendEndings) .read s at → r ≡ read.Got n c → n ≤ 255
   unfolding sound size
-  sends-bound e g = let h : n < 2 = word-under sends free refl s at r n c e g in omega (arith, h)
+  sends-bound e g = let h : n < 2 = word-under sendEndings free refl s at r n c e g in omega (arith, h)
 
 -- ---- positions: no line is longer than 128, so reading ends or stops by there
 

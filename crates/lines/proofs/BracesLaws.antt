@@ -1,5 +1,5 @@
 -- The texts of the ignored fields are lawful formats, behind which neither a digit nor a space may stand.
-use mathlib.Core.Path.{_≡_, refl, sym, ap}
+use mathlib.Core.Path.{_≡_, refl, sym}
 use mathlib.Core.List.{List, _++_}
 use mathlib.Core.Bool.{Bool, true, false, cond, _&&_}
 use Prim.Native.Nat.{ℕ, _≤_, _<_}
@@ -20,18 +20,16 @@ use Rattle.formats.proofs.Combining.{pair-lawful, through-lawful, blank-lawful,
 use Rattle.formats.proofs.TableTests.{sound, opens, single, size, table-under}
 use Rattle.formats.proofs.WordLaws.{table-lawful}
 use Rattle.formats.proofs.AroundLaws.{begins-after}
-use Rattle.formats.proofs.NumberLaws.{number-under, begins-number, decimal-characters}
+use Rattle.formats.proofs.NumberLaws.{begins-number, decimal-characters}
 use Rattle.text_parts.specs.Predicate.{zeros, nothing}
 use Rattle.text_parts.specs.Fields.{decimal}
 use Rattle.text_parts.proofs.PartLaws.{in-table, in-range}
 use Rattle.text_parts.proofs.FieldLaws.{decimal-lawful, decimal-between}
+use Rattle.text_parts.proofs.PredicateLaws.{nothing-lawful}
 use Rattle.lines.specs.Braces.{bracing, scaleBehind, sizeAndScale, gatherBracesFit, gatherBraces, scaleAlone, scatterBraces}
 use Rattle.lines.proofs.EndLaws.{isSpace, goesOn, no-digit, no-space}
 
 -- ---- the pieces
-
-both-zero : (v : ℕ × ℕ) → zeros v ≡ true → v ≡ (0, 0)
-both-zero v h = λ i. (eqb-true (v .0) 0 (both-left (eqb (v .0) 0) (eqb (v .1) 0) h) i, eqb-true (v .1) 0 (both-right (eqb (v .0) 0) (eqb (v .1) 0) h) i)
 
 bracing-lawful : Lawful (table bracing) isSpace
 unfolding sound
@@ -74,7 +72,7 @@ read-any-scale size s at o n p = rw (ne-eqb size 0 n) p
 size-and-scale-lawful : (braced : ℕ) → Lawful (sizeAndScale braced) goesOn
 unfolding sizeAndScale sound single opens isDigit valueOf isDecimal isLetter
 size-and-scale-lawful braced =
-    cond-lawful (eqb braced 0) (blank-lawful (0, 0) zeros goesOn refl both-zero)
+    cond-lawful (eqb braced 0) (nothing-lawful goesOn)
     (pair-lawful (decimal-lawful 0 255 (text ",|") (omega arith) (omega arith) refl refl refl) scale-behind-lawful follows-free)
 
 size-and-scale-follows : Follows (table bracing) sizeAndScale isSpace goesOn

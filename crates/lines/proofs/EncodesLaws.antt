@@ -1,10 +1,10 @@
 -- The instructions that have a line are those that the encoder takes.
 use mathlib.Core.Path.{_≡_, refl}
 use mathlib.Core.List.{List, [], _∷_, _++_}
-use mathlib.Core.Bool.{Bool, true, _&&_}
+use mathlib.Core.Bool.{true, _&&_}
 use Prim.Native.Nat.{ℕ, _<_}
 use native.Mathlib.Omega.{arith}
-use lib.Dec.{ltb, leb, eqb}
+use lib.Dec.{ltb, leb}
 use borrow.Author.Tests.{eq-eqb, ltb-true, leb-true, le-leb}
 use Rattle.little_endian.specs.LittleEndian.{Bytes}
 use Rattle.fields.specs.declared.TagRule.the-variants as tag
@@ -16,7 +16,7 @@ use Rattle.fields.specs.Rules.{channelsGood, byteRefusal, wordRefusal}
 use Rattle.fields.specs.Layout.{fieldRefusal}
 use Rattle.field_groups.specs.declared.Operand.{Operand}
 use Rattle.field_groups.specs.declared.Raw.{Raw}
-use Rattle.field_groups.specs.Layout.{controlFields, operandFields, rawFields, accessFields, messageFields}
+use Rattle.field_groups.specs.Layout.{operandFields, rawFields}
 use Rattle.decoder.specs.declared.Shl.{Shl}
 use Rattle.decoder.specs.declared.Gather.{Gather}
 use Rattle.decoder.specs.declared.Scatter.{Scatter}
@@ -24,16 +24,13 @@ use Rattle.decoder.specs.declared.RawSend.{RawSend}
 use Rattle.decoder.specs.declared.Instruction.{Instruction}
 use Rattle.decoder.specs.declared.Instruction.the-variants as instruction
 use Rattle.decoder.specs.Format.{shlFields, gatherFields, scatterFields, rawSendFields, instructionFields, instructionBytes, instructionRefusal}
-use Rattle.formats.proofs.Tests.{both, both-left, both-right}
-use Rattle.text_parts.specs.Predicate.{predicateFits}
-use Rattle.text_parts.specs.Exec.{execFits, scatterExecFits}
+use Rattle.formats.proofs.Tests.{both-right}
 use Rattle.text_parts.specs.Raw.{rawFits}
-use Rattle.operand_texts.specs.Operand.{generalOperandFits, operandFits}
-use Rattle.lines.specs.Braces.{gatherBracesFit}
-use Rattle.lines.specs.Bodies.{scalarAndRawsFit, shlFits, gatherFits, scatterFits, messageFits, rawSendFits}
+use Rattle.operand_texts.specs.Operand.{operandFits}
+use Rattle.lines.specs.Bodies.{scalarAndRawsFit, shlFits, gatherFits, scatterFits, rawSendFits}
 use Rattle.lines.specs.Line.{predOf, bodyFits, lineFits}
 use Rattle.lines.proofs.FitLaws.{all-each, each-all, shlTests, gatherTests, scatterTests, rawSendTests}
-use Rattle.lines.proofs.TakenLaws.{Taken, TakenIf, taken-append, taken-encodes, judged-good, good-judged, control-alike, scatter-control-alike, raw-alike, destination-alike, source-alike, scalar-alike, access-alike, message-alike}
+use Rattle.lines.proofs.TakenLaws.{TakenIf, taken-append, taken-encodes, judged-good, good-judged, control-alike, scatter-control-alike, raw-alike, destination-alike, source-alike, scalar-alike, access-alike, message-alike}
 
 -- two groups of fields, one after the other
 both-taken : {P Q : Type 0} {fs gs : List Field} → TakenIf fs P → TakenIf gs Q → TakenIf (fs ++ gs) (P × Q)

@@ -11,7 +11,7 @@ use Rattle.text_parts.specs.Predicate.{zeros}
 use Rattle.text_parts.specs.Fields.{decimal, hexadecimal}
 use Rattle.text_parts.proofs.LengthLaws.{predicate-short, exec-short, scatter-exec-short, raw-short}
 use Rattle.lines.specs.Braces.{bracing, scaleBehind, sizeAndScale, gatherBraces, scaleAlone, scatterBraces}
-use Rattle.lines.specs.Bodies.{space, shlParts, shl, scalarAndRaws, blocks, surface, gatherParts, gather, letters, scatterParts, scatter, sends, message, rawSendParts, rawSend}
+use Rattle.lines.specs.Bodies.{space, shlParts, shl, scalarAndRaws, blocks, surface, gatherParts, gather, letters, scatterParts, scatter, sendEndings, message, rawSendParts, rawSend}
 use Rattle.lines.specs.Line.{names, body, named, line}
 use Rattle.operand_texts.proofs.LengthLaws.{source-short, destination-short}
 use Rattle.lines.proofs.BracesLaws.{gather-braces-matches, scatter-braces-matches}
@@ -88,7 +88,7 @@ raw-send-short : (pred : ℕ) → Short (rawSend pred) 82
 unfolding rawSend rawSendParts narrow
 raw-send-short pred =
     short-through
-    (short-pair {n = 2} {m = 80} (short-table sends 2 refl) (λ _.
+    (short-pair {n = 2} {m = 80} (short-table sendEndings 2 refl) (λ _.
     short-pair {n = 11} {m = 69} exec-short (λ _.
     short-pair {n = 17} {m = 52} message-short (λ _. scalar-and-raws-short))))
     (raw-send-matches pred)

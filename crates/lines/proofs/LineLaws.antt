@@ -6,7 +6,7 @@ use native.Mathlib.Omega.{arith}
 use lib.Dec.{eqb}
 use borrow.Author.Tests.{eqb-true}
 use Rattle.formats.specs.Format.{pair, through}
-use Rattle.formats.specs.Words.{words, oneOf, table}
+use Rattle.formats.specs.Words.{words, oneOf}
 use Rattle.formats.proofs.Tests.{both, both-left, both-right}
 use Rattle.formats.proofs.Law.{Lawful, free}
 use Rattle.formats.proofs.Following.{Matches, follows-free, follows-begins, begins-pair}

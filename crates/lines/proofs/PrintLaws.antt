@@ -1,16 +1,17 @@
 -- The format prints each instruction's line, as `LineOf` has it.
-use mathlib.Core.Path.{_≡_, refl, sym, ap, _∙_}
+use mathlib.Core.Path.{_≡_, refl, ap, _∙_}
 use mathlib.Core.List.{List, _++_, append-assoc}
-use mathlib.Core.Bool.{Bool, true, false, cond, not, _&&_}
+use mathlib.Core.Bool.{Bool, true, false, cond, not}
 use Prim.Native.Nat.{ℕ, zero, suc, _-_, _^_, _<_}
 use native.Mathlib.Omega.{arith}
-use lib.Dec.{ltb, leb, eqb}
+use lib.Dec.{ltb, eqb}
 use borrow.Author.Tests.{ltb-true}
 use Rattle.hex.specs.Digits.{characterOf}
 use Rattle.formats.specs.Text.{text}
 use Rattle.formats.specs.Format.{pair, through, blank}
-use Rattle.formats.specs.Words.{words, wordAt, oneOf, table, before, after}
-use Rattle.formats.specs.Numbers.{digits, digitsOf, number}
+use Rattle.formats.specs.Words.{words, wordAt, oneOf, before, after}
+use Rattle.formats.specs.Numerals.{digits, digitsOf}
+use Rattle.formats.specs.Numbers.{number}
 use Rattle.formats.proofs.Tests.{both-left, both-right}
 use Rattle.channels.specs.Bits.{bit}
 use Rattle.fields.specs.Rules.{channelsGood}
@@ -29,10 +30,10 @@ use Rattle.text_parts.specs.Fields.{decimal, hexadecimal}
 use Rattle.text_parts.specs.Raw.{raw}
 use Rattle.text_parts.specs.Texts.{optional, predicateText, execText, rawText}
 use Rattle.text_parts.proofs.PrintLaws.{predicate-prints, exec-prints, scatter-exec-prints, raw-prints}
-use Rattle.operand_texts.specs.Operand.{operandFits, source, destination}
-use Rattle.operand_texts.specs.Texts.{operandText, destinationText}
+use Rattle.operand_texts.specs.Operand.{source, destination}
+use Rattle.operand_texts.specs.Texts.{operandText}
 use Rattle.lines.specs.Braces.{bracing, scaleBehind, sizeAndScale, gatherBraces, scaleAlone, scatterBraces}
-use Rattle.lines.specs.Bodies.{shlParts, shlFrom, shlFits, shl, scalarAndRaws, scalarAndRawsFit, blocks, surface, gatherParts, gatherFrom, gatherFits, gather, letters, scatterParts, scatterFrom, scatterFits, scatter, sends, message, rawSendParts, rawSendFrom, rawSendFits, rawSend}
+use Rattle.lines.specs.Bodies.{shlParts, shlFrom, shlFits, shl, scalarAndRaws, scalarAndRawsFit, blocks, surface, gatherParts, gatherFrom, gatherFits, gather, letters, scatterParts, scatterFrom, scatterFits, scatter, sendEndings, message, rawSendParts, rawSendFrom, rawSendFits, rawSend}
 use Rattle.lines.specs.Line.{nameOf, predOf, body, named, bodyFits, lineFits, line}
 use Rattle.lines.specs.LineOf.{spaced, shlLine, gatherBracesText, gatherLine, lettersText, scatterBracesText, scatterLine, rawSendLine, lineOf}
 use Rattle.operand_texts.proofs.PrintLaws.{source-prints, destination-prints}
@@ -127,7 +128,7 @@ scatter-prints x h =
 
 -- ---- RAW_SEND
 
-sends-text : (m : ℕ) → m < 2 → wordAt (words sends) m ≡ spaced (optional (bit m 0) (text "c"))
+sends-text : (m : ℕ) → m < 2 → wordAt (words sendEndings) m ≡ spaced (optional (bit m 0) (text "c"))
 unfolding words wordAt bit
 sends-text zero h = refl
 sends-text (suc zero) h = refl

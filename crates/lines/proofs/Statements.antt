@@ -1,9 +1,9 @@
 -- What is claimed of lines: each instruction that the encoder takes has one, which is read back; no other text is read; and what the column of a 16 says.
 use mathlib.Core.Path.{_≡_, refl, sym, ap, _∙_, subst}
-use mathlib.Core.List.{List, _++_}
+use mathlib.Core.List.{List}
 use mathlib.Core.Logic.{_⊎_, inl, inr}
 use mathlib.Core.Bool.{true}
-use Prim.Native.Nat.{ℕ, suc, _+_, _-_}
+use Prim.Native.Nat.{ℕ, suc, _+_, _-_, _≤_}
 use native.Mathlib.Omega.{arith}
 use lib.ListN.{length, take}
 use Rattle.formats.specs.Format.{Out, got, stop, onOut}
@@ -18,6 +18,7 @@ use Rattle.lines.proofs.EndLaws.{goesOn}
 use Rattle.lines.proofs.LineLaws.{line-lawful, line-good}
 use Rattle.lines.proofs.EncodesLaws.{fits-encodes, encodes-fits}
 use Rattle.lines.proofs.PrintLaws.{line-prints}
+use Rattle.lines.proofs.LengthLaws.{line-short}
 
 -- ---- two readings that are the same
 
@@ -54,6 +55,10 @@ read-line t i = told (whole line t) refl
 pub one-line : (i j : Instruction) → Encodes i → Encodes j → lineOf i ≡ lineOf j → i ≡ j
 one-line i j e f p = same-line i j (sym (line-read i e) ∙ ap readingOf p ∙ line-read j f)
 
+-- a bound for buffers
+pub line-length : (i : Instruction) → Encodes i → length (lineOf i) ≤ 128
+line-length i e = let h = encodes-fits i (e .0) (e .1) in rw (← line-prints i h) (line-short .most i (rw (line-good i) h))
+
 -- ---- the column
 
 begins : (p : List ℕ) → Viable line p → LineBegins p
@@ -74,11 +79,11 @@ column t k = told (whole line t) refl
     here j (inl e) = inl (omega (arith, e))
     here j (inr n) = inr (λ b. n (viable (take (suc j) t) b))
 
-    of : (j : ℕ) → Column line t j → IsColumn t (suc j)
-    of j c =
+    of : (j : ℕ) → readingOf t ≡ noLine (suc j) → Column line t j → IsColumn t (suc j)
+    of j p c =
         let e : suc j - 1 ≡ j = omega arith in
-        record { first = omega arith; last = omega (arith, c .inside); before = rw e (begins (take j t) (c .before)); here = here j (c .here) }
+        record { none = λ i h q. no-line i (suc j) (sym (line-read i h) ∙ ap readingOf q ∙ p); first = omega arith; last = omega (arith, c .inside); before = rw e (begins (take j t) (c .before)); here = here j (c .here) }
 
     told : (o : Out Instruction) → whole line t ≡ o → onOut o (λ k. noLine (suc k)) (λ i e. isLine i) ≡ noLine k → IsColumn t k
     told (got j n) w p = absurd (no-line j k p)
-    told (stop j) w p = subst (IsColumn t) (same-column (suc j) k p) (of j (read-column line goesOn line-lawful t j w))
+    told (stop j) w p = subst (IsColumn t) (same-column (suc j) k p) (of j (ap (λ (o : Out Instruction). onOut o (λ k. noLine (suc k)) (λ i e. isLine i)) w) (read-column line goesOn line-lawful t j w))

@@ -6,16 +6,15 @@ use mathlib.Core.Bool.{Bool, true, false, cond, _&&_, _||_, true≢false}
 use Prim.Native.Nat.{ℕ, suc, _/_, _<_}
 use native.Mathlib.Omega.{arith}
 use lib.Dec.{ltb, leb, eqb}
-use borrow.Author.Tests.{eqb-true, eq-eqb, ltb-true, lt-ltb, leb-true, le-leb}
+use borrow.Author.Tests.{eqb-true, ltb-true, lt-ltb, leb-true, le-leb}
 use Rattle.little_endian.specs.LittleEndian.{Bytes}
 use Rattle.element_types.specs.Types.{isListed, hasHighWord}
-use Rattle.fields.specs.declared.TagRule.{TagRule}
 use Rattle.fields.specs.declared.TagRule.the-variants as tag
 use Rattle.fields.specs.declared.ByteRule.the-variants as byte
 use Rattle.fields.specs.declared.WordRule.the-variants as word
 use Rattle.fields.specs.declared.Field.{Field}
 use Rattle.fields.specs.declared.Field.the-variants.{Byte, Word, Dword, Lacking}
-use Rattle.fields.specs.Rules.{judged, execGood, scatterExecGood, predicateGood, regionGood, channelsGood, sourceCountGood, classGood, tagGood, tagRefusal, byteRefusal, wordRefusal}
+use Rattle.fields.specs.Rules.{judged, execGood, scatterExecGood, predicateGood, regionGood, sourceCountGood, classGood, tagGood, tagRefusal, byteRefusal, wordRefusal}
 use Rattle.fields.specs.Layout.{fieldRefusal, layoutBytes, layoutRefusal}
 use Rattle.fields.proofs.FirstRefusal.{none-refused, good-append, good-one}
 use Rattle.fields.specs.Told.{AllGood}

@@ -19,10 +19,10 @@ use Rattle.field_groups.specs.declared.Operand.the-variants as operand
 use Rattle.decoder.specs.declared.Instruction.{Instruction}
 use Rattle.decoder.specs.declared.Instruction.the-variants as instruction
 use Rattle.text_parts.specs.Predicate.{ending, idAndEnding, predicate}
-use Rattle.text_parts.specs.Exec.{maskParts, mask, execOf, exec, scatterExec}
+use Rattle.text_parts.specs.Exec.{maskParts, mask, execFrom, exec, scatterExec}
 use Rattle.text_parts.specs.Fields.{decimal, hexadecimal}
 use Rattle.text_parts.specs.Raw.{rawParts, raw}
-use Rattle.text_parts.specs.Immediate.{typeOf, codeAt, immediateParts, immediate}
+use Rattle.text_parts.specs.Immediate.{typeBehind, codeAt, immediateParts, immediate}
 use Rattle.operand_texts.specs.Region.{sourceRegion, strideBehind, widthAndStride, destinationRegion}
 use Rattle.operand_texts.specs.General.{generalParts, general}
 use Rattle.operand_texts.specs.Operand.{generalOperand, immediateOperand, formed, source, destination}
@@ -34,7 +34,7 @@ use Rattle.lines.specs.Reading.{Reading, isLine, noLine, readingOf}
 use Rattle.lines.proofs.Statements.{read-line}
 
 unfoldable reading : List ℕ → Reading
-unfolding whole pair through blank before after words oneOf wordIn scan better chosen common number numberIn begins goesOn moreDigits valueOf isDecimal isLetter ending idAndEnding predicate maskParts mask execOf exec scatterExec decimal hexadecimal rawParts raw typeOf codeAt immediateParts immediate sourceRegion strideBehind widthAndStride destinationRegion generalParts general generalOperand immediateOperand formed source destination scaleBehind sizeAndScale gatherBraces scaleAlone scatterBraces shlParts shl scalarAndRaws surface gatherParts gather scatterParts scatter message rawSendParts rawSend body named line readingOf
+unfolding whole pair through blank before after words oneOf wordIn scan better chosen common number numberIn begins goesOn moreDigits valueOf isDecimal isLetter ending idAndEnding predicate maskParts mask execFrom exec scatterExec decimal hexadecimal rawParts raw typeBehind codeAt immediateParts immediate sourceRegion strideBehind widthAndStride destinationRegion generalParts general generalOperand immediateOperand formed source destination scaleBehind sizeAndScale gatherBraces scaleAlone scatterBraces shlParts shl scalarAndRaws surface gatherParts gather scatterParts scatter message rawSendParts rawSend body named line readingOf
 reading t = readingOf t
 
 reading-is : (t : List ℕ) → reading t ≡ readingOf t

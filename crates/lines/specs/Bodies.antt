@@ -144,8 +144,8 @@ scatter pred = through (scatterTo pred) scatterFrom (scatterFits pred) scatterPa
 
 -- ---- page 002: `raw_sendc (M1,1) 0x1a 1 0 v0(0,0)<0;1,0> v1.8 v2.0`; bit 0 of Modifiers is the `c`
 
-abbrev pub sends : List ℕ
-sends = text " |c |"
+abbrev pub sendEndings : List ℕ
+sendEndings = text " |c |"
 
 unfoldable pub message : Format (ℕ × (ℕ × ℕ))
 message = pair (hexadecimal 4294967295 space) (λ _. pair (decimal 1 15 space) (λ _. decimal 0 16 space))
@@ -154,7 +154,7 @@ unfoldable pub messageFits : ℕ → ℕ → ℕ → Bool
 messageFits extended sources destinations = leb extended 4294967295 && (sourceCountGood sources && leb destinations 16)
 
 unfoldable pub rawSendParts : Format (ℕ × (ℕ × ((ℕ × (ℕ × ℕ)) × (Operand × (Raw × Raw)))))
-rawSendParts = pair (table sends) (λ _. pair exec (λ _. pair message (λ _. scalarAndRaws)))
+rawSendParts = pair (table sendEndings) (λ _. pair exec (λ _. pair message (λ _. scalarAndRaws)))
 
 abbrev pub rawSendTo : ℕ → ℕ × (ℕ × ((ℕ × (ℕ × ℕ)) × (Operand × (Raw × Raw)))) → Instruction
 rawSendTo pred v =

@@ -1,5 +1,5 @@
--- The fields that are ignored and carried, in braces behind the last operand: ` {1,0}` for a gather, ` {5}` for a scatter, nothing where all are 0.
--- Document 02, request 1: braces "if one is not zero".
+-- The fields in braces behind the last operand, ` {1,0}` for a gather, ` {5}` for a scatter. Document 02, request 1: "ignored fields, and those that a
+-- page's text leaves out, follow as `{1,0}` in byte order if one is not zero"; SHL and RAW_SEND have none.
 use Prim.Native.Nat.{ℕ}
 use mathlib.Core.List.{List}
 use mathlib.Core.Bool.{Bool, cond, _&&_}

@@ -22,8 +22,9 @@ pub record LineBegins (p : List ℕ) : Type 0 where
   pub rest : List ℕ
   pub text : lineOf of ≡ p ++ rest
 
--- the characters before it begin a line, and the text ends there or no line begins with the characters up to it
+-- the text is no line; the characters before the column begin one, and the text ends there or no line begins with the characters up to it
 pub record IsColumn (t : List ℕ) (column : ℕ) : Type 0 where
+  pub none : (i : Instruction) → Encodes i → lineOf i ≡ t → ⊥
   pub first : 1 ≤ column
   pub last : column ≤ length t + 1
   pub before : LineBegins (take (column - 1) t)

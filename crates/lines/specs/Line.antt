@@ -39,7 +39,7 @@ bodyFits pred (instruction.Gather x) = gatherFits pred (instruction.Gather x)
 bodyFits pred (instruction.Scatter x) = scatterFits pred (instruction.Scatter x)
 bodyFits pred (instruction.RawSend x) = rawSendFits pred (instruction.RawSend x)
 
--- the instructions that have a line: those that the encoder takes (proofs/EncodesLaws.antt)
+-- the instructions that have a line: those that the encoder takes, each number of its field's width (proofs/EncodesLaws.antt)
 unfoldable pub lineFits : Instruction → Bool
 lineFits i = predicateFits (predOf i) && bodyFits (predOf i) i
 

@@ -1,11 +1,11 @@
--- The line of an instruction, to be held beside the Text line of its page. Nothing of reading is used here; proofs/PrintLaws.antt says that the format
--- prints it. The texts of predicate and exec byte have the space that follows them.
-use Prim.Native.Nat.{ℕ, _/_, _%_, _^_}
+-- The line of an instruction, to be held beside the Text line of its page: "single spaces, decimal unless hex is shown, no line end". Nothing of reading
+-- is used here; proofs/PrintLaws.antt says that the format prints it. The texts of predicate and exec byte have the space that follows them.
+use Prim.Native.Nat.{ℕ, _^_}
 use mathlib.Core.List.{List, _++_}
-use mathlib.Core.Bool.{cond, not, _&&_}
+use mathlib.Core.Bool.{not, _&&_}
 use lib.Dec.{eqb}
 use Rattle.formats.specs.Text.{text}
-use Rattle.formats.specs.Numbers.{digitsOf}
+use Rattle.formats.specs.Numerals.{digitsOf}
 use Rattle.channels.specs.Bits.{bit}
 use Rattle.field_groups.specs.declared.Access.{Access}
 use Rattle.decoder.specs.declared.Shl.{Shl}
@@ -31,7 +31,7 @@ shlLine x =
     ++ (spaced (operandText (x .source))
     ++ operandText (x .count)))))
 
--- ` {1,0}`: "if one is not zero", all of them in byte order
+-- ` {1,0}`: "ignored fields, and those that a page's text leaves out, follow as `{1,0}` in byte order if one is not zero"
 unfoldable pub gatherBracesText : Access → List ℕ
 gatherBracesText a =
     optional (not (eqb (a .«block_size») 0 && eqb (a .scale) 0))
@@ -51,7 +51,7 @@ gatherLine x =
     ++ (rawText (x .destination)
     ++ gatherBracesText (x .access)))))))))
 
--- "at least one of R G B A, in this order, R for bit 0"
+-- "channels as letters of RGBA"; page 000: "with R being bit 0 and A bit 3"
 unfoldable pub lettersText : ℕ → List ℕ
 lettersText channels =
     optional (bit channels 0) (text "R") ++ (optional (bit channels 1) (text "G") ++ (optional (bit channels 2) (text "B") ++ optional (bit channels 3) (text "A")))

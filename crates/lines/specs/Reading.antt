@@ -1,4 +1,4 @@
--- Reading a text: the instruction whose line it is, or the column of a 16. What the column says is stated of `lineOf` alone (crate `text`).
+-- Reading a text: the instruction whose line it is, or the column of a 16. What it says of `lineOf` alone: Claims.antt.
 use Prim.Native.Nat.{ℕ, suc}
 use mathlib.Core.List.{List}
 use Rattle.formats.specs.Format.{onOut}

@@ -27,7 +27,8 @@ ghost use Rattle.lines.specs.Braces.{scaleBehind, gatherBraces, scatterB
 ghost use Rattle.lines.specs.Bodies.{space, shl, scalarAndRaws, surface, gather, scatter, message, rawSend};
 ghost use Rattle.lines.specs.Line.{body, line};
 ghost use Rattle.lines.specs.Reading.{readingOf};
-ghost use Rattle.lines.specs.Told.{toldBraces, toldScalarAndRaws, toldMessage, toldLine, toldText};
+ghost use Rattle.lines.specs.Told.{toldLine, toldText};
+ghost use Rattle.lines.specs.mirror.Pieces.{toldBraces, toldScalarAndRaws, toldMessage};
 
 // Block_size and Scale.
 enum BracesRead {

@@ -11,7 +11,8 @@ use Rattle.little_endian.specs.LittleEndian.{Bytes}
 use Rattle.reader.specs.Reply.{Reply, refused, done, Read, got, onReply}
 use Rattle.formats.specs.Text.{text}
 use Rattle.formats.specs.Words.{words, wordAt}
-use Rattle.formats.specs.Numbers.{digitsOf, number}
+use Rattle.formats.specs.Numerals.{digitsOf}
+use Rattle.formats.specs.Numbers.{number}
 use Rattle.formats.specs.Writing.{wrote, written}
 use Rattle.formats.proofs.Tests.{both}
 use Rattle.formats.proofs.ShortLaws.{short-number}

@@ -6,7 +6,7 @@ use lib.Dec.{ltb, leb, eqb}
 use lib.ListN.{length}
 use Rattle.hex.specs.Bytes.{isHex, hexBytes}
 use Rattle.formats.specs.Text.{text}
-use Rattle.formats.specs.Numbers.{digitsOf}
+use Rattle.formats.specs.Numerals.{digitsOf}
 use Rattle.reader.specs.Reply.{onReply}
 use Rattle.decoder.specs.Decoding.{instructionAt}
 use Rattle.lines.specs.LineOf.{lineOf}

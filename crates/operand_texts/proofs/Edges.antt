@@ -6,14 +6,15 @@ use Rattle.hex.specs.Digits.{isDecimal, isLetter, characterOf}
 use Rattle.formats.specs.Text.{text}
 use Rattle.formats.specs.Format.{Out, got, stop, pair, through, blank}
 use Rattle.formats.specs.Words.{words, wordAt, oneOf, before, after}
-use Rattle.formats.specs.Numbers.{digits, number}
+use Rattle.formats.specs.Numerals.{digits}
+use Rattle.formats.specs.Numbers.{number}
 use Rattle.formats.specs.Whole.{whole}
 use Rattle.formats.specs.mirror.Scan.{common, better, scan, chosen, wordIn}
 use Rattle.formats.specs.mirror.Digits.{valueOf, goesOn, moreDigits, begins, numberIn}
 use Rattle.field_groups.specs.declared.Operand.{Operand}
 use Rattle.field_groups.specs.declared.Operand.the-variants as operand
 use Rattle.text_parts.specs.Fields.{decimal}
-use Rattle.text_parts.specs.Immediate.{typeOf, codeAt, immediateParts, immediate}
+use Rattle.text_parts.specs.Immediate.{typeBehind, codeAt, immediateParts, immediate}
 use Rattle.operand_texts.specs.Region.{sourceRegion, strideBehind, widthAndStride, destinationRegion}
 use Rattle.operand_texts.specs.General.{generalParts, general}
 use Rattle.operand_texts.specs.Operand.{formOf, asGeneral, generalOperand, immediateOperand, formed, source, destination}
@@ -52,7 +53,7 @@ no-destinations = (refl, refl, refl, refl, refl, refl, refl, refl)
 -- ---- sources
 
 unfoldable source-at : String → Out Operand
-unfolding whole pair through before after words oneOf wordIn scan better chosen common number numberIn begins goesOn moreDigits valueOf isDecimal isLetter decimal typeOf codeAt immediateParts immediate sourceRegion generalParts general generalOperand immediateOperand formed source
+unfolding whole pair through before after words oneOf wordIn scan better chosen common number numberIn begins goesOn moreDigits valueOf isDecimal isLetter decimal typeBehind codeAt immediateParts immediate sourceRegion generalParts general generalOperand immediateOperand formed source
 source-at t = whole source (text t)
 
 sources : (source-at "v0(0,0)<8;8,1>" ≡ got (variable 0 0 0 0x255) 14) × (source-at "v7(1,2)<n;8,1>" ≡ got (variable 7 1 2 0x250) 14) × (source-at "v0(0,0)<0;1,0>" ≡ got (variable 0 0 0 0x121) 14) × (source-at "v3(1,2)<n;n,1>" ≡ got (variable 3 1 2 0x200) 14) × (source-at "v65535(255,255)<32;32,32>" ≡ got (variable 65535 255 255 0x777) 25)

@@ -10,7 +10,8 @@ use Rattle.hex.specs.Digits.{characterOf}
 use Rattle.formats.specs.Text.{text}
 use Rattle.formats.specs.Format.{Format, pair, through, blank}
 use Rattle.formats.specs.Words.{words, wordAt, oneOf, table, before, after}
-use Rattle.formats.specs.Numbers.{digits, digitsOf, number}
+use Rattle.formats.specs.Numerals.{digits, digitsOf}
+use Rattle.formats.specs.Numbers.{number}
 use Rattle.formats.proofs.Tests.{both-left, both-right}
 use Rattle.field_groups.specs.declared.General.{General}
 use Rattle.field_groups.specs.declared.Operand.{Operand}

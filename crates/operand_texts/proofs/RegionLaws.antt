@@ -10,12 +10,13 @@ use Rattle.formats.specs.Words.{words, oneOf, table}
 use Rattle.formats.proofs.Tests.{both, both-left, both-right}
 use Rattle.formats.proofs.Law.{Lawful, free}
 use Rattle.formats.proofs.Following.{Matches, follows-free}
-use Rattle.formats.proofs.Combining.{pair-lawful, through-lawful, blank-lawful, cond-lawful}
+use Rattle.formats.proofs.Combining.{pair-lawful, through-lawful, cond-lawful}
 use Rattle.formats.proofs.TableTests.{sound, size, table-under}
 use Rattle.formats.proofs.WordLaws.{table-lawful}
 use Rattle.fields.specs.Rules.{regionGood}
-use Rattle.text_parts.specs.Predicate.{zeros, nothing}
+use Rattle.text_parts.specs.Predicate.{nothing}
 use Rattle.text_parts.proofs.PartLaws.{in-table}
+use Rattle.text_parts.proofs.PredicateLaws.{both-zero, nothing-lawful}
 use Rattle.operand_texts.specs.Region.{verticals, widths, strides, regionTo, regionFrom, regionFits, sourceRegion, firsts, nullStride, strideBehind, widthAndStride, destinationRegionTo, destinationRegionFrom, destinationRegion}
 
 -- ---- the words that the encoder takes
@@ -96,19 +97,13 @@ source-region-lawful =
 
 -- ---- what stands behind a destination's first word
 
-both-zero : (v : ℕ × ℕ) → zeros v ≡ true → v ≡ (0, 0)
-both-zero v h = λ i. (eqb-true (v .0) 0 (both-left (eqb (v .0) 0) (eqb (v .1) 0) h) i, eqb-true (v .1) 0 (both-right (eqb (v .0) 0) (eqb (v .1) 0) h) i)
-
-nothing-lawful : Lawful nothing free
-nothing-lawful = blank-lawful (0, 0) zeros free refl both-zero
-
 pub stride-lawful : (v w : ℕ) → Lawful (strideBehind v w) free
 unfolding strideBehind sound
 stride-lawful v w = cond-lawful (eqb v 0 && eqb w 0) (table-lawful nullStride free refl) (table-lawful strides free refl)
 
 width-and-stride-lawful : (first : ℕ) → Lawful (widthAndStride first) free
 unfolding widthAndStride sound
-width-and-stride-lawful first = cond-lawful (ltb first 8) (pair-lawful (table-lawful widths free refl) (stride-lawful first) follows-free) nothing-lawful
+width-and-stride-lawful first = cond-lawful (ltb first 8) (pair-lawful (table-lawful widths free refl) (stride-lawful first) follows-free) (nothing-lawful free)
 
 pub stride-under : (v w h : ℕ) → strideBehind v w .good h ≡ true → (h < 8) × (v ≡ 0 → w ≡ 0 → h ≡ 0)
 unfolding strideBehind size

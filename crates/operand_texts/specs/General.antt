@@ -25,6 +25,6 @@ generalParts region =
 unfoldable pub generalFits : General → Bool
 generalFits g = leb (g .index) 65535 && (leb (g .row) 255 && (leb (g .column) 255 && regionFits (g .region)))
 
--- `region` prints the regions of the operand's place
+-- `region` is the format of a source's regions, or of a destination's
 unfoldable pub general : Format ℕ → Format General
 general region = through generalTo generalFrom generalFits (generalParts region)

@@ -22,7 +22,7 @@ unfoldable pub formOf : Operand → ℕ
 formOf (operand.General g) = 0
 formOf (operand.Immediate i) = 1
 
--- the operand as this form has it; of another form nothing is said
+-- the operand as this form has it; one of another form is zeros, which are never printed
 unfoldable pub asGeneral : Operand → General
 asGeneral (operand.General g) = g
 asGeneral (operand.Immediate i) = record { index = 0; row = 0; column = 0; region = 0 }

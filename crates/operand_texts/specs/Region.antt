@@ -1,5 +1,5 @@
--- A region's text: `<8;8,1>` for a source, and for a destination `<1>` where V and W are Null and H is not, otherwise all three fields.
--- A field is its code: 0 is Null, printed `n`, and 1 to 7 are the numbers 0, 1, 2, 4, 8, 16, 32.
+-- A region's text: `<8;8,1>`, vertical stride V, width W and horizontal stride H, for a source; for a destination `<1>`, which is H, where V and W are
+-- Null and H is not, otherwise all three. A field is its code: 0 is Null, printed `n`, and 1 to 7 are the numbers 0, 1, 2, 4, 8, 16, 32.
 use Prim.Native.Nat.{ℕ, _+_, _*_, _-_, _/_, _%_}
 use mathlib.Core.List.{List}
 use mathlib.Core.Bool.{Bool, cond, _&&_, not}

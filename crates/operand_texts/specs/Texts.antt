@@ -1,10 +1,10 @@
--- The text of each operand, as the pages write it. Nothing of reading is used here; proofs/PrintLaws.antt says that the formats print these texts.
+-- The text of each operand, as document 02 and the pages write it. Nothing of reading is used here; proofs/PrintLaws.antt says that the formats print these texts.
 use Prim.Native.Nat.{ℕ, _-_, _/_, _%_, _^_}
 use mathlib.Core.List.{List, [], _++_}
 use mathlib.Core.Bool.{cond, _&&_, not}
 use lib.Dec.{eqb}
 use Rattle.formats.specs.Text.{text}
-use Rattle.formats.specs.Numbers.{digitsOf}
+use Rattle.formats.specs.Numerals.{digitsOf}
 use Rattle.field_groups.specs.declared.General.{General}
 use Rattle.field_groups.specs.declared.Operand.{Operand}
 use Rattle.field_groups.specs.declared.Operand.the-variants as operand
@@ -29,7 +29,7 @@ unfoldable pub regionText : ℕ → List ℕ
 regionText region =
     text "<" ++ (codeText (verticalCode region) ++ (text ";" ++ (codeText (widthCode region) ++ (text "," ++ (codeText (horizontalCode region) ++ text ">")))))
 
--- `<1>` "if V and W are Null and H is not", otherwise as a source
+-- `<1>` where V and W are Null and H is not, as a run asks of a destination; "a region with Nulls out of place shows all three fields, n for Null"
 unfoldable pub destinationRegionText : ℕ → List ℕ
 destinationRegionText region =
     cond (eqb (verticalCode region) 0 && (eqb (widthCode region) 0 && not (eqb (horizontalCode region) 0)))

@@ -9,14 +9,15 @@ use borrow.Author.Tests.{eq-eqb, lt-ltb, le-ltb}
 use Rattle.formats.specs.Text.{text}
 use Rattle.formats.specs.Format.{pair, through, blank}
 use Rattle.formats.specs.Words.{words, wordAt, oneOf, before, after}
-use Rattle.formats.specs.Numbers.{digitsOf, number}
+use Rattle.formats.specs.Numerals.{digitsOf}
+use Rattle.formats.specs.Numbers.{number}
 use Rattle.field_groups.specs.declared.Raw.{Raw}
 use Rattle.field_groups.specs.declared.Immediate.{Immediate}
 use Rattle.text_parts.specs.Predicate.{openings, endings, groupEndings, ending, idAndEnding, predicate}
-use Rattle.text_parts.specs.Exec.{maskEndings, sizes, scatterSizes, maskParts, mask, execOf, exec, scatterExec}
+use Rattle.text_parts.specs.Exec.{maskEndings, sizes, scatterSizes, maskParts, mask, execFrom, exec, scatterExec}
 use Rattle.text_parts.specs.Fields.{decimal}
 use Rattle.text_parts.specs.Raw.{rawParts, raw}
-use Rattle.text_parts.specs.Immediate.{types, wideTypes, typeOf, placeOf, immediateParts, immediate}
+use Rattle.text_parts.specs.Immediate.{types, wideTypes, typeBehind, placeOf, immediateParts, immediate}
 
 -- ---- the predicate
 
@@ -39,11 +40,11 @@ unfolding mask maskParts through before pair number oneOf
 mask-text m = refl
 
 pub exec-text : (e : ℕ) → exec .print e ≡ mask .print (e / 16) ++ wordAt (words sizes) (e % 16)
-unfolding exec execOf through pair oneOf
+unfolding exec execFrom through pair oneOf
 exec-text e = ap (λ (k : ℕ). mask .print (e / 16) ++ wordAt (words sizes) k) (sub-zero (e % 16))
 
 pub scatter-exec-text : (e k : ℕ) → k ≡ e % 16 - 3 → scatterExec .print e ≡ mask .print (e / 16) ++ wordAt (words scatterSizes) k
-unfolding scatterExec execOf through pair oneOf
+unfolding scatterExec execFrom through pair oneOf
 scatter-exec-text e k p = rw p
 
 -- ---- numbers, raw operands, immediates
@@ -56,14 +57,14 @@ pub raw-text : (r : Raw) → raw .print r ≡ wordAt (words (text "v|")) 0 ++ ((
 unfolding raw rawParts decimal before after through pair number oneOf
 raw-text r = refl
 
-pub narrow-type : (n k : ℕ) → n < 4294967296 → typeOf n .print k ≡ wordAt (words types) k
-unfolding typeOf oneOf
+pub narrow-type : (n k : ℕ) → n < 4294967296 → typeBehind n .print k ≡ wordAt (words types) k
+unfolding typeBehind oneOf
 narrow-type n k h = rw (lt-ltb n 4294967296 h)
 
-pub wide-type : (n k : ℕ) → 4294967296 ≤ n → typeOf n .print k ≡ wordAt (words wideTypes) k
-unfolding typeOf oneOf
+pub wide-type : (n k : ℕ) → 4294967296 ≤ n → typeBehind n .print k ≡ wordAt (words wideTypes) k
+unfolding typeBehind oneOf
 wide-type n k h = rw (le-ltb n 4294967296 h)
 
-pub immediate-text : (i : Immediate) (n k : ℕ) → n ≡ i .high * 4294967296 + i .low → k ≡ placeOf (i .code) → immediate .print i ≡ digitsOf 16 n ++ typeOf n .print k
+pub immediate-text : (i : Immediate) (n k : ℕ) → n ≡ i .high * 4294967296 + i .low → k ≡ placeOf (i .code) → immediate .print i ≡ digitsOf 16 n ++ typeBehind n .print k
 unfolding immediate immediateParts through pair number
 immediate-text i n k e p = rw (e, p)

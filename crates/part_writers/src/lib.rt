@@ -9,12 +9,12 @@ ghost use lib.ListN.{length};
 ghost use Rattle.hex.specs.Storing.{placed, fits, stored};
 ghost use Rattle.formats.specs.Text.{text};
 ghost use Rattle.formats.specs.Words.{words, wordAt};
-ghost use Rattle.formats.specs.Numbers.{digitsOf};
+ghost use Rattle.formats.specs.Numerals.{digitsOf};
 ghost use Rattle.formats.specs.Writing.{wrote, written};
 ghost use Rattle.text_parts.specs.Predicate.{ending, predicate};
 ghost use Rattle.text_parts.specs.Exec.{mask, exec, scatterExec};
 ghost use Rattle.text_parts.specs.Raw.{raw};
-ghost use Rattle.text_parts.specs.Immediate.{typeOf, placeOf, immediate};
+ghost use Rattle.text_parts.specs.Immediate.{typeBehind, placeOf, immediate};
 
 // What ends a predicate.
 fn put_ending(out: &mut [u8], at: usize, opening: u64, id: u64, end: u64) -> usize
@@ -100,7 +100,7 @@ pub fn put_raw(out: &mut [u8], at: usize, r: Raw) -> usize
 }
 
 fn put_type(out: &mut [u8], at: usize, n: u64, place: u64) -> usize
-    ensures { λ r. ⌜ wrote r (now (out .exit)) ≡ written (now (out .entry)) at (typeOf n .print place) ⌝ }
+    ensures { λ r. ⌜ wrote r (now (out .exit)) ≡ written (now (out .entry)) at (typeBehind n .print place) ⌝ }
 {
     if n < 4294967296 {
         formats::put_word(out, at, b":uq|:ud|:d|:uw|:w|:ub|:b|:f|", place)

@@ -218,7 +218,7 @@ fn write_lane(
     if on[index] {
         let from = begin + 4 * index;
         let to = memory_place(base, target_from(sums[index], channel));
-        cells::copy_dword(room, room_taint, from, memory, memory_taint, to);
+        cell_writes::copy_dword(room, room_taint, from, memory, memory_taint, to);
     }
 }
 

@@ -73,7 +73,7 @@ fn write_lane(
         let layout = shape.layout;
         let tainted = staging::either_taint(taint, layout, lane);
         let place = at as usize;
-        cells::set_number(registers, register_taint, place, shape.size, value, tainted);
+        cell_writes::set_number(registers, register_taint, place, shape.size, value, tainted);
     }
 }
 

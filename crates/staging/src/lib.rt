@@ -85,11 +85,11 @@ fn stage_lane(
 {
     let place = place_of(elements, base, lane);
     if elements.immediate {
-        cells::set_number(bytes, taint, place, elements.size, elements.value, false);
+        cell_writes::set_number(bytes, taint, place, elements.size, elements.value, false);
     } else {
         let from = position_of(elements, lane);
         let size = elements.size as usize;
-        cells::copy(registers, register_taint, from, bytes, taint, place, size);
+        cell_writes::copy(registers, register_taint, from, bytes, taint, place, size);
     }
 }
 
@@ -173,7 +173,7 @@ pub fn stage_with_data(
     let mut bytes = room.bytes;
     let mut taint = room.taint;
     let to = data_place(layout) as usize;
-    cells::copy(
+    cell_writes::copy(
         registers,
         register_taint,
         from,
@@ -189,14 +189,14 @@ pub fn stage_with_data(
 pub fn first_number(bytes: &[u8], layout: Layout, lane: u8) -> u64
     ensures { λ r. ⌜ r ≡ firstNumber (now (bytes .entry)) layout lane ⌝ }
 {
-    cells::number_at(bytes, first_place(layout, lane) as usize, layout.first)
+    cell_reads::number_at(bytes, first_place(layout, lane) as usize, layout.first)
 }
 
 // A lane's element of the second.
 pub fn second_number(bytes: &[u8], layout: Layout, lane: u8) -> u64
     ensures { λ r. ⌜ r ≡ secondNumber (now (bytes .entry)) layout lane ⌝ }
 {
-    cells::number_at(bytes, second_place(layout, lane) as usize, layout.second)
+    cell_reads::number_at(bytes, second_place(layout, lane) as usize, layout.second)
 }
 
 // Whether a byte of either is tainted.
@@ -205,6 +205,6 @@ pub fn either_taint(taint: &[u8], layout: Layout, lane: u8) -> bool
 {
     let first = first_place(layout, lane) as usize;
     let second = second_place(layout, lane) as usize;
-    cells::any_tainted(taint, first, layout.first)
-        | cells::any_tainted(taint, second, layout.second)
+    cell_reads::any_tainted(taint, first, layout.first)
+        | cell_reads::any_tainted(taint, second, layout.second)
 }

@@ -6,15 +6,16 @@ use Prim.Native.Nat.{ℕ, _+_, _≤_, _<_}
 use native.Mathlib.Omega.{arith}
 use lib.ListN.{length, take, drop}
 use lib.Dec.{ltb, eqb}
-use borrow.Author.Tests.{lt-ltb, le-ltb, eq-eqb, ne-eqb, eqb-true, eqb-false, leb-true, leb-false}
+use borrow.Author.Tests.{le-ltb, ltb-true, ltb-false, eq-eqb, ne-eqb, eqb-true, eqb-false, leb-true, leb-false}
 use Rattle.little_endian.specs.LittleEndian.{Bytes}
 use Rattle.little_endian.proofs.Parts.{bytes-before}
 use Rattle.hex.specs.Storing.{fits, stored}
 use Rattle.formats.specs.Format.{through}
 use Rattle.formats.specs.Writing.{wrote, written}
+use Rattle.formats.proofs.Tests.{cond-then}
 use Rattle.formats.proofs.WritingLaws.{wrote-text}
 use Rattle.part_writers.proofs.WholeLaws.{whole-text, whole-not}
-use Rattle.reader.specs.Reply.{refused, done}
+use Rattle.reader.specs.Reply.{Reply, refused, done, onReply}
 use Rattle.decoder.specs.declared.Instruction.{Instruction}
 use Rattle.decoder.specs.Format.{instructionBytes, instructionRefusal}
 use Rattle.decoder.proofs.FormatLaws.{instruction-at-most}
@@ -64,7 +65,7 @@ line-good : (i : Instruction) → line .good i ≡ lineFits i
 unfolding line through
 line-good i = refl
 
-pub line-there : (i : Instruction) (l : List ℕ) (e : ℕ) (m : List ℕ) → lineFits i ≡ true → length l ≡ 128 → wrote e m ≡ written l 0 (line .print i) → (e ≡ length (lineOf i)) × (take e m ≡ lineOf i)
+pub line-there : (i : Instruction) (l : List ℕ) (e : ℕ) (m : List ℕ) → lineFits i ≡ true → 128 ≤ length l → wrote e m ≡ written l 0 (line .print i) → (e ≡ length (lineOf i)) × (take e m ≡ lineOf i)
 line-there i l e m h n p =
     let t : line .print i ≡ lineOf i = line-prints i h in
     let r = wrote-text l (line .print i) e m (omega (arith, line-short .most i (line-good i ∙ h), n)) p in
@@ -79,16 +80,22 @@ refused-printed i l n e z =
     rw (bad, e) (refl, refl)
 
 module _ (i : Instruction) (g : instructionRefusal i ≡ 0) (l t m : List ℕ) (e : ℕ) (n : e ≡ length (lineOf i)) (p : t ≡ lineOf i) (b : Bool) (f : b ≡ fits t 0 l) (s : m ≡ stored t 0 l) where
+  -- the answer `a` to a call that leaves the buffer `m`, where printing answers `r`
+  abbrev Meets : Reply ℕ → Reply ℕ → Type 0
+  Meets a r = (a ≡ r) × (m ≡ onReply r (λ _. l) (λ k. lineOf i ++ drop k l))
+
   pub line-printed : b ≡ true → (done e ≡ printedIn (length l) i) × (m ≡ printedInto l i)
   unfolding printedIn printedInto fits
   line-printed y =
       let h : length t ≤ length l = omega (arith, leb-true (0 + length t) (length l) (sym f ∙ y)) in
       let k : length (lineOf i) ≤ length l = omega (arith, h, ap length p) in
-      rw (eq-eqb (instructionRefusal i) 0 g, le-ltb (length l) (length (lineOf i)) k) (ap done n, s ∙ whole-text t l h ∙ ap (λ (x : List ℕ). x ++ drop (length x) l) p)
+      rw (eq-eqb (instructionRefusal i) 0 g)
+      (cond-then (Meets (done e)) (ltb (length l) _) (λ short. absurd (omega (arith, ltb-true (length l) _ short, k))) (λ _. (ap done n, s ∙ whole-text t l h ∙ ap (λ (x : List ℕ). x ++ drop (length x) l) p)))
 
   pub line-too-long : b ≡ false → (refused 15 ≡ printedIn (length l) i) × (m ≡ printedInto l i)
   unfolding printedIn printedInto fits
   line-too-long y =
       let h : length l < length t = omega (arith, leb-false (0 + length t) (length l) (sym f ∙ y)) in
       let k : length l < length (lineOf i) = omega (arith, h, ap length p) in
-      rw (eq-eqb (instructionRefusal i) 0 g, lt-ltb (length l) (length (lineOf i)) k) (refl, s ∙ sym (whole-not t l h .1))
+      rw (eq-eqb (instructionRefusal i) 0 g)
+      (cond-then (Meets (refused 15)) (ltb (length l) _) (λ _. (refl, s ∙ sym (whole-not t l h .1))) (λ long. absurd (omega (arith, ltb-false (length l) _ long, k))))

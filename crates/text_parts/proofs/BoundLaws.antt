@@ -18,7 +18,7 @@ use Rattle.formats.proofs.AnswerLaws.{told-good, word-under, number-between}
 use Rattle.text_parts.specs.Predicate.{openings, ending}
 use Rattle.text_parts.specs.Exec.{maskEndings, sizes, scatterSizes, mask}
 use Rattle.text_parts.specs.Fields.{decimal}
-use Rattle.text_parts.specs.Immediate.{typeOf}
+use Rattle.text_parts.specs.Immediate.{typeBehind}
 use Rattle.text_parts.proofs.PredicateLaws.{bracket, ending-lawful, ending-under}
 use Rattle.text_parts.proofs.ExecLaws.{mask-lawful, mask-under}
 use Rattle.text_parts.proofs.FieldLaws.{decimal-lawful, decimal-between}
@@ -60,5 +60,5 @@ module _ (s : List ℕ) (at : ℕ) (r : NumberRead) (n : ℕ) (c : Cursor) where
   pub offset-bound : told r ≡ number 10 0 65535 .read s at → r ≡ read.Got n c → n ≤ 65535
   offset-bound e g = number-between 10 0 65535 (omega arith) (omega arith) (omega arith) (omega arith) s at r n c e g .1
 
-  pub type-bound : (m : ℕ) → told r ≡ typeOf m .read s at → r ≡ read.Got n c → n < 8
+  pub type-bound : (m : ℕ) → told r ≡ typeBehind m .read s at → r ≡ read.Got n c → n < 8
   type-bound m e g = type-under m n (told-good (type-lawful m) s at r n c e g) .0

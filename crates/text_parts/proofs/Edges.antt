@@ -6,17 +6,18 @@ use Rattle.hex.specs.Digits.{isDecimal, isLetter, characterOf}
 use Rattle.formats.specs.Text.{text}
 use Rattle.formats.specs.Format.{Out, got, stop, Format, pair, through, blank}
 use Rattle.formats.specs.Words.{words, wordAt, oneOf, before, after}
-use Rattle.formats.specs.Numbers.{digits, number}
+use Rattle.formats.specs.Numerals.{digits}
+use Rattle.formats.specs.Numbers.{number}
 use Rattle.formats.specs.Whole.{whole}
 use Rattle.formats.specs.mirror.Scan.{common, better, scan, chosen, wordIn}
 use Rattle.formats.specs.mirror.Digits.{valueOf, goesOn, moreDigits, begins, numberIn}
 use Rattle.field_groups.specs.declared.Raw.{Raw}
 use Rattle.field_groups.specs.declared.Immediate.{Immediate}
 use Rattle.text_parts.specs.Predicate.{ending, idAndEnding, predicate}
-use Rattle.text_parts.specs.Exec.{maskParts, mask, execOf, exec, scatterExec}
+use Rattle.text_parts.specs.Exec.{maskParts, mask, execFrom, exec, scatterExec}
 use Rattle.text_parts.specs.Fields.{decimal, hexadecimal}
 use Rattle.text_parts.specs.Raw.{rawParts, raw}
-use Rattle.text_parts.specs.Immediate.{typeOf, codeAt, immediateParts, immediate}
+use Rattle.text_parts.specs.Immediate.{typeBehind, codeAt, immediateParts, immediate}
 
 -- ---- the predicate
 
@@ -40,16 +41,16 @@ predicate-texts = (refl, refl, refl)
 -- ---- the exec byte
 
 unfoldable exec-at : Format ℕ → String → Out ℕ
-unfolding whole pair through before words oneOf wordIn scan better chosen common number numberIn begins goesOn moreDigits valueOf isDecimal isLetter maskParts mask execOf exec scatterExec
+unfolding whole pair through before words oneOf wordIn scan better chosen common number numberIn begins goesOn moreDigits valueOf isDecimal isLetter maskParts mask execFrom exec scatterExec
 exec-at f t = whole f (text t)
 
 execs : (exec-at exec "(M1,8) " ≡ got 3 7) × (exec-at exec "(M2_NM,16) " ≡ got 148 11) × (exec-at exec "(M8,32) " ≡ got 117 8) × (exec-at scatterExec "(M8_NM,16) " ≡ got 244 11)
-unfolding exec-at exec scatterExec execOf mask maskParts pair through before oneOf wordIn number
+unfolding exec-at exec scatterExec execFrom mask maskParts pair through before oneOf wordIn number
 execs = (refl, refl, refl, refl)
 
 -- 3 goes on as 32, and a scatter's 1 as 16
 no-execs : (exec-at exec "(M1,3) " ≡ stop 5) × (exec-at exec "(M1,16" ≡ stop 6) × (exec-at exec "(M1,64) " ≡ stop 4) × (exec-at exec "(M0,8) " ≡ stop 2) × (exec-at exec "(M9,8) " ≡ stop 2) × (exec-at scatterExec "(M1,1) " ≡ stop 5) × (exec-at scatterExec "(M1,4) " ≡ stop 4)
-unfolding exec-at exec scatterExec execOf mask maskParts pair through before oneOf wordIn number
+unfolding exec-at exec scatterExec execFrom mask maskParts pair through before oneOf wordIn number
 no-execs = (refl, refl, refl, refl, refl, refl, refl)
 
 -- ---- numbers, raw operands and immediates
@@ -71,7 +72,7 @@ unfolding raw-at
 raws = (refl, refl, refl, refl, refl)
 
 unfoldable immediate-at : String → Out Immediate
-unfolding whole pair through before after words oneOf wordIn scan better chosen common number numberIn begins goesOn moreDigits valueOf isDecimal isLetter typeOf codeAt immediateParts immediate
+unfolding whole pair through before after words oneOf wordIn scan better chosen common number numberIn begins goesOn moreDigits valueOf isDecimal isLetter typeBehind codeAt immediateParts immediate
 immediate-at t = whole immediate (text t)
 
 immediates : (immediate-at "20001:uw" ≡ got (record { code = 2; low = 131073; high = 0 }) 8) × (immediate-at "200000001:uq" ≡ got (record { code = 11; low = 1; high = 2 }) 12) × (immediate-at "0:f" ≡ got (record { code = 7; low = 0; high = 0 }) 3)

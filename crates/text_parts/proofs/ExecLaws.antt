@@ -21,7 +21,7 @@ use Rattle.formats.proofs.TableTests.{sound, opens, single, size, table-under}
 use Rattle.formats.proofs.WordLaws.{table-lawful, begins-table}
 use Rattle.formats.proofs.AroundLaws.{before-lawful}
 use Rattle.formats.proofs.NumberLaws.{number-lawful, number-under}
-use Rattle.text_parts.specs.Exec.{maskEndings, sizes, scatterSizes, maskParts, mask, execOf, execFits, exec, scatterExecFits, scatterExec}
+use Rattle.text_parts.specs.Exec.{maskEndings, sizes, scatterSizes, maskParts, mask, execFrom, execFits, exec, scatterExecFits, scatterExec}
 use Rattle.text_parts.proofs.PartLaws.{in-table, in-range}
 use Rattle.text_parts.proofs.GoodLaws.{exec-good-is, scatter-exec-good-is}
 
@@ -113,7 +113,7 @@ unfolding size
 exec-matches = size-matches sizes 0 6 execFits refl (omega arith) exec-told exec-good
 
 pub exec-lawful : Lawful exec free
-unfolding exec execOf sound
+unfolding exec execFrom sound
 exec-lawful = through-lawful (pair-lawful mask-lawful (λ _. table-lawful sizes free refl) follows-free) exec-matches
 
 -- ---- a scatter's
@@ -154,5 +154,5 @@ unfolding size
 scatter-exec-matches = size-matches scatterSizes 3 2 scatterExecFits refl (omega arith) scatter-told scatter-good
 
 pub scatter-exec-lawful : Lawful scatterExec free
-unfolding scatterExec execOf sound
+unfolding scatterExec execFrom sound
 scatter-exec-lawful = through-lawful (pair-lawful mask-lawful (λ _. table-lawful scatterSizes free refl) follows-free) scatter-exec-matches

@@ -21,38 +21,38 @@ use Rattle.formats.proofs.WordLaws.{table-lawful, begins-table}
 use Rattle.formats.proofs.NumberLaws.{number-lawful, number-under}
 use Rattle.element_types.specs.Types.{sizeOf, isListed, hasHighWord}
 use Rattle.field_groups.specs.declared.Immediate.{Immediate}
-use Rattle.text_parts.specs.Immediate.{types, wideTypes, typeOf, codeAt, placeOf, immediateTo, immediateFrom, immediateParts, immediateFits, immediate}
+use Rattle.text_parts.specs.Immediate.{types, wideTypes, typeBehind, codeAt, placeOf, immediateTo, immediateFrom, immediateParts, immediateFits, immediate}
 use Rattle.text_parts.proofs.PartLaws.{in-table, in-range}
 
 -- ---- the type behind the number
 
-pub type-lawful : (n : ℕ) → Lawful (typeOf n) free
-unfolding typeOf sound
+pub type-lawful : (n : ℕ) → Lawful (typeBehind n) free
+unfolding typeBehind sound
 type-lawful n = cond-lawful (ltb n 4294967296) (table-lawful types free refl) (table-lawful wideTypes free refl)
 
 -- the words that the code gives
-pub type-narrow : (n : ℕ) (s : List ℕ) (at : ℕ) → n < 4294967296 → table types .read s at ≡ typeOf n .read s at
-unfolding typeOf
+pub type-narrow : (n : ℕ) (s : List ℕ) (at : ℕ) → n < 4294967296 → table types .read s at ≡ typeBehind n .read s at
+unfolding typeBehind
 type-narrow n s at h = rw (lt-ltb n 4294967296 h)
 
-pub type-wide : (n : ℕ) (s : List ℕ) (at : ℕ) → 4294967296 ≤ n → table wideTypes .read s at ≡ typeOf n .read s at
-unfolding typeOf
+pub type-wide : (n : ℕ) (s : List ℕ) (at : ℕ) → 4294967296 ≤ n → table wideTypes .read s at ≡ typeBehind n .read s at
+unfolding typeBehind
 type-wide n s at h = rw (le-ltb n 4294967296 h)
 
-type-begins : (n : ℕ) → Begins (isDigit 16) (typeOf n)
-unfolding typeOf opens isDigit valueOf isDecimal isLetter
+type-begins : (n : ℕ) → Begins (isDigit 16) (typeBehind n)
+unfolding typeBehind opens isDigit valueOf isDecimal isLetter
 type-begins n = begins-cond (ltb n 4294967296) (begins-table types (isDigit 16) refl) (begins-table wideTypes (isDigit 16) refl)
 
-pub type-under : (n k : ℕ) → typeOf n .good k ≡ true → (k < 8) × (4294967296 ≤ n → k ≡ 0)
-unfolding typeOf size
+pub type-under : (n k : ℕ) → typeBehind n .good k ≡ true → (k < 8) × (4294967296 ≤ n → k ≡ 0)
+unfolding typeBehind size
 type-under n k = told (ltb n 4294967296) refl
   where
     told : (b : Bool) → ltb n 4294967296 ≡ b → cond b (table types) (table wideTypes) .good k ≡ true → (k < 8) × (4294967296 ≤ n → k ≡ 0)
     told true e h = (table-under types k h, λ g. absurd (omega (arith, g, ltb-true n 4294967296 e)))
     told false e h = let g : k < 1 = table-under wideTypes k h in (omega (arith, g), λ _. omega (arith, g))
 
-type-fits : (n k : ℕ) → k < 8 → (4294967296 ≤ n → k ≡ 0) → typeOf n .good k ≡ true
-unfolding typeOf size
+type-fits : (n k : ℕ) → k < 8 → (4294967296 ≤ n → k ≡ 0) → typeBehind n .good k ≡ true
+unfolding typeBehind size
 type-fits n k h g = told (ltb n 4294967296) refl
   where
     told : (b : Bool) → ltb n 4294967296 ≡ b → cond b (table types) (table wideTypes) .good k ≡ true
@@ -209,7 +209,7 @@ pub immediate-matches : Matches immediateTo immediateFrom immediateFits immediat
 unfolding immediateParts pair
 immediate-matches =
     record {
-      into = λ v h. into (v .0) (v .1) (number-under 16 0 18446744073709551615 (v .0) (both-left (number 16 0 18446744073709551615 .good (v .0)) (typeOf (v .0) .good (v .1)) h) .1) (type-under (v .0) (v .1) (both-right (number 16 0 18446744073709551615 .good (v .0)) (typeOf (v .0) .good (v .1)) h));
+      into = λ v h. into (v .0) (v .1) (number-under 16 0 18446744073709551615 (v .0) (both-left (number 16 0 18446744073709551615 .good (v .0)) (typeBehind (v .0) .good (v .1)) h) .1) (type-under (v .0) (v .1) (both-right (number 16 0 18446744073709551615 .good (v .0)) (typeBehind (v .0) .good (v .1)) h));
       out = λ i h. out i (fits-tells i h);
     }
   where
@@ -219,13 +219,13 @@ immediate-matches =
         let x : n / 4294967296 * 4294967296 + n % 4294967296 ≡ n = omega arith in
         (fits-made (codeAt k) (n % 4294967296) (n / 4294967296) (c .1) (omega arith) (omega arith) (high-fits n k (t .1)), λ j. (x j, c .0 j))
 
-    out : (i : Immediate) → Fits i → ((number 16 0 18446744073709551615 .good (i .high * 4294967296 + i .low) && typeOf (i .high * 4294967296 + i .low) .good (placeOf (i .code))) ≡ true) × (immediateTo (immediateFrom i) ≡ i)
+    out : (i : Immediate) → Fits i → ((number 16 0 18446744073709551615 .good (i .high * 4294967296 + i .low) && typeBehind (i .high * 4294967296 + i .low) .good (placeOf (i .code))) ≡ true) × (immediateTo (immediateFrom i) ≡ i)
     out i f =
         let n = i .high * 4294967296 + i .low in
         let p = place-of (i .code) (listed-code (i .code) (f .listed)) in
         let x : (i .high * 4294967296 + i .low) % 4294967296 ≡ i .low = omega (arith, f .low) in
         let y : (i .high * 4294967296 + i .low) / 4294967296 ≡ i .high = omega (arith, f .low) in (
-          both (number 16 0 18446744073709551615 .good n) (typeOf n .good (placeOf (i .code))) (in-range 16 0 18446744073709551615 n (omega arith) (omega (arith, f .low, f .high)))
+          both (number 16 0 18446744073709551615 .good n) (typeBehind n .good (placeOf (i .code))) (in-range 16 0 18446744073709551615 n (omega arith) (omega (arith, f .low, f .high)))
               (type-fits n (placeOf (i .code)) (p .1) (place-alone (i .code) (i .high) (i .low) (f .lacking) (f .low))),
           λ j. record { code = p .0 j; low = x j; high = y j },
         )

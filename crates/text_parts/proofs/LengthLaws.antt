@@ -8,10 +8,10 @@ use Rattle.formats.specs.Text.{text}
 use Rattle.formats.proofs.TableTests.{single}
 use Rattle.formats.proofs.ShortLaws.{Short, short-pair, short-through, short-blank, short-cond, narrow, short-table, short-number, short-before, short-after}
 use Rattle.text_parts.specs.Predicate.{zeros, openings, endings, groupEndings, ending, idAndEnding, predicate}
-use Rattle.text_parts.specs.Exec.{maskEndings, sizes, scatterSizes, maskParts, mask, execOf, exec, scatterExec}
+use Rattle.text_parts.specs.Exec.{maskEndings, sizes, scatterSizes, maskParts, mask, execFrom, exec, scatterExec}
 use Rattle.text_parts.specs.Fields.{decimal}
 use Rattle.text_parts.specs.Raw.{rawParts, raw}
-use Rattle.text_parts.specs.Immediate.{types, wideTypes, typeOf, immediateParts, immediate}
+use Rattle.text_parts.specs.Immediate.{types, wideTypes, typeBehind, immediateParts, immediate}
 use Rattle.text_parts.proofs.PredicateLaws.{predicate-matches}
 use Rattle.text_parts.proofs.ExecLaws.{mask-matches, exec-matches, scatter-exec-matches}
 use Rattle.text_parts.proofs.RawLaws.{raw-matches}
@@ -38,11 +38,11 @@ unfolding mask maskParts narrow single
 mask-short = short-through (short-before (text "(M|") 2 refl refl (short-pair {n = 1} {m = 4} (short-number 10 1 8 0 (omega arith) refl) (λ _. short-table maskEndings 4 refl))) mask-matches
 
 pub exec-short : Short exec 11
-unfolding exec execOf narrow
+unfolding exec execFrom narrow
 exec-short = short-through (short-pair {n = 7} {m = 4} mask-short (λ _. short-table sizes 4 refl)) exec-matches
 
 pub scatter-exec-short : Short scatterExec 11
-unfolding scatterExec execOf narrow
+unfolding scatterExec execFrom narrow
 scatter-exec-short = short-through (short-pair {n = 7} {m = 4} mask-short (λ _. short-table scatterSizes 4 refl)) scatter-exec-matches
 
 -- ---- a raw operand: `v65535.65535`
@@ -56,8 +56,8 @@ raw-short =
 
 -- ---- an immediate behind `0x`: `ffffffffffffffff:uq`
 
-type-short : (n : ℕ) → Short (typeOf n) 3
-unfolding typeOf narrow
+type-short : (n : ℕ) → Short (typeBehind n) 3
+unfolding typeBehind narrow
 type-short n = short-cond (ltb n 4294967296) (short-table types 3 refl) (short-table wideTypes 3 refl)
 
 pub immediate-short : Short immediate 19

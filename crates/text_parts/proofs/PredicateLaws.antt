@@ -21,10 +21,10 @@ use Rattle.text_parts.specs.Predicate.{zeros, nothing, openings, endings
 use Rattle.text_parts.proofs.PartLaws.{in-table, in-range}
 use Rattle.text_parts.proofs.GoodLaws.{predicate-good-is}
 
-both-zero : (v : ℕ × ℕ) → zeros v ≡ true → v ≡ (0, 0)
+pub both-zero : (v : ℕ × ℕ) → zeros v ≡ true → v ≡ (0, 0)
 both-zero v h = λ i. (eqb-true (v .0) 0 (both-left (eqb (v .0) 0) (eqb (v .1) 0) h) i, eqb-true (v .1) 0 (both-right (eqb (v .0) 0) (eqb (v .1) 0) h) i)
 
-nothing-lawful : (m : ℕ → Bool) → Lawful nothing m
+pub nothing-lawful : (m : ℕ → Bool) → Lawful nothing m
 nothing-lawful m = blank-lawful (0, 0) zeros m refl both-zero
 
 -- no line goes on with a bracket behind its predicate

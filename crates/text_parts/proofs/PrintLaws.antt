@@ -12,7 +12,8 @@ use Rattle.hex.specs.Digits.{characterOf}
 use Rattle.formats.specs.Text.{text}
 use Rattle.formats.specs.Format.{pair, through, blank}
 use Rattle.formats.specs.Words.{words, wordAt, oneOf, table, before, after}
-use Rattle.formats.specs.Numbers.{digits, digitsOf, number}
+use Rattle.formats.specs.Numerals.{digits, digitsOf}
+use Rattle.formats.specs.Numbers.{number}
 use Rattle.channels.specs.Bits.{bit, bitField}
 use Rattle.channels.specs.Exec.{execSize, maskControl, maskNumber, noMask}
 use Rattle.channels.specs.Predicate.{hasPredicate, predicateId, predicateCombine, predicateInverse}
@@ -20,10 +21,10 @@ use Rattle.field_groups.specs.declared.Raw.{Raw}
 use Rattle.field_groups.specs.declared.Immediate.{Immediate}
 use Rattle.formats.proofs.Tests.{both-left, both-right}
 use Rattle.text_parts.specs.Predicate.{openings, endings, groupEndings, ending, idAndEnding, predicateFits, predicate}
-use Rattle.text_parts.specs.Exec.{maskEndings, sizes, scatterSizes, maskParts, mask, execOf, execFits, exec, scatterExecFits, scatterExec}
+use Rattle.text_parts.specs.Exec.{maskEndings, sizes, scatterSizes, maskParts, mask, execFrom, execFits, exec, scatterExecFits, scatterExec}
 use Rattle.text_parts.specs.Fields.{decimal}
 use Rattle.text_parts.specs.Raw.{rawParts, raw}
-use Rattle.text_parts.specs.Immediate.{types, wideTypes, typeOf, placeOf, immediateParts, immediateFits, immediate}
+use Rattle.text_parts.specs.Immediate.{types, wideTypes, typeBehind, placeOf, immediateParts, immediateFits, immediate}
 use Rattle.text_parts.specs.Texts.{optional, predicateText, execText, rawText, typeText, immediateText}
 use Rattle.text_parts.proofs.PredicateLaws.{Word, word-tells}
 use Rattle.text_parts.proofs.ExecLaws.{exec-told, scatter-told}
@@ -85,13 +86,13 @@ with-size e h k =
     ∙ sym (exec-is e (e / 16) (2 ^ (e % 16)) (control-is e h) (size-is e (omega (arith, k))))
 
 pub exec-prints : (e : ℕ) → execFits e ≡ true → exec .print e ≡ execText e
-unfolding exec execOf through pair oneOf
+unfolding exec execFrom through pair oneOf
 exec-prints e h =
     let k = exec-told e h in
     ap (λ (n : ℕ). mask .print (e / 16) ++ wordAt (words sizes) n) (sub-zero (e % 16)) ∙ with-size e (k .0) (omega (arith, k .2))
 
 pub scatter-exec-prints : (e : ℕ) → scatterExecFits e ≡ true → scatterExec .print e ≡ execText e
-unfolding scatterExec execOf through pair oneOf
+unfolding scatterExec execFrom through pair oneOf
 scatter-exec-prints e h =
     let k = scatter-told e h in
     let n : 3 + (e % 16 - 3) ≡ e % 16 = omega (arith, k .1) in
@@ -121,8 +122,8 @@ type-text c (inr (inl e)) = ap (λ (x : ℕ). wordAt (words types) (placeOf x)) 
 type-text c (inr (inr e)) = ap (λ (x : ℕ). wordAt (words types) (placeOf x)) e ∙ ap (λ (x : ℕ). text ":" ++ typeText x) (sym e)
 
 -- uq is the first word of both tables
-type-print : (n k : ℕ) → (4294967296 ≤ n → k ≡ 0) → typeOf n .print k ≡ wordAt (words types) k
-unfolding typeOf oneOf words wordAt
+type-print : (n k : ℕ) → (4294967296 ≤ n → k ≡ 0) → typeBehind n .print k ≡ wordAt (words types) k
+unfolding typeBehind oneOf words wordAt
 type-print n k g = told (ltb n 4294967296) refl
   where
     told : (b : Bool) → ltb n 4294967296 ≡ b → cond b (table types) (table wideTypes) .print k ≡ wordAt (words types) k

@@ -26,19 +26,19 @@ unfoldable pub mask : Format ℕ
 mask = through (λ v. v .0 - 1 + 8 * v .1) (λ m. (m % 8 + 1, m / 8)) (λ m. ltb m 16) maskParts
 
 -- "bits 0-2 sizes 1, 2, 4, 8, 16, 32": those of a table whose first word is size code `first`
-unfoldable pub execOf : ℕ → List ℕ → (ℕ → Bool) → Format ℕ
-execOf first p fits = through (λ v. v .0 * 16 + (first + v .1)) (λ e. (e / 16, e % 16 - first)) fits (pair mask (λ _. table p))
+unfoldable pub execFrom : ℕ → List ℕ → (ℕ → Bool) → Format ℕ
+execFrom first p fits = through (λ v. v .0 * 16 + (first + v .1)) (λ e. (e / 16, e % 16 - first)) fits (pair mask (λ _. table p))
 
 -- a byte that the encoder takes
 unfoldable pub execFits : ℕ → Bool
 execFits e = ltb e 256 && execGood e
 
 unfoldable pub exec : Format ℕ
-exec = execOf 0 sizes execFits
+exec = execFrom 0 sizes execFits
 
 unfoldable pub scatterExecFits : ℕ → Bool
 scatterExecFits e = ltb e 256 && scatterExecGood e
 
 -- "scatter 8 and 16 only": codes 3 and 4
 unfoldable pub scatterExec : Format ℕ
-scatterExec = execOf 3 scatterSizes scatterExecFits
+scatterExec = execFrom 3 scatterSizes scatterExecFits

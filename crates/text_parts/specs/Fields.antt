@@ -1,4 +1,4 @@
--- Numbers that stand alone: in decimal or in hex behind `0x`, each with the word that ends it.
+-- Numbers in decimal, or in hex behind `0x`, each with the word that ends it.
 use Prim.Native.Nat.{ℕ}
 use mathlib.Core.List.{List}
 use Rattle.formats.specs.Text.{text}

@@ -17,8 +17,8 @@ types = text ":uq|:ud|:d|:uw|:w|:ub|:b|:f|"
 abbrev pub wideTypes : List ℕ
 wideTypes = text ":uq|"
 
-unfoldable pub typeOf : ℕ → Format ℕ
-typeOf n = cond (ltb n 4294967296) (table types) (table wideTypes)
+unfoldable pub typeBehind : ℕ → Format ℕ
+typeBehind n = cond (ltb n 4294967296) (table types) (table wideTypes)
 
 -- the code of a type's number in the table, and back
 unfoldable pub codeAt : ℕ → ℕ
@@ -34,7 +34,7 @@ abbrev pub immediateFrom : Immediate → ℕ × ℕ
 immediateFrom i = (i .high * 4294967296 + i .low, placeOf (i .code))
 
 unfoldable pub immediateParts : Format (ℕ × ℕ)
-immediateParts = pair (number 16 0 18446744073709551615) typeOf
+immediateParts = pair (number 16 0 18446744073709551615) typeBehind
 
 -- a listed type, both words ud, the high one 0 if the type lacks it
 unfoldable pub immediateFits : Immediate → Bool

@@ -1,10 +1,10 @@
--- The text of each part, as the pages write it. Nothing of reading is used here; proofs/PrintLaws.antt says that the formats print these texts.
+-- The text of each part, as document 02 and the pages write it. Nothing of reading is used here; proofs/PrintLaws.antt says that the formats print these texts.
 use Prim.Native.Nat.{ℕ, _+_, _*_}
 use mathlib.Core.List.{List, [], _++_}
 use mathlib.Core.Bool.{Bool, cond}
 use lib.Dec.{eqb}
 use Rattle.formats.specs.Text.{text}
-use Rattle.formats.specs.Numbers.{digitsOf}
+use Rattle.formats.specs.Numerals.{digitsOf}
 use Rattle.channels.specs.Exec.{execSize, maskNumber, noMask}
 use Rattle.channels.specs.Predicate.{hasPredicate, predicateId, predicateCombine, predicateInverse, ANY, ALL}
 use Rattle.element_types.specs.Types.{UD, D, UW, W, UB, B, F, UQ}

@@ -13,7 +13,7 @@ ghost use Rattle.text_parts.specs.Predicate.{ending, predicate};
 ghost use Rattle.text_parts.specs.Exec.{mask, exec, scatterExec};
 ghost use Rattle.text_parts.specs.Fields.{decimal, hexadecimal};
 ghost use Rattle.text_parts.specs.Raw.{raw};
-ghost use Rattle.text_parts.specs.Immediate.{typeOf, codeAt, immediate};
+ghost use Rattle.text_parts.specs.Immediate.{typeBehind, codeAt, immediate};
 ghost use Rattle.text_parts.specs.Told.{toldByte, toldWord, toldRaw, toldImmediate};
 
 pub enum ByteRead {
@@ -198,7 +198,7 @@ pub fn raw_at(text: &[u8], c: Cursor) -> RawRead
 }
 
 fn type_at(text: &[u8], c: Cursor, n: u64) -> NumberRead
-    ensures { λ r. ⌜ told r ≡ typeOf n .read (now (text .entry)) (c .at) ⌝ }
+    ensures { λ r. ⌜ told r ≡ typeBehind n .read (now (text .entry)) (c .at) ⌝ }
 {
     if n < 4294967296 {
         c.one_of(text, b":uq|:ud|:d|:uw|:w|:ub|:b|:f|")

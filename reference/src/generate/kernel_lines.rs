@@ -3,6 +3,7 @@
 use super::instructions::{bytes, faulty, good, longest};
 use super::random::Random;
 use crate::hex::push_hex;
+use crate::listed::LONGEST_KERNEL;
 
 /// What is special about a line, and the line.
 pub fn kernel_line(random: &mut Random) -> (&'static str, Vec<u8>) {
@@ -17,7 +18,8 @@ pub fn kernel_line(random: &mut Random) -> (&'static str, Vec<u8>) {
         70..=76 => ("a cut kernel", cut(random)),
         77..=84 => ("some bits changed", changed(random)),
         85..=87 => ("any bytes", any_bytes(random)),
-        88 => ("a long kernel", long(random)),
+        88 if random.chance(90) => return ("a long kernel", long(random)),
+        88 => return ("about the longest kernel", about_the_longest(random)),
         _ => return ("no hex", no_hex(random)),
     };
     (name, hex(&kernel))
@@ -69,15 +71,47 @@ fn any_bytes(random: &mut Random) -> Vec<u8> {
     kernel
 }
 
-/// As many bytes as a run may have, 4,096, or up to three times as many: a listing has no limit.
+/// About as many bytes as a run may have, 4,096, or three times as many: a listing has not a run's limit.
 fn long(random: &mut Random) -> Vec<u8> {
-    let length = random.pick(&[4_096, 4_097, 12_288]);
+    let length = random.pick(&[4_095, 4_096, 4_096, 4_097, 8_193, 12_288]);
+    let mut line = hex(&of_length(random, length));
+    if random.chance(10) {
+        spoil_the_end(random, &mut line);
+    }
+    line
+}
+
+/// As many bytes as a listing takes, some less or more, or a line that is bad for its last character.
+fn about_the_longest(random: &mut Random) -> Vec<u8> {
+    let longest = LONGEST_KERNEL;
+    let length = random.pick(&[longest - 1, longest, longest, longest + 1, 2 * longest]);
+    let mut line = hex(&of_length(random, length));
+    if random.chance(20) {
+        spoil_the_end(random, &mut line);
+    }
+    line
+}
+
+/// Good instructions, the last of them cut.
+fn of_length(random: &mut Random, length: usize) -> Vec<u8> {
     let mut kernel = Vec::new();
     while kernel.len() < length {
         kernel.extend(bytes(&good(random)));
     }
     kernel.truncate(length);
     kernel
+}
+
+/// Another last character, one more, or one less.
+fn spoil_the_end(random: &mut Random, line: &mut Vec<u8>) {
+    match random.below(3) {
+        0 => line.push(b'0'),
+        1 => line.extend(b" "),
+        _ => {
+            line.pop();
+            line.extend(b"G");
+        }
+    }
 }
 
 /// Odd length, upper case, and other characters.

@@ -1,4 +1,5 @@
-//! Texts for the reader: printed lines whole, cut, extended, and changed in a character, a number or a region.
+//! Texts for the reader: printed lines whole, cut, extended, and changed in a character, a number or a region; and texts
+//! that are longer than any line.
 
 use super::instructions::{good, longest};
 use super::random::Random;
@@ -15,7 +16,11 @@ pub const OTHERS: &[u8] =
 pub fn text(random: &mut Random) -> (&'static str, Vec<u8>) {
     let mut text = line(random);
     let name = match random.below(100) {
-        0..=14 => "a printed line",
+        0..=12 => "a printed line",
+        13..=14 => {
+            text = long(random, &text);
+            "a long text"
+        }
         15..=27 => {
             cut(random, &mut text);
             "a line cut"
@@ -295,4 +300,42 @@ fn splice(random: &mut Random, text: &mut Vec<u8>) {
 fn any_characters(random: &mut Random) -> Vec<u8> {
     let count = random.below(40);
     (0..count).map(|_| character(random, b"(SGrv")).collect()
+}
+
+/// Longer than any line, about the sizes that a program may read at once.
+fn long(random: &mut Random, line: &[u8]) -> Vec<u8> {
+    let sizes = [
+        109, 127, 128, 128, 129, 255, 256, 257, 512, 1_024, 4_095, 4_096, 4_097, 8_192,
+    ];
+    let size = random.pick(&sizes);
+    let much = much(random, line, size);
+    // With these the line has the size.
+    let rest = &much[line.len().min(size)..];
+    match random.below(7) {
+        0 => [line, &much].concat(),
+        1 => [line, rest].concat(),
+        2..=3 => [&much, line].concat(),
+        4 => [rest, line].concat(),
+        5 => grown(random, line, size),
+        _ => much,
+    }
+}
+
+/// So many characters, all the same or not.
+fn much(random: &mut Random, line: &[u8], size: usize) -> Vec<u8> {
+    match random.below(4) {
+        0 => vec![b' '; size],
+        1 => vec![0; size],
+        2 => vec![character(random, line); size],
+        _ => (0..size).map(|_| character(random, line)).collect(),
+    }
+}
+
+/// So many digits more in one of a line's numbers.
+fn grown(random: &mut Random, line: &[u8], size: usize) -> Vec<u8> {
+    let is_digit = |at: &usize| line[*at].is_ascii_digit();
+    let digits: Vec<usize> = (0..line.len()).filter(is_digit).collect();
+    let at = random.pick(&digits);
+    let digit = random.pick(&[line[at], b'0', b'1']);
+    [&line[..at], &vec![digit; size], &line[at..]].concat()
 }

@@ -5,7 +5,7 @@ use reference::element_type::UW;
 use reference::encode::encoding;
 use reference::hex::push_hex;
 use reference::instruction::{Instruction, VectorOperand, GATHER, SVM};
-use reference::listed::listed;
+use reference::listed::{listed, LONGEST_KERNEL};
 use reference::programs::LineProgram;
 use reference::read::read;
 
@@ -21,6 +21,9 @@ pub fn listing(way: &str) -> LineProgram {
         "upper-case" => |line| listed(&line.to_ascii_lowercase()),
         "empty-kernel" => empty_kernel_as_a_line,
         "4096" => at_most_4096,
+        "no-limit" => without_a_limit,
+        "cut-at-65536" => |line| listed(&line[..line.len().min(2 * LONGEST_KERNEL)]),
+        "hex-later" => lists_before_it_judges,
         "silent" => |_| Vec::new(),
         "panic" => panics_where_refused,
         other => panic!("no way {other:?} of being wrong"),
@@ -44,6 +47,12 @@ pub fn assembler(way: &str) -> LineProgram {
         "three-fields" => |line| first_that_is_read(line, |text| text.replacen("<n;n,", "<", 1)),
         "upper-case" => |line| first_that_is_read(line, |text| text.replace("0xA", "0xa")),
         "scale-lost" => |line| read_as(line, |it| it.scale = 0),
+        "first-108" => |line| assembled(&line[..line.len().min(108)]),
+        "behind-128" => |line| assembled(&line[line.len() / 128 * 128..]),
+        "pieces-of-128" => |line| match line.len() > 128 {
+            true => line.chunks(128).flat_map(assembled).collect(),
+            false => assembled(line),
+        },
         "silent" => |_| Vec::new(),
         "panic" => panics_where_refused,
         other => panic!("no way {other:?} of being wrong"),
@@ -113,6 +122,32 @@ fn empty_kernel_as_a_line(line: &[u8]) -> Vec<String> {
 fn at_most_4096(line: &[u8]) -> Vec<String> {
     match line.len() > 2 * 4096 {
         true => vec!["! 13 0".to_string()],
+        false => listed(line),
+    }
+}
+
+/// A longer kernel as two, the second behind the first whole instructions of as much as is listed.
+fn without_a_limit(line: &[u8]) -> Vec<String> {
+    if line.len() <= 2 * LONGEST_KERNEL {
+        return listed(line);
+    }
+    let mut lines = listed(&line[..2 * LONGEST_KERNEL]);
+    lines.pop();
+    let listed_bytes: usize = lines.iter().map(|line| encoding_of(line).len() / 2).sum();
+    lines.extend(without_a_limit(&line[2 * listed_bytes..]));
+    lines
+}
+
+fn encoding_of(line: &str) -> String {
+    assembled(line.as_bytes()).concat()
+}
+
+/// What is hex at the line's start, and then 14.
+fn lists_before_it_judges(line: &[u8]) -> Vec<String> {
+    let is_hex = |c: &u8| matches!(c, b'0'..=b'9' | b'a'..=b'f');
+    let digits = line.iter().take_while(|c| is_hex(c)).count();
+    match digits < line.len() {
+        true => [listed(&line[..digits / 2 * 2]), listed(line)].concat(),
         false => listed(line),
     }
 }

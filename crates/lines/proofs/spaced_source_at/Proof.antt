@@ -1,4 +1,4 @@
--- `lines::spaced_source_at` meets its contract: at each return, what the calls and tests on the way say picks the case of `Bodies`.
+-- `lines::spaced_source_at` meets its contract: at each return, what the calls and tests on the way say picks the case of `after`.
 use borrow.Author.Needs.{needs}
 use Rattle.formats.specs.Format.{pair, through}
 use Rattle.formats.specs.Words.{after}
