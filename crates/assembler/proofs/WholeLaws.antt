@@ -1,7 +1,7 @@
 -- What has been put out, with what is to come, stays the same from step to step; at the start it is the whole output.
 use mathlib.Core.Path.{_≡_, refl, sym, ap, ap₂, _∙_, subst}
 use mathlib.Core.Bool.{Bool, false}
-use mathlib.Core.List.{List, [], _++_, append-assoc}
+use mathlib.Core.List.{List, [], _++_, append-assoc, append-nil}
 use Prim.Native.Nat.{ℕ, _+_, _-_, _≤_, _<_}
 use native.Mathlib.Omega.{arith}
 use lib.ListN.{length, take, drop, length-append}
@@ -124,3 +124,23 @@ module _ (block line₀ : List ℕ) (used₀ : ℕ) (long₀ : Bool) (line out :
             append-assoc (f .written) (take (r .out) out') (textOut rowAssembled (row line' (r .used) (r .long)) later)
             ∙ (ap (λ (x : List ℕ). f .written ++ x) (sym (done-assembled block line' out' later r h)) ∙ went later);
       }
+
+-- ---- block after block
+
+pub passes-then : (a b line₀ line₁ line₂ : List ℕ) (used₀ used₁ used₂ : ℕ) (long₀ long₁ long₂ : Bool) → Passes a line₀ used₀ long₀ line₁ used₁ long₁ → Passes b line₁ used₁ long₁ line₂ used₂ long₂ →
+    Passes (a ++ b) line₀ used₀ long₀ line₂ used₂ long₂
+passes-then a b line₀ line₁ line₂ used₀ used₁ used₂ long₀ long₁ long₂ p q =
+    record {
+      written = p .written ++ q .written;
+      same = λ later.
+          append-assoc (p .written) (q .written) (textOut rowAssembled (row line₂ used₂ long₂) later)
+          ∙ (ap (λ (x : List ℕ). p .written ++ x) (q .same later)
+          ∙ (p .same (b ++ later) ∙ ap (textOut rowAssembled (row line₀ used₀ long₀)) (sym (append-assoc a b later))));
+    }
+
+-- what was put out for a text in blocks, with what the line begun then gives if the text ends there, is the whole
+pub passes-assembled : (text line line' : List ℕ) (used' : ℕ) (long' : Bool) → length line ≡ 128 → (p : Passes text line 0 false line' used' long') →
+    p .written ++ textOut rowAssembled (row line' used' long') [] ≡ assemblerOutput text
+unfolding assemblerOutput
+passes-assembled text line line' used' long' h p =
+    p .same [] ∙ (ap (textOut rowAssembled (row line 0 false)) (append-nil text) ∙ text-lines rowAssembled assembledLine line (λ w l g. assembled-agree w l (rw h at g)) text)

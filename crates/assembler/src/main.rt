@@ -11,6 +11,7 @@ ghost use Rattle.formats.specs.Writing.{wrote, written};
 ghost use Rattle.assembler.specs.Assembling.{lineEnd, columnLine, assembledLine};
 ghost use Rattle.assembler.specs.mirror.Parts.{Goes, Passes};
 
+// The line of a refusal.
 fn put_column(out: &mut [u8], at: usize, column: u64) -> usize
     ensures { λ r. ⌜ wrote r (now (out .exit)) ≡ written (now (out .entry)) at (columnLine column) ⌝ }
 {
@@ -27,7 +28,7 @@ fn put_byte(out: &mut [u8], at: usize, byte: u8) -> usize
     formats::put_number(out, a, Base::Hexadecimal, (byte % 16) as u64)
 }
 
-// Nothing is written first, which gives the place, the buffer's end at most.
+// Bytes in hex. An empty word is written first, which gives the place, the buffer's end at most.
 fn put_bytes(out: &mut [u8], at: usize, bytes: &[u8]) -> usize
     ensures { λ r. ⌜ wrote r (now (out .exit)) ≡ written (now (out .entry)) at (hexOf (now (bytes .entry))) ⌝ }
 {
@@ -41,6 +42,7 @@ fn put_bytes(out: &mut [u8], at: usize, bytes: &[u8]) -> usize
     to
 }
 
+// Bytes in hex, with the line's end.
 fn put_encoding(out: &mut [u8], at: usize, bytes: &[u8]) -> usize
     ensures { λ r. ⌜ wrote r (now (out .exit)) ≡ written (now (out .entry)) at (hexOf (now (bytes .entry)) ++ lineEnd) ⌝ }
 {
@@ -70,8 +72,8 @@ struct State {
     place: usize,
 }
 
-// The characters of the block up to the line's end, and the line if it is whole. Of a line that was too long its start is taken: no text goes on as a
-// line so far, so that its column is the same.
+// The characters of the block up to the line's end, and the line if it is whole. Of a text that is too long for the buffer its start is taken, which is
+// refused at the same column (proofs/EncodedLaws.antt).
 fn next_line(block: &[u8], line: &mut [u8], out: &mut [u8], s: State) -> State
     requires { ⌜ s .out + 256 ≤ length (now out) ⌝ }
     requires { ⌜ s .place < length (now block) ⌝ }

@@ -207,3 +207,23 @@ module _ (block line₀ : List ℕ) (used₀ : ℕ) (long₀ : Bool) (line kerne
             append-assoc (f .written) (take (r .out) out') (textOut rowListed (row line' (r .used) (r .long)) later)
             ∙ (ap (λ (x : List ℕ). f .written ++ x) (sym (done-listed block line' kernel' out' later r (ltb-false (r .place) (length block) (k .1)) (ltb-false (r .at) (length (take (r .size) kernel')) (k .0)))) ∙ went later);
       }
+
+-- ---- block after block
+
+pub passes-then : (a b line₀ line₁ line₂ : List ℕ) (used₀ used₁ used₂ : ℕ) (long₀ long₁ long₂ : Bool) → Passes a line₀ used₀ long₀ line₁ used₁ long₁ → Passes b line₁ used₁ long₁ line₂ used₂ long₂ →
+    Passes (a ++ b) line₀ used₀ long₀ line₂ used₂ long₂
+passes-then a b line₀ line₁ line₂ used₀ used₁ used₂ long₀ long₁ long₂ p q =
+    record {
+      written = p .written ++ q .written;
+      same = λ later.
+          append-assoc (p .written) (q .written) (textOut rowListed (row line₂ used₂ long₂) later)
+          ∙ (ap (λ (x : List ℕ). p .written ++ x) (q .same later)
+          ∙ (p .same (b ++ later) ∙ ap (textOut rowListed (row line₀ used₀ long₀)) (sym (append-assoc a b later))));
+    }
+
+-- what was put out for a text in blocks, with what the line begun then gives if the text ends there, is the whole
+pub passes-listed : (text line line' : List ℕ) (used' : ℕ) (long' : Bool) → length line ≡ 131072 → (p : Passes text line 0 false line' used' long') →
+    p .written ++ textOut rowListed (row line' used' long') [] ≡ listingOutput text
+unfolding listingOutput
+passes-listed text line line' used' long' h p =
+    p .same [] ∙ (ap (textOut rowListed (row line 0 false)) (append-nil text) ∙ text-lines rowListed listed line (λ w l g. listed-agree w l (rw h at g)) text)

@@ -6,14 +6,15 @@ ghost use mathlib.Core.Path.{_≡_};
 ghost use mathlib.Core.Bool.{false, _||_};
 ghost use mathlib.Core.List.{_++_};
 ghost use Prim.Native.Nat.{_+_, _*_, _≤_, _<_};
+ghost use lib.Dec.{ltb};
 ghost use lib.ListN.{length, take};
 ghost use Rattle.formats.specs.Writing.{wrote, written};
 ghost use Rattle.lines.specs.Line.{line};
-ghost use lib.Dec.{ltb};
 ghost use Rattle.line_blocks.specs.mirror.Rows.{row};
 ghost use Rattle.listing.specs.Listing.{lineEnd, refusalLine, stepText, stepNext, listedFrom};
 ghost use Rattle.listing.specs.mirror.Parts.{isKernelIn, kernelIn, rowListed, Goes, Passes};
 
+// The line of a refusal.
 fn put_refusal(out: &mut [u8], at: usize, number: u64, position: u64) -> usize
     ensures { λ r. ⌜ wrote r (now (out .exit)) ≡ written (now (out .entry)) at (refusalLine number position) ⌝ }
 {
@@ -24,6 +25,7 @@ fn put_refusal(out: &mut [u8], at: usize, number: u64, position: u64) -> usize
     formats::put_word(out, d, b"\n|", 0)
 }
 
+// The line of an instruction, with its end.
 fn put_instruction(out: &mut [u8], at: usize, instruction: Instruction) -> usize
     ensures { λ r. ⌜ wrote r (now (out .exit)) ≡ written (now (out .entry)) at (line .print instruction ++ lineEnd) ⌝ }
 {
@@ -37,6 +39,7 @@ struct Step {
     next: usize,
 }
 
+// The line of the instruction at a position, or of its refusal, which ends the kernel.
 fn list_instruction(kernel: &[u8], at: usize, out: &mut [u8], used: usize) -> Step
     ensures { λ r. ⌜ (wrote (r .used) (now (out .exit)) ≡ written (now (out .entry)) used (stepText (now (kernel .entry)) at)) × ((r .next ≡ stepNext (now (kernel .entry)) at) × (length (stepText (now (kernel .entry)) at) ≤ 256)) ⌝ }
 {
@@ -99,7 +102,7 @@ struct State {
     place: usize,
 }
 
-// One more line of the kernel at hand, if there is one.
+// One more line of the kernel at hand.
 fn list_step(block: &[u8], line: &[u8], kernel: &[u8], out: &mut [u8], s: State) -> State
     requires { ⌜ s .out + 256 ≤ length (now out) ⌝ }
     requires { ⌜ s .at < length (take (s .size) (now kernel)) ⌝ }
