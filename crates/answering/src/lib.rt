@@ -77,8 +77,8 @@ fn run_case(
     };
     let variables = frames::met_of(2, case);
     run::run(
-        feeding::first_bytes(kernel, frames::length_of(7, case)),
-        feeding::first_bytes(types, variables),
+        line_blocks::first_bytes(kernel, frames::length_of(7, case)),
+        line_blocks::first_bytes(types, variables),
         feeding::first_words(starts, variables),
         feeding::first_words(counts, variables),
         feeding::first_dwords(predicate_values, frames::met_of(3, case)),
@@ -197,8 +197,8 @@ fn answer_good(
         counts,
         predicate_values,
         surface_lengths,
-        feeding::first_bytes(surface_bytes, frames::length_of(4, case)),
-        feeding::first_bytes(&of_surfaces, frames::taint_length(9, 4, case)),
+        line_blocks::first_bytes(surface_bytes, frames::length_of(4, case)),
+        line_blocks::first_bytes(&of_surfaces, frames::taint_length(9, 4, case)),
         &mut registers[..file],
         &mut of_registers[..file_taint],
         &mut memory[..window],

@@ -1,22 +1,20 @@
 -- What reading a text into a buffer that has room for every encoding says of the line that is put out.
 use mathlib.Core.Path.{_≡_, refl, sym, ap, _∙_, subst}
 use mathlib.Core.Bool.{Bool, true, false}
-use mathlib.Core.List.{List, [], _∷_, _++_}
-use Prim.Native.Nat.{ℕ, _+_, _*_, _≤_, _<_}
+use mathlib.Core.List.{List, _++_}
+use Prim.Native.Nat.{ℕ, _+_, _≤_, _<_}
 use native.Mathlib.Omega.{arith}
 use lib.Dec.{ltb, leb}
 use lib.ListN.{length, take, drop, length-append}
 use lib.Seq.{take-append-seam, take-all}
-use borrow.Author.Tests.{eq-eqb, le-ltb, le-leb, leb-true, leb-false}
+use borrow.Author.Tests.{eq-eqb, le-ltb, leb-true, leb-false}
 use Rattle.reader.specs.Reply.{done, onReply}
 use Rattle.hex.specs.Bytes.{hexOf}
 use Rattle.hex.proofs.ByteLaws.{length-written}
 use Rattle.formats.specs.Text.{text}
 use Rattle.formats.specs.Numerals.{digitsOf}
-use Rattle.formats.specs.Numbers.{number}
 use Rattle.formats.specs.Writing.{wrote, written}
-use Rattle.formats.proofs.Tests.{both}
-use Rattle.formats.proofs.ShortLaws.{short-number}
+use Rattle.formats.proofs.ShortLaws.{digits-most}
 use Rattle.decoder.specs.declared.Instruction.{Instruction}
 use Rattle.decoder.specs.Format.{instructionBytes, instructionRefusal}
 use Rattle.decoder.proofs.FormatLaws.{instruction-at-most}
@@ -28,10 +26,6 @@ use Rattle.text.specs.Assembling.{Assembly, wrote as isWrote, refused as isRefu
 use Rattle.assembler.specs.Assembling.{lineEnd, columnLine, assembledLine}
 
 -- ---- how long it is
-
-digits-most : (v : ℕ) → v < 18446744073709551616 → length (digitsOf 10 v) ≤ 20
-unfolding number
-digits-most v h = short-number 10 0 18446744073709551615 19 (omega arith) refl .most v (both (leb 0 v) (leb v 18446744073709551615) (le-leb 0 v (omega arith)) (le-leb v 18446744073709551615 (omega (arith, h))))
 
 column-short : (column : ℕ) → column < 18446744073709551616 → length (columnLine column) ≤ 256
 unfolding columnLine

@@ -1,13 +1,12 @@
 -- What has been put out, with what is to come, stays the same from step to step; at the start it is the whole output.
-use mathlib.Core.Path.{_≡_, refl, sym, ap, ap₂, _∙_, subst}
+use mathlib.Core.Path.{_≡_, refl, sym, ap, _∙_, subst}
 use mathlib.Core.Bool.{Bool, false}
 use mathlib.Core.List.{List, [], _++_, append-assoc, append-nil}
 use Prim.Native.Nat.{ℕ, _+_, _-_, _≤_, _<_}
 use native.Mathlib.Omega.{arith}
-use lib.ListN.{length, take, drop, length-append}
-use lib.Seq.{take-at, length-take-le}
+use lib.ListN.{length, take, drop}
 use Rattle.formats.specs.Writing.{wrote, written}
-use Rattle.formats.proofs.WritingLaws.{wrote-fits}
+use Rattle.formats.proofs.WritingLaws.{room-takes}
 use Rattle.line_blocks.specs.mirror.Rows.{Row, row, allPushed, lineLength}
 use Rattle.line_blocks.specs.mirror.TextOut.{cleared, textOut}
 use Rattle.line_blocks.proofs.RowLaws.{Begun, begun-text}
@@ -19,16 +18,6 @@ use Rattle.assembler.proofs.EncodedLaws.{start-assembled}
 
 abbrev pub state : ℕ → Bool → ℕ → ℕ → State
 state used long out place = record { used = used; long = long; out = out; place = place }
-
--- ---- where there is room
-
-room-takes : (l t : List ℕ) (at e : ℕ) (m : List ℕ) → at + length t ≤ length l → wrote e m ≡ written l at t → (take e m ≡ take at l ++ t) × (e ≤ length m)
-room-takes l t at e m h p =
-    let w = wrote-fits l at t e m h p in
-    let k : length (take at l) ≡ at = length-take-le at l (omega (arith, h)) in
-    let n : length (take at l ++ t) ≡ e = length-append (take at l) t ∙ omega (arith, k, w .0) in
-    let x : m ≡ (take at l ++ t) ++ drop (at + length t) l = w .1 in
-    (ap (take e) x ∙ take-at (take at l ++ t) (drop (at + length t) l) e n, rw x (omega (arith, n, length-append (take at l ++ t) (drop (at + length t) l))))
 
 -- ---- more of the block
 

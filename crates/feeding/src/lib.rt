@@ -26,12 +26,6 @@ pub fn start() -> State
 }
 
 // The first elements of a buffer; all of them if there are fewer.
-pub fn first_bytes(buffer: &[u8], count: usize) -> &[u8]
-    ensures { λ r. ⌜ now r ≡ take count (now (buffer .entry)) ⌝ }
-{
-    line_blocks::first_bytes(buffer, count)
-}
-
 pub fn first_words(buffer: &[u16], count: usize) -> &[u16]
     ensures { λ r. ⌜ now r ≡ take count (now (buffer .entry)) ⌝ }
 {
@@ -59,7 +53,7 @@ fn line_characters(line: &[u8], used: usize, long: bool) -> &[u8]
     if long {
         &line[..0]
     } else {
-        first_bytes(line, used)
+        line_blocks::first_bytes(line, used)
     }
 }
 

@@ -1,5 +1,5 @@
 -- Bounds on the length of a printed text, one for each way to make a format.
-use mathlib.Core.Path.{_≡_, ap, _∙_}
+use mathlib.Core.Path.{_≡_, refl, ap, _∙_}
 use mathlib.Core.List.{List, [], _∷_}
 use mathlib.Core.Bool.{Bool, true, false, cond, _&&_}
 use Prim.Native.Nat.{ℕ, zero, suc, _+_, _*_, _^_, _/_, _%_, _≤_, _<_}
@@ -7,13 +7,13 @@ use native.Mathlib.Omega.{arith}
 use native.Mathlib.Nat.{div-lt-iff-lt-mul, pow-zero, pow-suc}
 use lib.Dec.{ltb, leb}
 use lib.ListN.{length, length-append}
-use borrow.Author.Tests.{ltb-true, ltb-false, leb-true}
+use borrow.Author.Tests.{ltb-true, ltb-false, leb-true, le-leb}
 use Rattle.hex.specs.Digits.{characterOf}
 use Rattle.formats.specs.Format.{Format, pair, through, blank}
 use Rattle.formats.specs.Words.{words, wordAt, oneOf, table, before, after}
-use Rattle.formats.specs.Numerals.{digits}
+use Rattle.formats.specs.Numerals.{digits, digitsOf}
 use Rattle.formats.specs.Numbers.{number}
-use Rattle.formats.proofs.Tests.{both-left, both-right, cond-then}
+use Rattle.formats.proofs.Tests.{both, both-left, both-right, cond-then}
 use Rattle.formats.proofs.Following.{Matches}
 use Rattle.formats.proofs.AroundLaws.{matches-before, matches-after}
 use Rattle.formats.proofs.TableTests.{single}
@@ -92,3 +92,8 @@ short-before p n {f} e k q = short-through (short-pair (short-table p n k) (λ _
 pub short-after : {A : Type 0} (p : List ℕ) (n : ℕ) {f : Format A} {m : ℕ} → single p ≡ true → narrow n p ≡ true → Short f m → Short (after f p) (m + n)
 unfolding after
 short-after p n {f} e k q = short-through (short-pair q (λ _. short-table p n k)) (matches-after p f e)
+
+-- the decimal digits of a number of 64 bits
+pub digits-most : (v : ℕ) → v < 18446744073709551616 → length (digitsOf 10 v) ≤ 20
+unfolding number
+digits-most v h = short-number 10 0 18446744073709551615 19 (omega arith) refl .most v (both (leb 0 v) (leb v 18446744073709551615) (le-leb 0 v (omega arith)) (le-leb v 18446744073709551615 (omega (arith, h))))

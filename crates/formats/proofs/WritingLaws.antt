@@ -6,7 +6,7 @@ use Prim.Native.Nat.{ℕ, suc, _+_, _≤_, _<_}
 use native.Mathlib.Omega.{arith}
 use lib.Dec.{ltb}
 use lib.ListN.{length, set, take, drop, length-append}
-use lib.Seq.{set-out, take-at}
+use lib.Seq.{set-out, take-at, length-take-le}
 use borrow.Author.Tests.{ltb-true, ltb-false, le-ltb}
 use Rattle.hex.specs.Storing.{placed}
 use Rattle.hex.proofs.StoringLaws.{length-placed, placed-is}
@@ -148,3 +148,12 @@ wrote-text l t e m h p =
     let r = wrote-fits l 0 t e m (omega arith) p in
     let x : e ≡ length t = r .0 ∙ omega arith in
     (x, ap (take e) (r .1) ∙ take-at t (drop (0 + length t) l) e (sym x))
+
+-- what stands before the end: what stood before the place, and the text
+pub room-takes : (l t : List ℕ) (at e : ℕ) (m : List ℕ) → at + length t ≤ length l → wrote e m ≡ written l at t → (take e m ≡ take at l ++ t) × (e ≤ length m)
+room-takes l t at e m h p =
+    let w = wrote-fits l at t e m h p in
+    let k : length (take at l) ≡ at = length-take-le at l (omega (arith, h)) in
+    let n : length (take at l ++ t) ≡ e = length-append (take at l) t ∙ omega (arith, k, w .0) in
+    let x : m ≡ (take at l ++ t) ++ drop (at + length t) l = w .1 in
+    (ap (take e) x ∙ take-at (take at l ++ t) (drop (at + length t) l) e n, rw x (omega (arith, n, length-append (take at l ++ t) (drop (at + length t) l))))

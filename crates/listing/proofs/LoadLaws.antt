@@ -1,16 +1,16 @@
 -- The kernel that a line is, in its buffer.
 use mathlib.Core.Path.{_≡_, refl, sym, ap, _∙_}
 use mathlib.Core.Bool.{Bool, true, false, true≢false, not}
-use mathlib.Core.List.{List, [], _∷_, _++_}
-use Prim.Native.Nat.{ℕ, zero, suc, _+_, _*_, _/_, _≤_, _<_}
+use mathlib.Core.List.{List, [], _∷_}
+use Prim.Native.Nat.{ℕ, zero, suc, _+_, _*_, _≤_}
 use native.Mathlib.Omega.{arith}
 use lib.Dec.{ltb}
-use lib.ListN.{length, getD, take, drop}
+use lib.ListN.{length, take, drop}
 use lib.Seq.{take-append-seam}
 use borrow.Author.Tests.{eq-eqb, ne-eqb}
 use Rattle.little_endian.specs.LittleEndian.{Bytes}
 use Rattle.hex.specs.Bytes.{isHex, hexBytes}
-use Rattle.hex.specs.Storing.{placed, fits, stored}
+use Rattle.hex.specs.Storing.{stored}
 use Rattle.hex.proofs.ByteLaws.{length-hex}
 use Rattle.hex.proofs.StoringLaws.{fits-yes, placed-is}
 use Rattle.listing.specs.mirror.Parts.{isKernelIn, kernelIn}

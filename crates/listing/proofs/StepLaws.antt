@@ -1,12 +1,12 @@
 -- One line of a listing: how it is written, how long it is, and that it is the first of those to come.
-use mathlib.Core.Path.{_≡_, refl, sym, ap, ap₂, _∙_}
+use mathlib.Core.Path.{_≡_, refl, sym, ap, _∙_}
 use mathlib.Core.Bool.{Bool, true, false, cond}
-use mathlib.Core.List.{List, [], _∷_, _++_, append-nil}
+use mathlib.Core.List.{List, [], _∷_, _++_}
 use Prim.Native.Nat.{ℕ, zero, suc, _+_, _≤_, _<_}
 use native.Mathlib.Omega.{arith}
-use lib.Dec.{ltb, leb}
+use lib.Dec.{ltb}
 use lib.ListN.{length, length-append}
-use borrow.Author.Tests.{lt-ltb, le-ltb, le-leb, ltb-true, ltb-false}
+use borrow.Author.Tests.{lt-ltb, le-ltb, ltb-true}
 use Rattle.little_endian.specs.LittleEndian.{Bytes}
 use Rattle.reader.specs.Reply.{Reply, refused, done, Read, got, onReply}
 use Rattle.formats.specs.Text.{text}
@@ -14,9 +14,8 @@ use Rattle.formats.specs.Words.{words, wordAt}
 use Rattle.formats.specs.Numerals.{digitsOf}
 use Rattle.formats.specs.Numbers.{number}
 use Rattle.formats.specs.Writing.{wrote, written}
-use Rattle.formats.proofs.Tests.{both}
-use Rattle.formats.proofs.ShortLaws.{short-number}
-use Rattle.formats.proofs.WritingLaws.{wrote-two, wrote-then}
+use Rattle.formats.proofs.ShortLaws.{digits-most}
+use Rattle.formats.proofs.WritingLaws.{wrote-then}
 use Rattle.decoder.specs.declared.Instruction.{Instruction}
 use Rattle.decoder.specs.Decoding.{instructionAt}
 use Rattle.decoder.proofs.Laws.{accepted-within}
@@ -44,10 +43,6 @@ unfolding words wordAt
 line-written l m n t at e d p q = wrote-then l at t lineEnd e m d n p q
 
 -- ---- how long it is
-
-digits-most : (v : ℕ) → v < 18446744073709551616 → length (digitsOf 10 v) ≤ 20
-unfolding number
-digits-most v h = short-number 10 0 18446744073709551615 19 (omega arith) refl .most v (both (leb 0 v) (leb v 18446744073709551615) (le-leb 0 v (omega arith)) (le-leb v 18446744073709551615 (omega (arith, h))))
 
 pub refusal-short : (number position : ℕ) → number < 18446744073709551616 → position < 18446744073709551616 → length (refusalLine number position) ≤ 256
 unfolding refusalLine

@@ -2,17 +2,16 @@
 use mathlib.Core.Path.{_≡_, refl, sym, ap, ap₂, _∙_, subst}
 use mathlib.Core.Bool.{Bool, true, false, true≢false, cond, not, _||_}
 use mathlib.Core.Logic.{⊎-elim}
-use mathlib.Core.List.{List, [], _∷_, _++_, append-assoc, append-nil}
-use Prim.Native.Nat.{ℕ, _+_, _-_, _*_, _≤_, _<_}
+use mathlib.Core.List.{List, [], _++_, append-assoc, append-nil}
+use Prim.Native.Nat.{ℕ, _+_, _-_, _≤_, _<_}
 use native.Mathlib.Omega.{arith}
 use lib.Dec.{ltb}
-use lib.ListN.{length, take, drop, length-append}
-use lib.Seq.{take-at, length-take-le}
+use lib.ListN.{length, take, drop}
 use borrow.Author.Tests.{le-leb, lt-leb, ltb-false}
 use Rattle.little_endian.specs.LittleEndian.{Bytes}
-use Rattle.hex.specs.Bytes.{isHex, hexBytes}
+use Rattle.hex.specs.Bytes.{hexBytes}
 use Rattle.formats.specs.Writing.{wrote, written}
-use Rattle.formats.proofs.WritingLaws.{wrote-fits}
+use Rattle.formats.proofs.WritingLaws.{room-takes}
 use Rattle.line_blocks.specs.mirror.Rows.{Row, row, allPushed, lineLength}
 use Rattle.line_blocks.specs.mirror.TextOut.{cleared, textOut}
 use Rattle.line_blocks.proofs.RowLaws.{Begun}
@@ -25,16 +24,6 @@ use Rattle.listing.proofs.LoadLaws.{Loads, not-so, take-bytes}
 
 abbrev pub state : ℕ → Bool → ℕ → ℕ → ℕ → ℕ → State
 state used long size at out place = record { used = used; long = long; size = size; at = at; out = out; place = place }
-
--- ---- where there is room
-
-room-takes : (l t : List ℕ) (at e : ℕ) (m : List ℕ) → at + length t ≤ length l → wrote e m ≡ written l at t → (take e m ≡ take at l ++ t) × (e ≤ length m)
-room-takes l t at e m h p =
-    let w = wrote-fits l at t e m h p in
-    let k : length (take at l) ≡ at = length-take-le at l (omega (arith, h)) in
-    let n : length (take at l ++ t) ≡ e = length-append (take at l) t ∙ omega (arith, k, w .0) in
-    let x : m ≡ (take at l ++ t) ++ drop (at + length t) l = w .1 in
-    (ap (take e) x ∙ take-at (take at l ++ t) (drop (at + length t) l) e n, rw x (omega (arith, n, length-append (take at l ++ t) (drop (at + length t) l))))
 
 -- ---- a line of the kernel at hand
 
