@@ -24,18 +24,18 @@ use Rattle.decoder.specs.declared.Scatter.{Scatter}
 use Rattle.decoder.specs.declared.RawSend.{RawSend}
 use Rattle.decoder.specs.declared.Instruction.{Instruction}
 use Rattle.decoder.specs.declared.Instruction.the-variants as instruction
-use Rattle.text_parts.specs.Predicate.{zeros, predicate}
-use Rattle.text_parts.specs.Exec.{exec, scatterExec}
-use Rattle.text_parts.specs.Fields.{decimal, hexadecimal}
-use Rattle.text_parts.specs.Raw.{raw}
-use Rattle.text_parts.specs.Immediate.{immediate}
-use Rattle.operand_texts.specs.Region.{verticals, widths, strides, firsts, nullStride, sourceRegion, strideBehind, widthAndStride, destinationRegionFrom, destinationRegion}
-use Rattle.operand_texts.specs.General.{generalParts, general}
-use Rattle.operand_texts.specs.Operand.{forms, formOf, asGeneral, asImmediate, generalOperand, immediateOperand, formed, source, destination}
+use Rattle.text_parts.specs.mirror.Predicate.{zeros, predicate}
+use Rattle.text_parts.specs.mirror.Exec.{exec, scatterExec}
+use Rattle.text_parts.specs.mirror.Fields.{decimal, hexadecimal}
+use Rattle.text_parts.specs.mirror.Raw.{raw}
+use Rattle.text_parts.specs.mirror.Immediate.{immediate}
+use Rattle.operand_texts.specs.mirror.Region.{verticals, widths, strides, firsts, nullStride, sourceRegion, strideBehind, widthAndStride, destinationRegionFrom, destinationRegion}
+use Rattle.operand_texts.specs.mirror.General.{generalParts, general}
+use Rattle.operand_texts.specs.mirror.Operand.{forms, formOf, asGeneral, asImmediate, generalOperand, immediateOperand, formed, source, destination}
 use Rattle.operand_texts.specs.Texts.{generalText}
-use Rattle.lines.specs.Braces.{bracing, scaleBehind, sizeAndScale, gatherBraces, scaleAlone, scatterBraces}
-use Rattle.lines.specs.Bodies.{space, shlParts, shlFrom, shl, scalarAndRaws, blocks, surface, gatherParts, gatherFrom, gather, letters, scatterParts, scatterFrom, scatter, sendEndings, message, rawSendParts, rawSendFrom, rawSend}
-use Rattle.lines.specs.Line.{names, nameOf, predOf, body, named, line}
+use Rattle.lines.specs.mirror.Braces.{bracing, scaleBehind, sizeAndScale, gatherBraces, scaleAlone, scatterBraces}
+use Rattle.lines.specs.mirror.Bodies.{space, shlParts, shlFrom, shl, scalarAndRaws, blocks, surface, gatherParts, gatherFrom, gather, letters, scatterParts, scatterFrom, scatter, sendEndings, message, rawSendParts, rawSendFrom, rawSend}
+use Rattle.lines.specs.mirror.Line.{names, nameOf, predOf, body, named, line}
 
 -- ---- regions
 

@@ -13,13 +13,13 @@ ghost use mathlib.Core.List.{_++_};
 ghost use Rattle.decoder.specs.declared.Instruction.the-variants as instruction;
 ghost use Rattle.formats.specs.Words.{words, wordAt, after};
 ghost use Rattle.formats.specs.Writing.{wrote, written};
-ghost use Rattle.text_parts.specs.Predicate.{zeros, predicate};
-ghost use Rattle.operand_texts.specs.Region.{sourceRegion, destinationRegionFrom, destinationRegion};
-ghost use Rattle.operand_texts.specs.Operand.{asGeneral, source, destination};
+ghost use Rattle.text_parts.specs.mirror.Predicate.{zeros, predicate};
+ghost use Rattle.operand_texts.specs.mirror.Region.{sourceRegion, destinationRegionFrom, destinationRegion};
+ghost use Rattle.operand_texts.specs.mirror.Operand.{asGeneral, source, destination};
 ghost use Rattle.operand_texts.specs.Texts.{generalText};
-ghost use Rattle.lines.specs.Braces.{gatherBraces, scatterBraces};
-ghost use Rattle.lines.specs.Bodies.{space, shl, scalarAndRaws, surface, gather, scatter, message, rawSend};
-ghost use Rattle.lines.specs.Line.{names, line};
+ghost use Rattle.lines.specs.mirror.Braces.{gatherBraces, scatterBraces};
+ghost use Rattle.lines.specs.mirror.Bodies.{space, shl, scalarAndRaws, surface, gather, scatter, message, rawSend};
+ghost use Rattle.lines.specs.mirror.Line.{names, line};
 
 fn put_source_region(out: &mut [u8], at: usize, region: u16) -> usize
     ensures { λ r. ⌜ wrote r (now (out .exit)) ≡ written (now (out .entry)) at (sourceRegion .print region) ⌝ }

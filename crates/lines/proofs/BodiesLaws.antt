@@ -23,15 +23,15 @@ use Rattle.field_groups.specs.declared.Raw.{Raw}
 use Rattle.field_groups.specs.declared.Operand.{Operand}
 use Rattle.decoder.specs.declared.Instruction.{Instruction}
 use Rattle.decoder.specs.declared.Instruction.the-variants as instruction
-use Rattle.text_parts.specs.Exec.{execFrom, exec, scatterExecFits, scatterExec}
-use Rattle.text_parts.specs.Fields.{decimal, hexadecimal}
-use Rattle.text_parts.specs.Raw.{raw}
+use Rattle.text_parts.specs.mirror.Exec.{execFrom, exec, scatterExecFits, scatterExec}
+use Rattle.text_parts.specs.mirror.Fields.{decimal, hexadecimal}
+use Rattle.text_parts.specs.mirror.Raw.{raw}
 use Rattle.text_parts.proofs.ExecLaws.{exec-lawful, scatter-exec-lawful}
 use Rattle.text_parts.proofs.FieldLaws.{decimal-lawful, hexadecimal-lawful}
 use Rattle.text_parts.proofs.RawLaws.{raw-lawful}
-use Rattle.operand_texts.specs.Operand.{generalOperand, source, destination}
-use Rattle.lines.specs.Braces.{gatherBraces, scatterBraces}
-use Rattle.lines.specs.Bodies.{space, shlParts, shlTo, shlFrom, shlFits, shl, scalarAndRaws, scalarAndRawsFit, blocks, surface, gatherParts, gatherTo, gatherFrom, gatherFits, gather, letters, scatterParts, scatterTo, scatterFrom, scatterFits, scatter, sendEndings, message, messageFits, rawSendParts, rawSendTo, rawSendFrom, rawSendFits, rawSend}
+use Rattle.operand_texts.specs.mirror.Operand.{generalOperand, source, destination}
+use Rattle.lines.specs.mirror.Braces.{gatherBraces, scatterBraces}
+use Rattle.lines.specs.mirror.Bodies.{space, shlParts, shlTo, shlFrom, shlFits, shl, scalarAndRaws, scalarAndRawsFit, blocks, surface, gatherParts, gatherTo, gatherFrom, gatherFits, gather, letters, scatterParts, scatterTo, scatterFrom, scatterFits, scatter, sendEndings, message, messageFits, rawSendParts, rawSendTo, rawSendFrom, rawSendFits, rawSend}
 use Rattle.operand_texts.proofs.OperandLaws.{source-lawful, destination-lawful}
 use Rattle.lines.proofs.EndLaws.{goesOn, no-digit}
 use Rattle.lines.proofs.BracesLaws.{gather-braces-lawful, gather-braces-follow, scatter-braces-lawful, scatter-braces-follow}

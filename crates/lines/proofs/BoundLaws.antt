@@ -19,14 +19,14 @@ use Rattle.formats.proofs.Law.{Got, Stopped, Right, free}
 use Rattle.formats.proofs.NumberLaws.{number-under}
 use Rattle.formats.proofs.TableTests.{sound, size, single, opens}
 use Rattle.formats.proofs.AnswerLaws.{told-good, word-under}
-use Rattle.text_parts.specs.Fields.{decimal, hexadecimal}
+use Rattle.text_parts.specs.mirror.Fields.{decimal, hexadecimal}
 use Rattle.text_parts.proofs.FieldLaws.{decimal-lawful, hexadecimal-lawful, decimal-between}
 use Rattle.decoder.specs.declared.Instruction.{Instruction}
 use Rattle.lines.specs.declared.LineRead.{LineRead}
 use Rattle.lines.specs.declared.LineRead.the-variants as line-read
-use Rattle.lines.specs.Braces.{scaleBehind}
-use Rattle.lines.specs.Bodies.{space, blocks, letters, sendEndings}
-use Rattle.lines.specs.Line.{line}
+use Rattle.lines.specs.mirror.Braces.{scaleBehind}
+use Rattle.lines.specs.mirror.Bodies.{space, blocks, letters, sendEndings}
+use Rattle.lines.specs.mirror.Line.{line}
 use Rattle.lines.specs.Told.{toldLine}
 use Rattle.lines.proofs.EndLaws.{goesOn}
 use Rattle.lines.proofs.BracesLaws.{scale-behind-lawful, scale-behind-under}

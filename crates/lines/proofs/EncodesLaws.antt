@@ -25,10 +25,10 @@ use Rattle.decoder.specs.declared.Instruction.{Instruction}
 use Rattle.decoder.specs.declared.Instruction.the-variants as instruction
 use Rattle.decoder.specs.Format.{shlFields, gatherFields, scatterFields, rawSendFields, instructionFields, instructionBytes, instructionRefusal}
 use Rattle.formats.proofs.Tests.{both-right}
-use Rattle.text_parts.specs.Raw.{rawFits}
-use Rattle.operand_texts.specs.Operand.{operandFits}
-use Rattle.lines.specs.Bodies.{scalarAndRawsFit, shlFits, gatherFits, scatterFits, rawSendFits}
-use Rattle.lines.specs.Line.{predOf, bodyFits, lineFits}
+use Rattle.text_parts.specs.mirror.Raw.{rawFits}
+use Rattle.operand_texts.specs.mirror.Operand.{operandFits}
+use Rattle.lines.specs.mirror.Bodies.{scalarAndRawsFit, shlFits, gatherFits, scatterFits, rawSendFits}
+use Rattle.lines.specs.mirror.Line.{predOf, bodyFits, lineFits}
 use Rattle.lines.proofs.FitLaws.{all-each, each-all, shlTests, gatherTests, scatterTests, rawSendTests}
 use Rattle.lines.proofs.TakenLaws.{TakenIf, taken-append, taken-encodes, judged-good, good-judged, control-alike, scatter-control-alike, raw-alike, destination-alike, source-alike, scalar-alike, access-alike, message-alike}
 

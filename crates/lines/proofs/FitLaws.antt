@@ -9,11 +9,11 @@ use Rattle.decoder.specs.declared.Gather.{Gather}
 use Rattle.decoder.specs.declared.Scatter.{Scatter}
 use Rattle.decoder.specs.declared.RawSend.{RawSend}
 use Rattle.formats.proofs.Tests.{both, both-left, both-right}
-use Rattle.text_parts.specs.Predicate.{predicateFits}
-use Rattle.text_parts.specs.Exec.{execFits, scatterExecFits}
-use Rattle.operand_texts.specs.Operand.{generalOperandFits, operandFits}
-use Rattle.lines.specs.Braces.{gatherBracesFit}
-use Rattle.lines.specs.Bodies.{scalarAndRawsFit, messageFits}
+use Rattle.text_parts.specs.mirror.Predicate.{predicateFits}
+use Rattle.text_parts.specs.mirror.Exec.{execFits, scatterExecFits}
+use Rattle.operand_texts.specs.mirror.Operand.{generalOperandFits, operandFits}
+use Rattle.lines.specs.mirror.Braces.{gatherBracesFit}
+use Rattle.lines.specs.mirror.Bodies.{scalarAndRawsFit, messageFits}
 
 abbrev pub All : List Bool → Bool
 All [] = true

@@ -7,12 +7,12 @@ use lib.Dec.{eqb}
 use Rattle.formats.specs.Text.{text}
 use Rattle.formats.proofs.TableTests.{single}
 use Rattle.formats.proofs.ShortLaws.{Short, short-more, short-pair, short-through, short-blank, short-cond, narrow, short-table, short-number, short-before, short-after}
-use Rattle.text_parts.specs.Predicate.{zeros}
-use Rattle.text_parts.specs.Fields.{decimal, hexadecimal}
+use Rattle.text_parts.specs.mirror.Predicate.{zeros}
+use Rattle.text_parts.specs.mirror.Fields.{decimal, hexadecimal}
 use Rattle.text_parts.proofs.LengthLaws.{predicate-short, exec-short, scatter-exec-short, raw-short}
-use Rattle.lines.specs.Braces.{bracing, scaleBehind, sizeAndScale, gatherBraces, scaleAlone, scatterBraces}
-use Rattle.lines.specs.Bodies.{space, shlParts, shl, scalarAndRaws, blocks, surface, gatherParts, gather, letters, scatterParts, scatter, sendEndings, message, rawSendParts, rawSend}
-use Rattle.lines.specs.Line.{names, body, named, line}
+use Rattle.lines.specs.mirror.Braces.{bracing, scaleBehind, sizeAndScale, gatherBraces, scaleAlone, scatterBraces}
+use Rattle.lines.specs.mirror.Bodies.{space, shlParts, shl, scalarAndRaws, blocks, surface, gatherParts, gather, letters, scatterParts, scatter, sendEndings, message, rawSendParts, rawSend}
+use Rattle.lines.specs.mirror.Line.{names, body, named, line}
 use Rattle.operand_texts.proofs.LengthLaws.{source-short, destination-short}
 use Rattle.lines.proofs.BracesLaws.{gather-braces-matches, scatter-braces-matches}
 use Rattle.lines.proofs.BodiesLaws.{shl-matches, gather-matches, scatter-matches, raw-send-matches}

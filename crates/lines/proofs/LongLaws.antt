@@ -10,7 +10,7 @@ use Rattle.formats.specs.Format.{Out, got, stop, onOut}
 use Rattle.formats.specs.Whole.{whole, Viable, Column}
 use Rattle.formats.proofs.WholeLaws.{read-print, read-column}
 use Rattle.decoder.specs.declared.Instruction.{Instruction}
-use Rattle.lines.specs.Line.{line}
+use Rattle.lines.specs.mirror.Line.{line}
 use Rattle.lines.specs.Reading.{Reading, isLine, noLine, readingOf}
 use Rattle.lines.proofs.EndLaws.{goesOn}
 use Rattle.lines.proofs.LineLaws.{line-lawful}

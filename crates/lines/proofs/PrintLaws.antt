@@ -24,17 +24,17 @@ use Rattle.decoder.specs.declared.Scatter.{Scatter}
 use Rattle.decoder.specs.declared.RawSend.{RawSend}
 use Rattle.decoder.specs.declared.Instruction.{Instruction}
 use Rattle.decoder.specs.declared.Instruction.the-variants as instruction
-use Rattle.text_parts.specs.Predicate.{zeros, predicate}
-use Rattle.text_parts.specs.Exec.{exec, scatterExec}
-use Rattle.text_parts.specs.Fields.{decimal, hexadecimal}
-use Rattle.text_parts.specs.Raw.{raw}
+use Rattle.text_parts.specs.mirror.Predicate.{zeros, predicate}
+use Rattle.text_parts.specs.mirror.Exec.{exec, scatterExec}
+use Rattle.text_parts.specs.mirror.Fields.{decimal, hexadecimal}
+use Rattle.text_parts.specs.mirror.Raw.{raw}
 use Rattle.text_parts.specs.Texts.{optional, predicateText, execText, rawText}
 use Rattle.text_parts.proofs.PrintLaws.{predicate-prints, exec-prints, scatter-exec-prints, raw-prints}
-use Rattle.operand_texts.specs.Operand.{source, destination}
+use Rattle.operand_texts.specs.mirror.Operand.{source, destination}
 use Rattle.operand_texts.specs.Texts.{operandText}
-use Rattle.lines.specs.Braces.{bracing, scaleBehind, sizeAndScale, gatherBraces, scaleAlone, scatterBraces}
-use Rattle.lines.specs.Bodies.{shlParts, shlFrom, shlFits, shl, scalarAndRaws, scalarAndRawsFit, blocks, surface, gatherParts, gatherFrom, gatherFits, gather, letters, scatterParts, scatterFrom, scatterFits, scatter, sendEndings, message, rawSendParts, rawSendFrom, rawSendFits, rawSend}
-use Rattle.lines.specs.Line.{nameOf, predOf, body, named, bodyFits, lineFits, line}
+use Rattle.lines.specs.mirror.Braces.{bracing, scaleBehind, sizeAndScale, gatherBraces, scaleAlone, scatterBraces}
+use Rattle.lines.specs.mirror.Bodies.{shlParts, shlFrom, shlFits, shl, scalarAndRaws, scalarAndRawsFit, blocks, surface, gatherParts, gatherFrom, gatherFits, gather, letters, scatterParts, scatterFrom, scatterFits, scatter, sendEndings, message, rawSendParts, rawSendFrom, rawSendFits, rawSend}
+use Rattle.lines.specs.mirror.Line.{nameOf, predOf, body, named, bodyFits, lineFits, line}
 use Rattle.lines.specs.LineOf.{spaced, shlLine, gatherBracesText, gatherLine, lettersText, scatterBracesText, scatterLine, rawSendLine, lineOf}
 use Rattle.operand_texts.proofs.PrintLaws.{source-prints, destination-prints}
 use Rattle.lines.proofs.FitLaws.{all-each, shlTests, gatherTests, scatterTests, rawSendTests}

@@ -10,7 +10,7 @@ use Rattle.formats.specs.Format.{Out, got, stop, onOut}
 use Rattle.formats.specs.Whole.{whole, Viable, Column}
 use Rattle.formats.proofs.WholeLaws.{print-read, read-print, read-column}
 use Rattle.decoder.specs.declared.Instruction.{Instruction}
-use Rattle.lines.specs.Line.{lineFits, line}
+use Rattle.lines.specs.mirror.Line.{lineFits, line}
 use Rattle.lines.specs.LineOf.{lineOf}
 use Rattle.lines.specs.Reading.{Reading, isLine, noLine, readingOf, onReading}
 use Rattle.lines.specs.Claims.{Encodes, LineBegins, IsColumn}

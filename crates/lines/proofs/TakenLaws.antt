@@ -29,16 +29,16 @@ use Rattle.field_groups.specs.declared.Access.{Access}
 use Rattle.field_groups.specs.declared.Message.{Message}
 use Rattle.field_groups.specs.Layout.{controlFields, highField, operandFields, rawFields, accessFields, messageFields}
 use Rattle.formats.proofs.Tests.{both, both-left, both-right}
-use Rattle.text_parts.specs.Predicate.{predicateFits}
-use Rattle.text_parts.specs.Exec.{execFits, scatterExecFits}
-use Rattle.text_parts.specs.Raw.{rawFits}
-use Rattle.text_parts.specs.Immediate.{immediateFits}
+use Rattle.text_parts.specs.mirror.Predicate.{predicateFits}
+use Rattle.text_parts.specs.mirror.Exec.{execFits, scatterExecFits}
+use Rattle.text_parts.specs.mirror.Raw.{rawFits}
+use Rattle.text_parts.specs.mirror.Immediate.{immediateFits}
 use Rattle.text_parts.proofs.ImmediateLaws.{Code, listed-code}
-use Rattle.operand_texts.specs.Region.{regionFits}
-use Rattle.operand_texts.specs.General.{generalFits}
-use Rattle.operand_texts.specs.Operand.{generalOperandFits, operandFits}
-use Rattle.lines.specs.Braces.{gatherBracesFit}
-use Rattle.lines.specs.Bodies.{messageFits}
+use Rattle.operand_texts.specs.mirror.Region.{regionFits}
+use Rattle.operand_texts.specs.mirror.General.{generalFits}
+use Rattle.operand_texts.specs.mirror.Operand.{generalOperandFits, operandFits}
+use Rattle.lines.specs.mirror.Braces.{gatherBracesFit}
+use Rattle.lines.specs.mirror.Bodies.{messageFits}
 
 -- a test that holds if and only if the other does
 pub record Alike (P Q : Type 0) : Type 0 where

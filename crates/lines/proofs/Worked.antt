@@ -18,17 +18,17 @@ use Rattle.field_groups.specs.declared.Operand.{Operand}
 use Rattle.field_groups.specs.declared.Operand.the-variants as operand
 use Rattle.decoder.specs.declared.Instruction.{Instruction}
 use Rattle.decoder.specs.declared.Instruction.the-variants as instruction
-use Rattle.text_parts.specs.Predicate.{ending, idAndEnding, predicate}
-use Rattle.text_parts.specs.Exec.{maskParts, mask, execFrom, exec, scatterExec}
-use Rattle.text_parts.specs.Fields.{decimal, hexadecimal}
-use Rattle.text_parts.specs.Raw.{rawParts, raw}
-use Rattle.text_parts.specs.Immediate.{typeBehind, codeAt, immediateParts, immediate}
-use Rattle.operand_texts.specs.Region.{sourceRegion, strideBehind, widthAndStride, destinationRegion}
-use Rattle.operand_texts.specs.General.{generalParts, general}
-use Rattle.operand_texts.specs.Operand.{generalOperand, immediateOperand, formed, source, destination}
-use Rattle.lines.specs.Braces.{scaleBehind, sizeAndScale, gatherBraces, scaleAlone, scatterBraces}
-use Rattle.lines.specs.Bodies.{shlParts, shl, scalarAndRaws, surface, gatherParts, gather, scatterParts, scatter, message, rawSendParts, rawSend}
-use Rattle.lines.specs.Line.{body, named, line}
+use Rattle.text_parts.specs.mirror.Predicate.{ending, idAndEnding, predicate}
+use Rattle.text_parts.specs.mirror.Exec.{maskParts, mask, execFrom, exec, scatterExec}
+use Rattle.text_parts.specs.mirror.Fields.{decimal, hexadecimal}
+use Rattle.text_parts.specs.mirror.Raw.{rawParts, raw}
+use Rattle.text_parts.specs.mirror.Immediate.{typeBehind, codeAt, immediateParts, immediate}
+use Rattle.operand_texts.specs.mirror.Region.{sourceRegion, strideBehind, widthAndStride, destinationRegion}
+use Rattle.operand_texts.specs.mirror.General.{generalParts, general}
+use Rattle.operand_texts.specs.mirror.Operand.{generalOperand, immediateOperand, formed, source, destination}
+use Rattle.lines.specs.mirror.Braces.{scaleBehind, sizeAndScale, gatherBraces, scaleAlone, scatterBraces}
+use Rattle.lines.specs.mirror.Bodies.{shlParts, shl, scalarAndRaws, surface, gatherParts, gather, scatterParts, scatter, message, rawSendParts, rawSend}
+use Rattle.lines.specs.mirror.Line.{body, named, line}
 use Rattle.lines.specs.LineOf.{lineOf}
 use Rattle.lines.specs.Reading.{Reading, isLine, noLine, readingOf}
 use Rattle.lines.proofs.Statements.{read-line}

@@ -1,6 +1,3 @@
-pub mod Braces
-pub mod Bodies
-pub mod Line
 pub mod LineOf
 pub mod Reading
 pub mod Told

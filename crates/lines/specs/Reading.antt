@@ -4,7 +4,7 @@ use mathlib.Core.List.{List}
 use Rattle.formats.specs.Format.{onOut}
 use Rattle.formats.specs.Whole.{whole}
 use Rattle.decoder.specs.declared.Instruction.{Instruction}
-use Rattle.lines.specs.Line.{line}
+use Rattle.lines.specs.mirror.Line.{line}
 
 pub data Reading : Type 0 where
   isLine : Instruction → Reading

@@ -11,7 +11,7 @@ use Rattle.decoder.specs.declared.Instruction.{Instruction}
 use Rattle.decoder.specs.Decoding.{instructionAt}
 use Rattle.decoder.specs.Format.{instructionBytes, instructionRefusal}
 use Rattle.decoder.proofs.DecodeEncode.{decode-encode}
-use Rattle.lines.specs.Line.{lineFits, line}
+use Rattle.lines.specs.mirror.Line.{lineFits, line}
 use Rattle.lines.specs.LineOf.{lineOf}
 use Rattle.lines.proofs.LineLaws.{line-good}
 use Rattle.lines.proofs.EncodesLaws.{encodes-fits}

@@ -19,7 +19,7 @@ use Rattle.formats.proofs.WritingLaws.{wrote-then}
 use Rattle.decoder.specs.declared.Instruction.{Instruction}
 use Rattle.decoder.specs.Decoding.{instructionAt}
 use Rattle.decoder.proofs.Laws.{accepted-within}
-use Rattle.lines.specs.Line.{line}
+use Rattle.lines.specs.mirror.Line.{line}
 use Rattle.lines.specs.LineOf.{lineOf}
 use Rattle.listing.specs.Listing.{lineEnd, refusalLine, stepText, stepNext, steps, listedFrom}
 use Rattle.listing.proofs.DecodedLaws.{decoded-line}

@@ -9,7 +9,7 @@ ghost use Prim.Native.Nat.{_+_, _*_, _≤_, _<_};
 ghost use lib.Dec.{ltb};
 ghost use lib.ListN.{length, take};
 ghost use Rattle.formats.specs.Writing.{wrote, written};
-ghost use Rattle.lines.specs.Line.{line};
+ghost use Rattle.lines.specs.mirror.Line.{line};
 ghost use Rattle.line_blocks.specs.mirror.Rows.{row};
 ghost use Rattle.listing.specs.Listing.{lineEnd, refusalLine, stepText, stepNext, listedFrom};
 ghost use Rattle.listing.specs.mirror.Parts.{isKernelIn, kernelIn, rowListed, Goes, Passes};

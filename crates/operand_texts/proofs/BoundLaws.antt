@@ -14,9 +14,9 @@ use Rattle.formats.specs.declared.NumberRead.the-variants as read
 use Rattle.formats.proofs.Law.{free}
 use Rattle.formats.proofs.TableTests.{sound, size, single, opens}
 use Rattle.formats.proofs.AnswerLaws.{told-good, word-under}
-use Rattle.text_parts.specs.Fields.{decimal}
+use Rattle.text_parts.specs.mirror.Fields.{decimal}
 use Rattle.text_parts.proofs.FieldLaws.{decimal-lawful, decimal-between}
-use Rattle.operand_texts.specs.Region.{verticals, widths, strides, firsts, strideBehind}
+use Rattle.operand_texts.specs.mirror.Region.{verticals, widths, strides, firsts, strideBehind}
 use Rattle.operand_texts.proofs.RegionLaws.{stride-lawful, stride-under}
 
 module _ (s : List ℕ) (at : ℕ) (r : NumberRead) (n : ℕ) (c : Cursor) where

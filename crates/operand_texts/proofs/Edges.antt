@@ -13,11 +13,11 @@ use Rattle.formats.specs.mirror.Scan.{common, better, scan, chosen, wordIn}
 use Rattle.formats.specs.mirror.Digits.{valueOf, goesOn, moreDigits, begins, numberIn}
 use Rattle.field_groups.specs.declared.Operand.{Operand}
 use Rattle.field_groups.specs.declared.Operand.the-variants as operand
-use Rattle.text_parts.specs.Fields.{decimal}
-use Rattle.text_parts.specs.Immediate.{typeBehind, codeAt, immediateParts, immediate}
-use Rattle.operand_texts.specs.Region.{sourceRegion, strideBehind, widthAndStride, destinationRegion}
-use Rattle.operand_texts.specs.General.{generalParts, general}
-use Rattle.operand_texts.specs.Operand.{formOf, asGeneral, generalOperand, immediateOperand, formed, source, destination}
+use Rattle.text_parts.specs.mirror.Fields.{decimal}
+use Rattle.text_parts.specs.mirror.Immediate.{typeBehind, codeAt, immediateParts, immediate}
+use Rattle.operand_texts.specs.mirror.Region.{sourceRegion, strideBehind, widthAndStride, destinationRegion}
+use Rattle.operand_texts.specs.mirror.General.{generalParts, general}
+use Rattle.operand_texts.specs.mirror.Operand.{formOf, asGeneral, generalOperand, immediateOperand, formed, source, destination}
 
 abbrev variable : ℕ → ℕ → ℕ → ℕ → Operand
 variable index row column region = operand.General (record { index = index; row = row; column = column; region = region })

@@ -18,11 +18,11 @@ use Rattle.formats.proofs.Combining.{pair-lawful, through-lawful}
 use Rattle.formats.proofs.TableTests.{sound, opens, single}
 use Rattle.formats.proofs.NumberLaws.{number-under}
 use Rattle.field_groups.specs.declared.General.{General}
-use Rattle.text_parts.specs.Fields.{decimal}
+use Rattle.text_parts.specs.mirror.Fields.{decimal}
 use Rattle.text_parts.proofs.PartLaws.{in-range}
 use Rattle.text_parts.proofs.FieldLaws.{decimal-lawful}
-use Rattle.operand_texts.specs.Region.{regionFits}
-use Rattle.operand_texts.specs.General.{generalTo, generalFrom, generalParts, generalFits, general}
+use Rattle.operand_texts.specs.mirror.Region.{regionFits}
+use Rattle.operand_texts.specs.mirror.General.{generalTo, generalFrom, generalParts, generalFits, general}
 
 -- the fields of an operand that the encoder takes
 pub record Fits (g : General) : Type 0 where

@@ -9,12 +9,12 @@ use Rattle.formats.specs.Format.{Format}
 use Rattle.formats.proofs.Law.{Lawful, free}
 use Rattle.formats.proofs.TableTests.{single}
 use Rattle.formats.proofs.ShortLaws.{Short, short-more, short-pair, short-through, short-blank, short-cond, narrow, short-table, short-number, short-before, short-after}
-use Rattle.text_parts.specs.Predicate.{zeros}
-use Rattle.text_parts.specs.Fields.{decimal}
+use Rattle.text_parts.specs.mirror.Predicate.{zeros}
+use Rattle.text_parts.specs.mirror.Fields.{decimal}
 use Rattle.text_parts.proofs.LengthLaws.{immediate-short}
-use Rattle.operand_texts.specs.Region.{verticals, widths, strides, regionFits, sourceRegion, firsts, nullStride, strideBehind, widthAndStride, destinationRegion}
-use Rattle.operand_texts.specs.General.{generalParts, general}
-use Rattle.operand_texts.specs.Operand.{forms, generalOperand, immediateOperand, formed, source, destination}
+use Rattle.operand_texts.specs.mirror.Region.{verticals, widths, strides, regionFits, sourceRegion, firsts, nullStride, strideBehind, widthAndStride, destinationRegion}
+use Rattle.operand_texts.specs.mirror.General.{generalParts, general}
+use Rattle.operand_texts.specs.mirror.Operand.{forms, generalOperand, immediateOperand, formed, source, destination}
 use Rattle.operand_texts.proofs.RegionLaws.{source-region-matches, source-region-lawful, destination-region-matches, destination-region-lawful}
 use Rattle.operand_texts.proofs.GeneralLaws.{general-matches}
 use Rattle.operand_texts.proofs.OperandLaws.{source-region-good, destination-region-good, general-operand-matches, immediate-operand-matches, source-matches}

@@ -17,12 +17,12 @@ use Rattle.formats.proofs.WordLaws.{table-lawful}
 use Rattle.formats.proofs.AroundLaws.{before-lawful}
 use Rattle.field_groups.specs.declared.Operand.{Operand}
 use Rattle.field_groups.specs.declared.Operand.the-variants as operand
-use Rattle.text_parts.specs.Immediate.{immediate}
+use Rattle.text_parts.specs.mirror.Immediate.{immediate}
 use Rattle.text_parts.proofs.PartLaws.{in-table}
 use Rattle.text_parts.proofs.ImmediateLaws.{immediate-lawful}
-use Rattle.operand_texts.specs.Region.{regionFits, sourceRegion, destinationRegion}
-use Rattle.operand_texts.specs.General.{general}
-use Rattle.operand_texts.specs.Operand.{forms, formOf, asGeneral, asImmediate, generalOperandFits, immediateOperandFits, operandFits, generalOperand, immediateOperand, formed, source, destination}
+use Rattle.operand_texts.specs.mirror.Region.{regionFits, sourceRegion, destinationRegion}
+use Rattle.operand_texts.specs.mirror.General.{general}
+use Rattle.operand_texts.specs.mirror.Operand.{forms, formOf, asGeneral, asImmediate, generalOperandFits, immediateOperandFits, operandFits, generalOperand, immediateOperand, formed, source, destination}
 use Rattle.operand_texts.proofs.RegionLaws.{source-region-lawful, destination-region-lawful}
 use Rattle.operand_texts.proofs.GeneralLaws.{general-lawful}
 

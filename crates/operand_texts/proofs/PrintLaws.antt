@@ -16,11 +16,11 @@ use Rattle.formats.proofs.Tests.{both-left, both-right}
 use Rattle.field_groups.specs.declared.General.{General}
 use Rattle.field_groups.specs.declared.Operand.{Operand}
 use Rattle.field_groups.specs.declared.Operand.the-variants as operand
-use Rattle.text_parts.specs.Fields.{decimal}
+use Rattle.text_parts.specs.mirror.Fields.{decimal}
 use Rattle.text_parts.proofs.PrintLaws.{immediate-prints}
-use Rattle.operand_texts.specs.Region.{verticals, widths, strides, regionFits, sourceRegion, firsts, nullStride, strideBehind, widthAndStride, destinationRegion}
-use Rattle.operand_texts.specs.General.{generalParts, general}
-use Rattle.operand_texts.specs.Operand.{formOf, asGeneral, asImmediate, generalOperandFits, operandFits, generalOperand, immediateOperand, formed, source, destination}
+use Rattle.operand_texts.specs.mirror.Region.{verticals, widths, strides, regionFits, sourceRegion, firsts, nullStride, strideBehind, widthAndStride, destinationRegion}
+use Rattle.operand_texts.specs.mirror.General.{generalParts, general}
+use Rattle.operand_texts.specs.mirror.Operand.{formOf, asGeneral, asImmediate, generalOperandFits, operandFits, generalOperand, immediateOperand, formed, source, destination}
 use Rattle.operand_texts.specs.Texts.{codeText, regionText, destinationRegionText, generalText, operandText, destinationText}
 use Rattle.operand_texts.proofs.RegionLaws.{Region, region-tells, alone-tells, not-alone-tells}
 use Rattle.operand_texts.proofs.GeneralLaws.{general-tells}

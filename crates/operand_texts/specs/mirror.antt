@@ -1,1 +1,4 @@
+pub mod Region
+pub mod General
+pub mod Operand
 pub mod Roles

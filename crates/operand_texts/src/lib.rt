@@ -11,8 +11,8 @@ ghost use Prim.Native.Nat.{_+_, _*_, _-_, _≤_, _<_};
 ghost use lib.Dec.{eqb};
 ghost use Rattle.formats.specs.Told.{told};
 ghost use Rattle.text_parts.specs.Told.{toldWord};
-ghost use Rattle.operand_texts.specs.Region.{sourceRegion, strideBehind, destinationRegion};
-ghost use Rattle.operand_texts.specs.Operand.{generalOperand, source, destination};
+ghost use Rattle.operand_texts.specs.mirror.Region.{sourceRegion, strideBehind, destinationRegion};
+ghost use Rattle.operand_texts.specs.mirror.Operand.{generalOperand, source, destination};
 ghost use Rattle.operand_texts.specs.Told.{toldOperand};
 ghost use Rattle.operand_texts.specs.mirror.Roles.{regionOf};
 

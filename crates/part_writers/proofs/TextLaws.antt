@@ -13,11 +13,11 @@ use Rattle.formats.specs.Numerals.{digitsOf}
 use Rattle.formats.specs.Numbers.{number}
 use Rattle.field_groups.specs.declared.Raw.{Raw}
 use Rattle.field_groups.specs.declared.Immediate.{Immediate}
-use Rattle.text_parts.specs.Predicate.{openings, endings, groupEndings, ending, idAndEnding, predicate}
-use Rattle.text_parts.specs.Exec.{maskEndings, sizes, scatterSizes, maskParts, mask, execFrom, exec, scatterExec}
-use Rattle.text_parts.specs.Fields.{decimal}
-use Rattle.text_parts.specs.Raw.{rawParts, raw}
-use Rattle.text_parts.specs.Immediate.{types, wideTypes, typeBehind, placeOf, immediateParts, immediate}
+use Rattle.text_parts.specs.mirror.Predicate.{openings, endings, groupEndings, ending, idAndEnding, predicate}
+use Rattle.text_parts.specs.mirror.Exec.{maskEndings, sizes, scatterSizes, maskParts, mask, execFrom, exec, scatterExec}
+use Rattle.text_parts.specs.mirror.Fields.{decimal}
+use Rattle.text_parts.specs.mirror.Raw.{rawParts, raw}
+use Rattle.text_parts.specs.mirror.Immediate.{types, wideTypes, typeBehind, placeOf, immediateParts, immediate}
 
 -- ---- the predicate
 

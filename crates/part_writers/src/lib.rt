@@ -11,10 +11,10 @@ ghost use Rattle.formats.specs.Text.{text};
 ghost use Rattle.formats.specs.Words.{words, wordAt};
 ghost use Rattle.formats.specs.Numerals.{digitsOf};
 ghost use Rattle.formats.specs.Writing.{wrote, written};
-ghost use Rattle.text_parts.specs.Predicate.{ending, predicate};
-ghost use Rattle.text_parts.specs.Exec.{mask, exec, scatterExec};
-ghost use Rattle.text_parts.specs.Raw.{raw};
-ghost use Rattle.text_parts.specs.Immediate.{typeBehind, placeOf, immediate};
+ghost use Rattle.text_parts.specs.mirror.Predicate.{ending, predicate};
+ghost use Rattle.text_parts.specs.mirror.Exec.{mask, exec, scatterExec};
+ghost use Rattle.text_parts.specs.mirror.Raw.{raw};
+ghost use Rattle.text_parts.specs.mirror.Immediate.{typeBehind, placeOf, immediate};
 
 // What ends a predicate.
 fn put_ending(out: &mut [u8], at: usize, opening: u64, id: u64, end: u64) -> usize

@@ -21,7 +21,7 @@ use Rattle.decoder.specs.Format.{instructionBytes, instructionRefusal}
 use Rattle.decoder.proofs.FormatLaws.{instruction-at-most}
 use Rattle.encoder.specs.Encoding.{encodedIn, encodedInto}
 use Rattle.lines.specs.LineOf.{lineOf}
-use Rattle.lines.specs.Line.{lineFits, line}
+use Rattle.lines.specs.mirror.Line.{lineFits, line}
 use Rattle.lines.proofs.EncodesLaws.{encodes-fits}
 use Rattle.lines.proofs.PrintLaws.{line-prints}
 use Rattle.lines.proofs.LengthLaws.{line-short}

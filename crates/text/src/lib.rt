@@ -7,7 +7,7 @@ ghost use mathlib.Core.Bool.{true};
 ghost use Prim.Native.Nat.{_≤_};
 ghost use lib.ListN.{length};
 ghost use Rattle.decoder.specs.Format.{instructionRefusal};
-ghost use Rattle.lines.specs.Line.{lineFits};
+ghost use Rattle.lines.specs.mirror.Line.{lineFits};
 ghost use Rattle.text.specs.Printing.{printedReply, printedIn, printedInto};
 ghost use Rattle.text.specs.Assembling.{assemblyOf, assembledIn, assembledInto};
 

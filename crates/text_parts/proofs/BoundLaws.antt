@@ -15,10 +15,10 @@ use Rattle.formats.specs.declared.NumberRead.the-variants as read
 use Rattle.formats.proofs.Law.{free}
 use Rattle.formats.proofs.TableTests.{sound, size, single, opens}
 use Rattle.formats.proofs.AnswerLaws.{told-good, word-under, number-between}
-use Rattle.text_parts.specs.Predicate.{openings, ending}
-use Rattle.text_parts.specs.Exec.{maskEndings, sizes, scatterSizes, mask}
-use Rattle.text_parts.specs.Fields.{decimal}
-use Rattle.text_parts.specs.Immediate.{typeBehind}
+use Rattle.text_parts.specs.mirror.Predicate.{openings, ending}
+use Rattle.text_parts.specs.mirror.Exec.{maskEndings, sizes, scatterSizes, mask}
+use Rattle.text_parts.specs.mirror.Fields.{decimal}
+use Rattle.text_parts.specs.mirror.Immediate.{typeBehind}
 use Rattle.text_parts.proofs.PredicateLaws.{bracket, ending-lawful, ending-under}
 use Rattle.text_parts.proofs.ExecLaws.{mask-lawful, mask-under}
 use Rattle.text_parts.proofs.FieldLaws.{decimal-lawful, decimal-between}

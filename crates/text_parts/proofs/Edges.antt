@@ -13,11 +13,11 @@ use Rattle.formats.specs.mirror.Scan.{common, better, scan, chosen, wordIn}
 use Rattle.formats.specs.mirror.Digits.{valueOf, goesOn, moreDigits, begins, numberIn}
 use Rattle.field_groups.specs.declared.Raw.{Raw}
 use Rattle.field_groups.specs.declared.Immediate.{Immediate}
-use Rattle.text_parts.specs.Predicate.{ending, idAndEnding, predicate}
-use Rattle.text_parts.specs.Exec.{maskParts, mask, execFrom, exec, scatterExec}
-use Rattle.text_parts.specs.Fields.{decimal, hexadecimal}
-use Rattle.text_parts.specs.Raw.{rawParts, raw}
-use Rattle.text_parts.specs.Immediate.{typeBehind, codeAt, immediateParts, immediate}
+use Rattle.text_parts.specs.mirror.Predicate.{ending, idAndEnding, predicate}
+use Rattle.text_parts.specs.mirror.Exec.{maskParts, mask, execFrom, exec, scatterExec}
+use Rattle.text_parts.specs.mirror.Fields.{decimal, hexadecimal}
+use Rattle.text_parts.specs.mirror.Raw.{rawParts, raw}
+use Rattle.text_parts.specs.mirror.Immediate.{typeBehind, codeAt, immediateParts, immediate}
 
 -- ---- the predicate
 

@@ -12,7 +12,7 @@ use Rattle.formats.proofs.Law.{Lawful, free}
 use Rattle.formats.proofs.TableTests.{sound, opens, single}
 use Rattle.formats.proofs.AroundLaws.{before-lawful, after-lawful}
 use Rattle.formats.proofs.NumberLaws.{number-lawful, number-under}
-use Rattle.text_parts.specs.Fields.{decimal, hexadecimal}
+use Rattle.text_parts.specs.mirror.Fields.{decimal, hexadecimal}
 
 pub decimal-lawful : (low high : ℕ) (end : List ℕ) → low ≤ 1 → low ≤ high → single end ≡ true → sound free end ≡ true → opens (isDigit 10) end ≡ true → Lawful (decimal low high end) free
 unfolding decimal

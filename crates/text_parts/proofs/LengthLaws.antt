@@ -7,11 +7,11 @@ use lib.Dec.{eqb, ltb}
 use Rattle.formats.specs.Text.{text}
 use Rattle.formats.proofs.TableTests.{single}
 use Rattle.formats.proofs.ShortLaws.{Short, short-pair, short-through, short-blank, short-cond, narrow, short-table, short-number, short-before, short-after}
-use Rattle.text_parts.specs.Predicate.{zeros, openings, endings, groupEndings, ending, idAndEnding, predicate}
-use Rattle.text_parts.specs.Exec.{maskEndings, sizes, scatterSizes, maskParts, mask, execFrom, exec, scatterExec}
-use Rattle.text_parts.specs.Fields.{decimal}
-use Rattle.text_parts.specs.Raw.{rawParts, raw}
-use Rattle.text_parts.specs.Immediate.{types, wideTypes, typeBehind, immediateParts, immediate}
+use Rattle.text_parts.specs.mirror.Predicate.{zeros, openings, endings, groupEndings, ending, idAndEnding, predicate}
+use Rattle.text_parts.specs.mirror.Exec.{maskEndings, sizes, scatterSizes, maskParts, mask, execFrom, exec, scatterExec}
+use Rattle.text_parts.specs.mirror.Fields.{decimal}
+use Rattle.text_parts.specs.mirror.Raw.{rawParts, raw}
+use Rattle.text_parts.specs.mirror.Immediate.{types, wideTypes, typeBehind, immediateParts, immediate}
 use Rattle.text_parts.proofs.PredicateLaws.{predicate-matches}
 use Rattle.text_parts.proofs.ExecLaws.{mask-matches, exec-matches, scatter-exec-matches}
 use Rattle.text_parts.proofs.RawLaws.{raw-matches}

@@ -17,7 +17,7 @@ use Rattle.formats.proofs.Combining.{pair-lawful, through-lawful, blank-lawful,
 use Rattle.formats.proofs.TableTests.{sound, opens, size, table-under}
 use Rattle.formats.proofs.WordLaws.{table-lawful, begins-table}
 use Rattle.formats.proofs.NumberLaws.{number-lawful, begins-number, number-under, decimal-characters}
-use Rattle.text_parts.specs.Predicate.{zeros, nothing, openings, endings, groupEndings, predicateTo, predicateFrom, predicateFits, ending, idAndEnding, predicate}
+use Rattle.text_parts.specs.mirror.Predicate.{zeros, nothing, openings, endings, groupEndings, predicateTo, predicateFrom, predicateFits, ending, idAndEnding, predicate}
 use Rattle.text_parts.proofs.PartLaws.{in-table, in-range}
 use Rattle.text_parts.proofs.GoodLaws.{predicate-good-is}
 

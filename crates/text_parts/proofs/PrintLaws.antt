@@ -20,11 +20,11 @@ use Rattle.channels.specs.Predicate.{hasPredicate, predicateId, predicateCombin
 use Rattle.field_groups.specs.declared.Raw.{Raw}
 use Rattle.field_groups.specs.declared.Immediate.{Immediate}
 use Rattle.formats.proofs.Tests.{both-left, both-right}
-use Rattle.text_parts.specs.Predicate.{openings, endings, groupEndings, ending, idAndEnding, predicateFits, predicate}
-use Rattle.text_parts.specs.Exec.{maskEndings, sizes, scatterSizes, maskParts, mask, execFrom, execFits, exec, scatterExecFits, scatterExec}
-use Rattle.text_parts.specs.Fields.{decimal}
-use Rattle.text_parts.specs.Raw.{rawParts, raw}
-use Rattle.text_parts.specs.Immediate.{types, wideTypes, typeBehind, placeOf, immediateParts, immediateFits, immediate}
+use Rattle.text_parts.specs.mirror.Predicate.{openings, endings, groupEndings, ending, idAndEnding, predicateFits, predicate}
+use Rattle.text_parts.specs.mirror.Exec.{maskEndings, sizes, scatterSizes, maskParts, mask, execFrom, execFits, exec, scatterExecFits, scatterExec}
+use Rattle.text_parts.specs.mirror.Fields.{decimal}
+use Rattle.text_parts.specs.mirror.Raw.{rawParts, raw}
+use Rattle.text_parts.specs.mirror.Immediate.{types, wideTypes, typeBehind, placeOf, immediateParts, immediateFits, immediate}
 use Rattle.text_parts.specs.Texts.{optional, predicateText, execText, rawText, typeText, immediateText}
 use Rattle.text_parts.proofs.PredicateLaws.{Word, word-tells}
 use Rattle.text_parts.proofs.ExecLaws.{exec-told, scatter-told}

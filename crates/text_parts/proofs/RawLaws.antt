@@ -16,8 +16,8 @@ use Rattle.formats.proofs.Combining.{pair-lawful, through-lawful}
 use Rattle.formats.proofs.TableTests.{sound, opens, single}
 use Rattle.formats.proofs.AroundLaws.{before-lawful}
 use Rattle.formats.proofs.NumberLaws.{number-lawful, number-under}
-use Rattle.text_parts.specs.Fields.{decimal}
-use Rattle.text_parts.specs.Raw.{rawTo, rawFrom, rawParts, rawFits, raw}
+use Rattle.text_parts.specs.mirror.Fields.{decimal}
+use Rattle.text_parts.specs.mirror.Raw.{rawTo, rawFrom, rawParts, rawFits, raw}
 use Rattle.text_parts.proofs.PartLaws.{in-range}
 use Rattle.text_parts.proofs.FieldLaws.{decimal-lawful}
 

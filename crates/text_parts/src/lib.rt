@@ -9,11 +9,11 @@ ghost use mathlib.Core.Bool.{_&&_};
 ghost use Prim.Native.Nat.{_+_, _*_, _-_, _/_, _%_, _≤_, _<_};
 ghost use lib.Dec.{eqb};
 ghost use Rattle.formats.specs.Told.{told};
-ghost use Rattle.text_parts.specs.Predicate.{ending, predicate};
-ghost use Rattle.text_parts.specs.Exec.{mask, exec, scatterExec};
-ghost use Rattle.text_parts.specs.Fields.{decimal, hexadecimal};
-ghost use Rattle.text_parts.specs.Raw.{raw};
-ghost use Rattle.text_parts.specs.Immediate.{typeBehind, codeAt, immediate};
+ghost use Rattle.text_parts.specs.mirror.Predicate.{ending, predicate};
+ghost use Rattle.text_parts.specs.mirror.Exec.{mask, exec, scatterExec};
+ghost use Rattle.text_parts.specs.mirror.Fields.{decimal, hexadecimal};
+ghost use Rattle.text_parts.specs.mirror.Raw.{raw};
+ghost use Rattle.text_parts.specs.mirror.Immediate.{typeBehind, codeAt, immediate};
 ghost use Rattle.text_parts.specs.Told.{toldByte, toldWord, toldRaw, toldImmediate};
 
 pub enum ByteRead {

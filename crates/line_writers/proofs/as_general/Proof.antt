@@ -1,5 +1,5 @@
 -- `line_writers::as_general` meets its contract: the variant is known.
-use Rattle.operand_texts.specs.Operand.{asGeneral}
+use Rattle.operand_texts.specs.mirror.Operand.{asGeneral}
 use borrow.Author.Needs.{needs}
 use Rattle.line_writers.proofs.as_general.Statement.{statement}
 use Rattle.line_writers.proofs.as_general.Tie as tie

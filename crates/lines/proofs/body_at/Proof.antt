@@ -1,7 +1,7 @@
 -- `lines::body_at` meets its contract: at each return, what the calls and tests on the way say picks the case of `Line`.
 use borrow.Author.Needs.{needs}
 use borrow.Author.Tests.{eq-eqb, ne-eqb}
-use Rattle.lines.specs.Line.{body}
+use Rattle.lines.specs.mirror.Line.{body}
 use Rattle.lines.proofs.body_at.Statement.{statement}
 use Rattle.lines.proofs.body_at.Tie as tie
 

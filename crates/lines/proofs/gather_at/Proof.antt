@@ -1,7 +1,7 @@
 -- `lines::gather_at` meets its contract: at each return, what the calls and tests on the way say picks the case of `Bodies`.
 use borrow.Author.Needs.{needs}
 use Rattle.formats.specs.Format.{pair, through}
-use Rattle.lines.specs.Bodies.{gather, gatherParts}
+use Rattle.lines.specs.mirror.Bodies.{gather, gatherParts}
 use Rattle.lines.proofs.BoundLaws.{blocks-bound}
 use Rattle.lines.proofs.gather_at.Statement.{statement}
 use Rattle.lines.proofs.gather_at.Tie as tie

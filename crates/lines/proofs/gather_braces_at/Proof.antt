@@ -2,7 +2,7 @@
 use borrow.Author.Needs.{needs}
 use borrow.Author.Tests.{eq-eqb, ne-eqb}
 use Rattle.formats.specs.Format.{pair, through, blank}
-use Rattle.lines.specs.Braces.{gatherBraces, sizeAndScale}
+use Rattle.lines.specs.mirror.Braces.{gatherBraces, sizeAndScale}
 use Rattle.lines.proofs.BoundLaws.{size-bound, scale-bound}
 use Rattle.lines.proofs.gather_braces_at.Statement.{statement}
 use Rattle.lines.proofs.gather_braces_at.Tie as tie

@@ -2,7 +2,7 @@
 use mathlib.Core.Path.{sym}
 use borrow.Author.Needs.{needs}
 use Rattle.formats.specs.Format.{pair, through}
-use Rattle.lines.specs.Line.{line, named}
+use Rattle.lines.specs.mirror.Line.{line, named}
 use Rattle.lines.proofs.ReadLaws.{third-alone}
 use Rattle.lines.proofs.line_at.Statement.{statement}
 use Rattle.lines.proofs.line_at.Tie as tie

@@ -1,7 +1,7 @@
 -- `lines::message_at` meets its contract: at each return, what the calls and tests on the way say picks the case of `Bodies`.
 use borrow.Author.Needs.{needs}
 use Rattle.formats.specs.Format.{pair}
-use Rattle.lines.specs.Bodies.{message}
+use Rattle.lines.specs.mirror.Bodies.{message}
 use Rattle.lines.proofs.BoundLaws.{extended-bound, sources-bound, destinations-bound}
 use Rattle.lines.proofs.message_at.Statement.{statement}
 use Rattle.lines.proofs.message_at.Tie as tie

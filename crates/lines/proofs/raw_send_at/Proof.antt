@@ -1,7 +1,7 @@
 -- `lines::raw_send_at` meets its contract: at each return, what the calls and tests on the way say picks the case of `Bodies`.
 use borrow.Author.Needs.{needs}
 use Rattle.formats.specs.Format.{pair, through}
-use Rattle.lines.specs.Bodies.{rawSend, rawSendParts}
+use Rattle.lines.specs.mirror.Bodies.{rawSend, rawSendParts}
 use Rattle.lines.proofs.BoundLaws.{sends-bound}
 use Rattle.lines.proofs.raw_send_at.Statement.{statement}
 use Rattle.lines.proofs.raw_send_at.Tie as tie

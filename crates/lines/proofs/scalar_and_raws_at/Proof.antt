@@ -1,7 +1,7 @@
 -- `lines::scalar_and_raws_at` meets its contract: at each return, what the calls and tests on the way say picks the case of `Bodies`.
 use borrow.Author.Needs.{needs}
 use Rattle.formats.specs.Format.{pair}
-use Rattle.lines.specs.Bodies.{scalarAndRaws}
+use Rattle.lines.specs.mirror.Bodies.{scalarAndRaws}
 use Rattle.lines.proofs.scalar_and_raws_at.Statement.{statement}
 use Rattle.lines.proofs.scalar_and_raws_at.Tie as tie
 

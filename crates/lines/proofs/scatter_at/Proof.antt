@@ -1,7 +1,7 @@
 -- `lines::scatter_at` meets its contract: at each return, what the calls and tests on the way say picks the case of `Bodies`.
 use borrow.Author.Needs.{needs}
 use Rattle.formats.specs.Format.{pair, through}
-use Rattle.lines.specs.Bodies.{scatter, scatterParts}
+use Rattle.lines.specs.mirror.Bodies.{scatter, scatterParts}
 use Rattle.lines.proofs.BoundLaws.{letters-bound}
 use Rattle.lines.proofs.scatter_at.Statement.{statement}
 use Rattle.lines.proofs.scatter_at.Tie as tie

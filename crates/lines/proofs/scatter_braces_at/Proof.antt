@@ -2,7 +2,7 @@
 use borrow.Author.Needs.{needs}
 use borrow.Author.Tests.{eq-eqb, ne-eqb}
 use Rattle.formats.specs.Format.{pair, through, blank}
-use Rattle.lines.specs.Braces.{scatterBraces, scaleAlone}
+use Rattle.lines.specs.mirror.Braces.{scatterBraces, scaleAlone}
 use Rattle.lines.proofs.BoundLaws.{scale-alone-bound}
 use Rattle.lines.proofs.scatter_braces_at.Statement.{statement}
 use Rattle.lines.proofs.scatter_braces_at.Tie as tie

@@ -1,7 +1,7 @@
 -- `lines::shl_at` meets its contract: at each return, what the calls and tests on the way say picks the case of `Bodies`.
 use borrow.Author.Needs.{needs}
 use Rattle.formats.specs.Format.{pair, through}
-use Rattle.lines.specs.Bodies.{shl, shlParts}
+use Rattle.lines.specs.mirror.Bodies.{shl, shlParts}
 use Rattle.lines.proofs.shl_at.Statement.{statement}
 use Rattle.lines.proofs.shl_at.Tie as tie
 

@@ -2,7 +2,7 @@
 use borrow.Author.Needs.{needs}
 use Rattle.formats.specs.Format.{pair, through}
 use Rattle.formats.specs.Words.{before}
-use Rattle.lines.specs.Bodies.{surface}
+use Rattle.lines.specs.mirror.Bodies.{surface}
 use Rattle.lines.proofs.BoundLaws.{surface-bound}
 use Rattle.lines.proofs.surface_at.Statement.{statement}
 use Rattle.lines.proofs.surface_at.Tie as tie

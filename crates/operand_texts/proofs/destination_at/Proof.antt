@@ -3,7 +3,7 @@ use mathlib.Core.Path.{sym}
 use borrow.Author.Needs.{needs}
 use Rattle.formats.specs.Format.{pair, through}
 use Rattle.formats.specs.Words.{before}
-use Rattle.operand_texts.specs.Operand.{destination}
+use Rattle.operand_texts.specs.mirror.Operand.{destination}
 use Rattle.operand_texts.proofs.ReadLaws.{second-alone}
 use Rattle.operand_texts.proofs.destination_at.Statement.{statement}
 use Rattle.operand_texts.proofs.destination_at.Tie as tie

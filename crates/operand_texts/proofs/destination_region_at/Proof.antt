@@ -2,7 +2,7 @@
 use borrow.Author.Needs.{needs}
 use borrow.Author.Tests.{lt-ltb, le-ltb}
 use Rattle.formats.specs.Format.{pair, through, blank}
-use Rattle.operand_texts.specs.Region.{destinationRegion, widthAndStride}
+use Rattle.operand_texts.specs.mirror.Region.{destinationRegion, widthAndStride}
 use Rattle.operand_texts.proofs.BoundLaws.{first-bound, width-bound, behind-bound}
 use Rattle.operand_texts.proofs.destination_region_at.Statement.{statement}
 use Rattle.operand_texts.proofs.destination_region_at.Tie as tie

@@ -1,8 +1,8 @@
 -- `operand_texts::general_at` meets its contract: at each return, what the calls and tests on the way say picks the case of `Operand`.
 use borrow.Author.Needs.{needs}
 use Rattle.formats.specs.Format.{pair, through}
-use Rattle.operand_texts.specs.General.{general, generalParts}
-use Rattle.operand_texts.specs.Operand.{generalOperand}
+use Rattle.operand_texts.specs.mirror.General.{general, generalParts}
+use Rattle.operand_texts.specs.mirror.Operand.{generalOperand}
 use Rattle.operand_texts.proofs.BoundLaws.{index-bound, row-bound, column-bound}
 use Rattle.operand_texts.proofs.general_at.Statement.{statement}
 use Rattle.operand_texts.proofs.general_at.Tie as tie

@@ -3,7 +3,7 @@ use mathlib.Core.Path.{sym}
 use borrow.Author.Needs.{needs}
 use borrow.Author.Tests.{eq-eqb, ne-eqb}
 use Rattle.formats.specs.Format.{pair, through}
-use Rattle.operand_texts.specs.Operand.{source, formed, immediateOperand}
+use Rattle.operand_texts.specs.mirror.Operand.{source, formed, immediateOperand}
 use Rattle.operand_texts.proofs.ReadLaws.{second-alone}
 use Rattle.operand_texts.proofs.source_at.Statement.{statement}
 use Rattle.operand_texts.proofs.source_at.Tie as tie

@@ -1,7 +1,7 @@
 -- `operand_texts::source_region_at` meets its contract: at each return, what the calls and tests on the way say picks the case of `Region`.
 use borrow.Author.Needs.{needs}
 use Rattle.formats.specs.Format.{pair, through}
-use Rattle.operand_texts.specs.Region.{sourceRegion}
+use Rattle.operand_texts.specs.mirror.Region.{sourceRegion}
 use Rattle.operand_texts.proofs.BoundLaws.{vertical-bound, width-bound, stride-bound}
 use Rattle.operand_texts.proofs.source_region_at.Statement.{statement}
 use Rattle.operand_texts.proofs.source_region_at.Tie as tie

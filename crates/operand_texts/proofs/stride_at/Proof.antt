@@ -1,6 +1,6 @@
 -- `operand_texts::stride_at` meets its contract: at each return, what the calls and tests on the way say picks the case of `Region`.
 use borrow.Author.Needs.{needs}
-use Rattle.operand_texts.specs.Region.{strideBehind}
+use Rattle.operand_texts.specs.mirror.Region.{strideBehind}
 use Rattle.operand_texts.proofs.stride_at.Statement.{statement}
 use Rattle.operand_texts.proofs.stride_at.Tie as tie
 

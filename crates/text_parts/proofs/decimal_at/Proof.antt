@@ -2,7 +2,7 @@
 use borrow.Author.Needs.{needs}
 use Rattle.formats.specs.Format.{pair, through}
 use Rattle.formats.specs.Words.{after}
-use Rattle.text_parts.specs.Fields.{decimal}
+use Rattle.text_parts.specs.mirror.Fields.{decimal}
 use Rattle.text_parts.proofs.decimal_at.Statement.{statement}
 use Rattle.text_parts.proofs.decimal_at.Tie as tie
 

@@ -2,7 +2,7 @@
 use borrow.Author.Needs.{needs}
 use Rattle.formats.specs.Format.{pair, through}
 use Rattle.formats.specs.Words.{before, after}
-use Rattle.text_parts.specs.Fields.{hexadecimal}
+use Rattle.text_parts.specs.mirror.Fields.{hexadecimal}
 use Rattle.text_parts.proofs.hexadecimal_at.Statement.{statement}
 use Rattle.text_parts.proofs.hexadecimal_at.Tie as tie
 

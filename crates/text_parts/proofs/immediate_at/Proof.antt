@@ -1,7 +1,7 @@
 -- `text_parts::immediate_at` meets its contract: at each return, what the calls and tests on the way say picks the case of `Immediate`.
 use borrow.Author.Needs.{needs}
 use Rattle.formats.specs.Format.{pair, through}
-use Rattle.text_parts.specs.Immediate.{immediate, immediateParts}
+use Rattle.text_parts.specs.mirror.Immediate.{immediate, immediateParts}
 use Rattle.text_parts.proofs.BoundLaws.{type-bound}
 use Rattle.text_parts.proofs.immediate_at.Statement.{statement}
 use Rattle.text_parts.proofs.immediate_at.Tie as tie

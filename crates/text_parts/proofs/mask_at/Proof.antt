@@ -2,7 +2,7 @@
 use borrow.Author.Needs.{needs}
 use Rattle.formats.specs.Format.{pair, through}
 use Rattle.formats.specs.Words.{before}
-use Rattle.text_parts.specs.Exec.{mask, maskParts}
+use Rattle.text_parts.specs.mirror.Exec.{mask, maskParts}
 use Rattle.text_parts.proofs.BoundLaws.{mask-number-bound, mask-ending-bound}
 use Rattle.text_parts.proofs.mask_at.Statement.{statement}
 use Rattle.text_parts.proofs.mask_at.Tie as tie

@@ -3,7 +3,7 @@ use native.Mathlib.Nat.{pos-of-ne-zero}
 use borrow.Author.Needs.{needs}
 use borrow.Author.Tests.{eq-eqb, ne-eqb}
 use Rattle.formats.specs.Format.{pair, through, blank}
-use Rattle.text_parts.specs.Predicate.{predicate, idAndEnding}
+use Rattle.text_parts.specs.mirror.Predicate.{predicate, idAndEnding}
 use Rattle.text_parts.proofs.BoundLaws.{opening-bound, id-bound, ending-bound}
 use Rattle.text_parts.proofs.predicate_at.Statement.{statement}
 use Rattle.text_parts.proofs.predicate_at.Tie as tie

@@ -2,7 +2,7 @@
 use borrow.Author.Needs.{needs}
 use Rattle.formats.specs.Format.{pair, through}
 use Rattle.formats.specs.Words.{before}
-use Rattle.text_parts.specs.Raw.{raw, rawParts}
+use Rattle.text_parts.specs.mirror.Raw.{raw, rawParts}
 use Rattle.text_parts.proofs.BoundLaws.{index-bound, offset-bound}
 use Rattle.text_parts.proofs.raw_at.Statement.{statement}
 use Rattle.text_parts.proofs.raw_at.Tie as tie

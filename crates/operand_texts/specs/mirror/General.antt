@@ -5,8 +5,8 @@ use lib.Dec.{leb}
 use Rattle.formats.specs.Text.{text}
 use Rattle.formats.specs.Format.{Format, pair, through}
 use Rattle.field_groups.specs.declared.General.{General}
-use Rattle.text_parts.specs.Fields.{decimal}
-use Rattle.operand_texts.specs.Region.{regionFits}
+use Rattle.text_parts.specs.mirror.Fields.{decimal}
+use Rattle.operand_texts.specs.mirror.Region.{regionFits}
 
 abbrev pub generalTo : ℕ × (ℕ × (ℕ × ℕ)) → General
 generalTo v = record { index = v .0; row = v .1 .0; column = v .1 .1 .0; region = v .1 .1 .1 }

@@ -12,11 +12,11 @@ use Rattle.field_groups.specs.declared.Operand.{Operand}
 use Rattle.field_groups.specs.declared.Operand.the-variants as operand
 use Rattle.decoder.specs.declared.Instruction.{Instruction}
 use Rattle.decoder.specs.declared.Instruction.the-variants as instruction
-use Rattle.text_parts.specs.Exec.{execFits, exec, scatterExecFits, scatterExec}
-use Rattle.text_parts.specs.Fields.{decimal, hexadecimal}
-use Rattle.text_parts.specs.Raw.{rawFits, raw}
-use Rattle.operand_texts.specs.Operand.{generalOperandFits, operandFits, source, destination}
-use Rattle.lines.specs.Braces.{gatherBracesFit, gatherBraces, scatterBraces}
+use Rattle.text_parts.specs.mirror.Exec.{execFits, exec, scatterExecFits, scatterExec}
+use Rattle.text_parts.specs.mirror.Fields.{decimal, hexadecimal}
+use Rattle.text_parts.specs.mirror.Raw.{rawFits, raw}
+use Rattle.operand_texts.specs.mirror.Operand.{generalOperandFits, operandFits, source, destination}
+use Rattle.lines.specs.mirror.Braces.{gatherBracesFit, gatherBraces, scatterBraces}
 
 abbrev pub space : List ℕ
 space = text " |"

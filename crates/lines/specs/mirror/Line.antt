@@ -8,8 +8,8 @@ use Rattle.formats.specs.Format.{Format, pair, through}
 use Rattle.formats.specs.Words.{table}
 use Rattle.decoder.specs.declared.Instruction.{Instruction}
 use Rattle.decoder.specs.declared.Instruction.the-variants as instruction
-use Rattle.text_parts.specs.Predicate.{predicateFits, predicate}
-use Rattle.lines.specs.Bodies.{shlFits, shl, gatherFits, gather, scatterFits, scatter, rawSendFits, rawSend}
+use Rattle.text_parts.specs.mirror.Predicate.{predicateFits, predicate}
+use Rattle.lines.specs.mirror.Bodies.{shlFits, shl, gatherFits, gather, scatterFits, scatter, rawSendFits, rawSend}
 
 abbrev pub names : List ℕ
 names = text "SHL |GATHER_SCALED.|SVM_SCATTER4_SCALED.|raw_send|"

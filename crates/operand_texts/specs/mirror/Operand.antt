@@ -10,9 +10,9 @@ use Rattle.field_groups.specs.declared.General.{General}
 use Rattle.field_groups.specs.declared.Immediate.{Immediate}
 use Rattle.field_groups.specs.declared.Operand.{Operand}
 use Rattle.field_groups.specs.declared.Operand.the-variants as operand
-use Rattle.text_parts.specs.Immediate.{immediateFits, immediate}
-use Rattle.operand_texts.specs.Region.{sourceRegion, destinationRegion}
-use Rattle.operand_texts.specs.General.{generalFits, general}
+use Rattle.text_parts.specs.mirror.Immediate.{immediateFits, immediate}
+use Rattle.operand_texts.specs.mirror.Region.{sourceRegion, destinationRegion}
+use Rattle.operand_texts.specs.mirror.General.{generalFits, general}
 
 -- how each form begins
 abbrev pub forms : List ℕ

@@ -7,7 +7,7 @@ use Rattle.formats.specs.Format.{Format, pair, through}
 use Rattle.formats.specs.Words.{before}
 use Rattle.formats.specs.Numbers.{number}
 use Rattle.field_groups.specs.declared.Raw.{Raw}
-use Rattle.text_parts.specs.Fields.{decimal}
+use Rattle.text_parts.specs.mirror.Fields.{decimal}
 
 abbrev pub rawTo : ℕ × ℕ → Raw
 rawTo v = record { index = v .0; offset = v .1 }
