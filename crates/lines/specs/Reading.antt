@@ -1,4 +1,5 @@
--- Reading a text: the instruction whose line it is, or the column of a 16. What it says of `lineOf` alone: Claims.antt.
+-- Reading a text: the instruction whose line it is, or a refusal's number and column. proofs/Statements.antt says what it is in the words of `lineOf`
+-- alone, of which it is the only reading.
 use Prim.Native.Nat.{ℕ, suc}
 use mathlib.Core.List.{List}
 use Rattle.formats.specs.Format.{onOut}
@@ -8,11 +9,15 @@ use Rattle.lines.specs.mirror.Line.{line}
 
 pub data Reading : Type 0 where
   isLine : Instruction → Reading
-  noLine : ℕ → Reading
+  refusedAt : ℕ → ℕ → Reading
+
+-- "16 for text that is no printed line, with the first column"
+abbrev pub noLine : ℕ → Reading
+noLine column = refusedAt 16 column
 
 unfoldable pub readingOf : List ℕ → Reading
 readingOf t = onOut (whole line t) (λ k. noLine (suc k)) (λ i e. isLine i)
 
-abbrev pub onReading {ℓ} : {X : Type ℓ} → Reading → (Instruction → X) → (ℕ → X) → X
+abbrev pub onReading {ℓ} : {X : Type ℓ} → Reading → (Instruction → X) → (ℕ → ℕ → X) → X
 onReading (isLine i) f g = f i
-onReading (noLine column) f g = g column
+onReading (refusedAt number column) f g = g number column

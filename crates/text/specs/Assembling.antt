@@ -14,10 +14,10 @@ pub data Assembly : Type 0 where
   refused : ℕ → ℕ → Assembly
 
 unfoldable pub assembledIn : ℕ → List ℕ → Assembly
-assembledIn room t = onReading (readingOf t) (λ i. onReply (encodedIn room i) (λ n. refused n 0) wrote) (λ column. refused 16 column)
+assembledIn room t = onReading (readingOf t) (λ i. onReply (encodedIn room i) (λ n. refused n 0) wrote) refused
 
 unfoldable pub assembledInto : List ℕ → List ℕ → List ℕ
-assembledInto l t = onReading (readingOf t) (λ i. encodedInto l i) (λ column. l)
+assembledInto l t = onReading (readingOf t) (λ i. encodedInto l i) (λ _ _. l)
 
 -- number and values of each case
 abbrev pub assemblyOf : Assembled → Assembly
