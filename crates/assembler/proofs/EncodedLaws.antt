@@ -19,11 +19,12 @@ use Rattle.decoder.specs.declared.Instruction.{Instruction}
 use Rattle.decoder.specs.Format.{instructionBytes, instructionRefusal}
 use Rattle.decoder.proofs.FormatLaws.{instruction-at-most}
 use Rattle.encoder.specs.Encoding.{encodedIn, encodedInto}
-use Rattle.lines.specs.Reading.{Reading, isLine, noLine, onReading, readingOf}
+use Rattle.lines.specs.Reading.{Reading, isLine, refusedAt, onReading, readingOf}
 use Rattle.lines.proofs.Statements.{read-line}
 use Rattle.lines.proofs.LongLaws.{long-text}
 use Rattle.text.specs.Assembling.{Assembly, wrote as isWrote, refused as isRefused, assembledIn, assembledInto}
-use Rattle.assembler.specs.Assembling.{lineEnd, columnLine, assembledLine}
+use Rattle.line_blocks.specs.LinesOf.{lineEnd}
+use Rattle.assembler.specs.Assembling.{columnLine, assembledLine}
 
 -- ---- how long it is
 
@@ -82,26 +83,26 @@ module _ (t l : List ℕ) (room : length l ≡ 64) where
   unfolding assembledLine assembledIn assembledInto
   wrote-line n m e p = told (readingOf t) refl e p
     where
-      told : (r : Reading) → readingOf t ≡ r → isWrote n ≡ onReading r (λ i. onReply (encodedIn (length l) i) (λ k. isRefused k 0) isWrote) (λ column. isRefused 16 column) →
-          m ≡ onReading r (λ i. encodedInto l i) (λ column. l) →
-          (hexOf (take n m) ++ lineEnd ≡ onReading r (λ i. hexOf (instructionBytes i) ++ lineEnd) columnLine) × (length (onReading r (λ i. hexOf (instructionBytes i) ++ lineEnd) columnLine) ≤ 256)
+      told : (r : Reading) → readingOf t ≡ r → isWrote n ≡ onReading r (λ i. onReply (encodedIn (length l) i) (λ k. isRefused k 0) isWrote) isRefused →
+          m ≡ onReading r (λ i. encodedInto l i) (λ _ _. l) →
+          (hexOf (take n m) ++ lineEnd ≡ onReading r (λ i. hexOf (instructionBytes i) ++ lineEnd) (λ _ column. columnLine column)) × (length (onReading r (λ i. hexOf (instructionBytes i) ++ lineEnd) (λ _ column. columnLine column)) ≤ 256)
       told (isLine i) r e p =
           let g = read-line t i r .0 .0 in
           let x : isWrote n ≡ isWrote (length (instructionBytes i)) = rw (encoded i l room g) at e in
           encoded-line i g n m (wrote-count n (length (instructionBytes i)) x) p
-      told (noLine c) r e p = not-wrote n 16 c e
+      told (refusedAt k c) r e p = not-wrote n k c e
 
   pub refused-line : (k c : ℕ) → c < 18446744073709551616 → isRefused k c ≡ assembledIn (length l) t → Put t (columnLine c)
   unfolding assembledLine assembledIn
   refused-line k c h e = told (readingOf t) refl e
     where
-      told : (r : Reading) → readingOf t ≡ r → isRefused k c ≡ onReading r (λ i. onReply (encodedIn (length l) i) (λ k. isRefused k 0) isWrote) (λ column. isRefused 16 column) →
-          (columnLine c ≡ onReading r (λ i. hexOf (instructionBytes i) ++ lineEnd) columnLine) × (length (onReading r (λ i. hexOf (instructionBytes i) ++ lineEnd) columnLine) ≤ 256)
+      told : (r : Reading) → readingOf t ≡ r → isRefused k c ≡ onReading r (λ i. onReply (encodedIn (length l) i) (λ k. isRefused k 0) isWrote) isRefused →
+          (columnLine c ≡ onReading r (λ i. hexOf (instructionBytes i) ++ lineEnd) (λ _ column. columnLine column)) × (length (onReading r (λ i. hexOf (instructionBytes i) ++ lineEnd) (λ _ column. columnLine column)) ≤ 256)
       told (isLine i) r e =
           let x : isRefused k c ≡ isWrote (length (instructionBytes i)) = rw (encoded i l room (read-line t i r .0 .0)) at e in
           not-wrote (length (instructionBytes i)) k c (sym x)
-      told (noLine d) r e =
-          let x = refused-column k c 16 d e in
+      told (refusedAt m d) r e =
+          let x = refused-column k c m d e in
           (ap columnLine x, subst (λ (n : ℕ). length (columnLine n) ≤ 256) x (column-short c h))
 
 -- as the function writes them
@@ -124,6 +125,6 @@ unfolding assembledLine
 start-assembled t = told (leb (length t) 128) refl
   where
     told : (b : Bool) → leb (length t) 128 ≡ b →
-        onReading (readingOf (take 128 t)) (λ i. hexOf (instructionBytes i) ++ lineEnd) columnLine ≡ onReading (readingOf t) (λ i. hexOf (instructionBytes i) ++ lineEnd) columnLine
+        onReading (readingOf (take 128 t)) (λ i. hexOf (instructionBytes i) ++ lineEnd) (λ _ column. columnLine column) ≡ onReading (readingOf t) (λ i. hexOf (instructionBytes i) ++ lineEnd) (λ _ column. columnLine column)
     told true e = rw (take-all 128 t (leb-true (length t) 128 e))
-    told false e = ap (λ (r : Reading). onReading r (λ i. hexOf (instructionBytes i) ++ lineEnd) columnLine) (sym (long-text t (leb-false (length t) 128 e)))
+    told false e = ap (λ (r : Reading). onReading r (λ i. hexOf (instructionBytes i) ++ lineEnd) (λ _ column. columnLine column)) (sym (long-text t (leb-false (length t) 128 e)))

@@ -15,7 +15,8 @@ use Rattle.formats.specs.Words.{words, wordAt}
 use Rattle.formats.specs.Numerals.{digits, digitsOf}
 use Rattle.formats.specs.Writing.{wrote, written}
 use Rattle.formats.proofs.WritingLaws.{wrote-then, wrote-none, wrote-inside}
-use Rattle.assembler.specs.Assembling.{lineEnd, columnLine}
+use Rattle.line_blocks.specs.LinesOf.{lineEnd}
+use Rattle.assembler.specs.Assembling.{columnLine}
 
 abbrev feed : List ℕ
 feed = 0x0a ∷ 0x7c ∷ []

@@ -1,16 +1,12 @@
 -- What the program `assembler` writes: for each line of its input, a text, the encoding of the instruction whose line it is, or where it is no line.
 use Prim.Native.Nat.{ℕ}
-use mathlib.Core.List.{List, [], _∷_, _++_, map, flatten}
+use mathlib.Core.List.{List, _++_, map, flatten}
 use Rattle.hex.specs.Bytes.{hexOf}
 use Rattle.formats.specs.Text.{text}
 use Rattle.formats.specs.Numerals.{digitsOf}
 use Rattle.decoder.specs.Format.{instructionBytes}
 use Rattle.lines.specs.Reading.{onReading, readingOf}
-use Rattle.line_blocks.specs.LinesOf.{linesOf}
-
--- a line ends in 0x0a
-abbrev pub lineEnd : List ℕ
-lineEnd = 0x0a ∷ []
+use Rattle.line_blocks.specs.LinesOf.{lineEnd, linesOf}
 
 -- `! 16 COLUMN`
 unfoldable pub columnLine : ℕ → List ℕ
@@ -18,7 +14,7 @@ columnLine column = text "! 16 " ++ (digitsOf 10 column ++ lineEnd)
 
 -- one line of input
 unfoldable pub assembledLine : List ℕ → List ℕ
-assembledLine t = onReading (readingOf t) (λ i. hexOf (instructionBytes i) ++ lineEnd) columnLine
+assembledLine t = onReading (readingOf t) (λ i. hexOf (instructionBytes i) ++ lineEnd) (λ _ column. columnLine column)
 
 unfoldable pub assemblerOutput : List ℕ → List ℕ
-assemblerOutput text = flatten (map assembledLine (linesOf text))
+assemblerOutput input = flatten (map assembledLine (linesOf input))

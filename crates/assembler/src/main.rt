@@ -8,7 +8,8 @@ ghost use Prim.Native.Nat.{_+_, _≤_, _<_};
 ghost use lib.ListN.{length};
 ghost use Rattle.hex.specs.Bytes.{hexOf};
 ghost use Rattle.formats.specs.Writing.{wrote, written};
-ghost use Rattle.assembler.specs.Assembling.{lineEnd, columnLine, assembledLine};
+ghost use Rattle.line_blocks.specs.LinesOf.{lineEnd};
+ghost use Rattle.assembler.specs.Assembling.{columnLine, assembledLine};
 ghost use Rattle.assembler.specs.mirror.Parts.{Goes, Passes};
 
 // The line of a refusal.

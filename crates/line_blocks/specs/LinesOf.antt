@@ -5,6 +5,9 @@ use mathlib.Core.List.{List, [], _∷_, _++_}
 use lib.Dec.{eqb}
 use lib.ListN.{length}
 
+abbrev pub lineEnd : List ℕ
+lineEnd = 0x0a ∷ []
+
 -- the lines of a text of whose first line some characters, with no 0x0a among them, were met before
 unfoldable pub linesFrom : List ℕ → List ℕ → List (List ℕ)
 linesFrom before [] = cond (eqb (length before) 0) [] (before ∷ [])

@@ -30,8 +30,8 @@ fn put_source_region(out: &mut [u8], at: usize, region: u16) -> usize
     formats::put_word(out, b, b"n>|0>|1>|2>|4>|8>|16>|32>|", word / 256 % 16)
 }
 
-// Which word begins a destination's region: V, or H alone where V and W are Null and H is not.
-fn first_word(word: u64) -> u64
+// How a destination's region begins, by its number in the table: V, or H alone where V and W are Null and H is not.
+fn region_opening(word: u64) -> u64
     ensures { λ r. ⌜ r ≡ destinationRegionFrom word .0 ⌝ }
 {
     if word % 256 == 0 {
@@ -49,7 +49,7 @@ fn put_destination_region(out: &mut [u8], at: usize, region: u16) -> usize
     ensures { λ r. ⌜ wrote r (now (out .exit)) ≡ written (now (out .entry)) at (destinationRegion .print region) ⌝ }
 {
     let word = region as u64;
-    let first = first_word(word);
+    let first = region_opening(word);
     let a = formats::put_word(
         out,
         at,
@@ -92,7 +92,7 @@ fn put_source(out: &mut [u8], at: usize, o: Operand) -> usize
     }
 }
 
-// No immediate is a destination; of one nothing is said.
+// No immediate is a destination: zeros stand for one, and are never printed.
 fn as_general(o: Operand) -> General
     ensures { λ r. ⌜ r ≡ asGeneral o ⌝ }
 {

@@ -27,7 +27,7 @@ use Rattle.lines.specs.declared.LineRead.the-variants as line-read
 use Rattle.lines.specs.mirror.Braces.{scaleBehind}
 use Rattle.lines.specs.mirror.Bodies.{space, blocks, letters, sendEndings}
 use Rattle.lines.specs.mirror.Line.{line}
-use Rattle.lines.specs.Told.{toldLine}
+use Rattle.lines.specs.mirror.Pieces.{toldLine}
 use Rattle.lines.proofs.EndLaws.{goesOn}
 use Rattle.lines.proofs.BracesLaws.{scale-behind-lawful, scale-behind-under}
 use Rattle.lines.proofs.LineLaws.{line-lawful}

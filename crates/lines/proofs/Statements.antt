@@ -8,10 +8,16 @@ use Prim.Native.Nat.{ℕ, suc, _+_, _-_, _≤_, _<_}
 use native.Mathlib.Omega.{arith}
 use lib.ListN.{length, take, drop, take-append-drop}
 use lib.Seq.{take-take}
+use Rattle.little_endian.specs.LittleEndian.{Bytes}
+use Rattle.little_endian.proofs.Parts.{bytes-before, bytes-drop}
+use Rattle.reader.specs.Reply.{got as got-at}
 use Rattle.formats.specs.Format.{Out, got, stop, onOut}
 use Rattle.formats.specs.Whole.{whole, Viable, Column}
 use Rattle.formats.proofs.WholeLaws.{print-read, read-print, read-column}
 use Rattle.decoder.specs.declared.Instruction.{Instruction}
+use Rattle.decoder.specs.Decoding.{instructionAt}
+use Rattle.decoder.specs.Format.{instructionBytes, instructionRefusal}
+use Rattle.decoder.proofs.DecodeEncode.{decode-encode}
 use Rattle.lines.specs.mirror.Line.{lineFits, line}
 use Rattle.lines.specs.LineOf.{lineOf}
 use Rattle.lines.specs.Reading.{Reading, isLine, noLine, readingOf, onReading}
@@ -60,6 +66,13 @@ one-line i j e f p = same-line i j (sym (line-read i e) ∙ ap readingOf p ∙ l
 -- a bound for buffers
 pub line-length : (i : Instruction) → Encodes i → length (lineOf i) ≤ 123
 line-length i e = let h = encodes-fits i (e .0) (e .1) in rw (← line-prints i h) (line-below .most i (rw (line-good i) h))
+
+-- whatever decodes has a line
+pub decoded-line : (kernel : List ℕ) (at : ℕ) (i : Instruction) (next : ℕ) → Bytes kernel → instructionAt kernel at ≡ got-at i next → Encodes i
+unfolding instructionBytes instructionRefusal
+decoded-line kernel at i next b e =
+    let p = decode-encode kernel at i next b e in
+    (p .good, bytes-before (instructionBytes i) (drop next kernel) (subst Bytes (p .passed .bytes) (bytes-drop at kernel b)))
 
 -- ---- the column
 

@@ -27,8 +27,8 @@ ghost use Rattle.lines.specs.mirror.Braces.{scaleBehind, gatherBraces, s
 ghost use Rattle.lines.specs.mirror.Bodies.{space, shl, scalarAndRaws, surface, gather, scatter, message, rawSend};
 ghost use Rattle.lines.specs.mirror.Line.{body, line};
 ghost use Rattle.lines.specs.Reading.{readingOf};
-ghost use Rattle.lines.specs.Told.{toldLine, toldText};
-ghost use Rattle.lines.specs.mirror.Pieces.{toldBraces, toldScalarAndRaws, toldMessage};
+ghost use Rattle.lines.specs.Told.{toldText};
+ghost use Rattle.lines.specs.mirror.Pieces.{toldBraces, toldScalarAndRaws, toldMessage, toldLine};
 
 // Block_size and Scale.
 enum BracesRead {
@@ -46,7 +46,7 @@ enum MessageRead {
     Stop(usize),
 }
 
-pub enum LineRead {
+enum LineRead {
     Got(Instruction, Cursor),
     Stop(usize),
 }
@@ -385,7 +385,7 @@ fn body_at(text: &[u8], c: Cursor, pred: u16, name: u64) -> LineRead
 }
 
 // The line that begins at a position of a text.
-pub fn line_at(text: &[u8], c: Cursor) -> LineRead
+fn line_at(text: &[u8], c: Cursor) -> LineRead
     ensures { λ r. ⌜ toldLine r ≡ line .read (now (text .entry)) (c .at) ⌝ }
 {
     match text_parts::predicate_at(text, c) {

@@ -21,8 +21,9 @@ use Rattle.decoder.specs.Decoding.{instructionAt}
 use Rattle.decoder.proofs.Laws.{accepted-within}
 use Rattle.lines.specs.mirror.Line.{line}
 use Rattle.lines.specs.LineOf.{lineOf}
-use Rattle.listing.specs.Listing.{lineEnd, refusalLine, stepText, stepNext, steps, listedFrom}
-use Rattle.listing.proofs.DecodedLaws.{decoded-line}
+use Rattle.line_blocks.specs.LinesOf.{lineEnd}
+use Rattle.listing.specs.Listing.{refusalLine, stepText, stepNext, steps, listedFrom}
+use Rattle.listing.proofs.DecodedLaws.{decoded-prints}
 
 -- ---- written piece by piece
 
@@ -63,7 +64,7 @@ pub step-accepted : (kernel l m : List ℕ) (at used e next : ℕ) (i : Instruct
     wrote e m ≡ written l used (line .print i ++ lineEnd) → Stepped kernel at l used e m next
 unfolding stepText stepNext
 step-accepted kernel l m at used e next i b d p =
-    let k = decoded-line kernel at i next b d in
+    let k = decoded-prints kernel at i next b d in
     let f = k .1 in
     rw d (
       p ∙ ap (λ (t : List ℕ). written l used (t ++ lineEnd)) (k .0),

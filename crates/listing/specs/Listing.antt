@@ -1,7 +1,7 @@
 -- What the program `listing` writes: for each line of its input, a kernel in lower-case hex, the lines of its instructions.
 use Prim.Native.Nat.{ℕ, zero, suc}
 use mathlib.Core.Bool.{Bool, cond, _&&_, _||_}
-use mathlib.Core.List.{List, [], _∷_, _++_, map, flatten}
+use mathlib.Core.List.{List, [], _++_, map, flatten}
 use lib.Dec.{ltb, leb, eqb}
 use lib.ListN.{length}
 use Rattle.hex.specs.Bytes.{isHex, hexBytes}
@@ -10,11 +10,7 @@ use Rattle.formats.specs.Numerals.{digitsOf}
 use Rattle.reader.specs.Reply.{onReply}
 use Rattle.decoder.specs.Decoding.{instructionAt}
 use Rattle.lines.specs.LineOf.{lineOf}
-use Rattle.line_blocks.specs.LinesOf.{linesOf}
-
--- a line ends in 0x0a
-abbrev pub lineEnd : List ℕ
-lineEnd = 0x0a ∷ []
+use Rattle.line_blocks.specs.LinesOf.{lineEnd, linesOf}
 
 -- `! NUMBER POSITION`
 unfoldable pub refusalLine : ℕ → ℕ → List ℕ
@@ -46,4 +42,4 @@ unfoldable pub listed : List ℕ → List ℕ
 listed line = cond (isKernel line) (listedFrom (hexBytes line) 0) (refusalLine 14 0)
 
 unfoldable pub listingOutput : List ℕ → List ℕ
-listingOutput text = flatten (map listed (linesOf text))
+listingOutput input = flatten (map listed (linesOf input))

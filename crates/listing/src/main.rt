@@ -10,8 +10,9 @@ ghost use lib.Dec.{ltb};
 ghost use lib.ListN.{length, take};
 ghost use Rattle.formats.specs.Writing.{wrote, written};
 ghost use Rattle.lines.specs.mirror.Line.{line};
+ghost use Rattle.line_blocks.specs.LinesOf.{lineEnd};
 ghost use Rattle.line_blocks.specs.mirror.Rows.{row};
-ghost use Rattle.listing.specs.Listing.{lineEnd, refusalLine, stepText, stepNext, listedFrom};
+ghost use Rattle.listing.specs.Listing.{refusalLine, stepText, stepNext, listedFrom};
 ghost use Rattle.listing.specs.mirror.Parts.{isKernelIn, kernelIn, rowListed, Goes, Passes};
 
 // The line of a refusal.
@@ -119,7 +120,7 @@ fn list_step(block: &[u8], line: &[u8], kernel: &[u8], out: &mut [u8], s: State)
     }
 }
 
-// The kernel at hand, how many bytes it has, and how much of the output buffer is used.
+// How many bytes the kernel at hand has, and how much of the output buffer is used.
 struct Taken {
     size: usize,
     out: usize,

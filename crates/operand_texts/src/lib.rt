@@ -69,7 +69,7 @@ fn stride_at(text: &[u8], c: Cursor, v: u64, w: u64) -> NumberRead
     }
 }
 
-// The region's word of H alone, where `first` is its number among a destination's first words.
+// The region's word of H alone, where `first` is the number in the table of what begins a destination's region.
 fn stride_word(first: u64) -> u16
     requires { ⌜ (8 ≤ first) × (first < 15) ⌝ }
     ensures { λ r. ⌜ r ≡ 256 * (first - 7) ⌝ }

@@ -20,7 +20,7 @@ ghost use Rattle.text_parts.specs.mirror.Immediate.{typeBehind, placeOf, immedi
 fn put_ending(out: &mut [u8], at: usize, opening: u64, id: u64, end: u64) -> usize
     ensures { λ r. ⌜ wrote r (now (out .exit)) ≡ written (now (out .entry)) at (ending opening id .print end) ⌝ }
 {
-    if text_parts::is_plain_first(opening, id) {
+    if text_parts::is_p0(opening, id) {
         formats::put_word(out, at, b".any) |.all) |", end)
     } else {
         formats::put_word(out, at, b".any) |.all) |) |", end)

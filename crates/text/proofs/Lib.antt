@@ -1,4 +1,5 @@
 pub mod PrintingLaws
 pub mod AssemblingLaws
 pub mod RefusedAlike
+pub mod ReadBack
 pub mod Worked

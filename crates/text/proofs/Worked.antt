@@ -6,7 +6,7 @@ use lib.ListN.{replicate}
 use Rattle.little_endian.specs.LittleEndian.{bytesOf}
 use Rattle.element_types.specs.Types.{sizeOf, isListed, hasHighWord}
 use Rattle.hex.specs.Digits.{characterOf}
-use Rattle.reader.specs.Reply.{Reply, refused, onReply}
+use Rattle.reader.specs.Reply.{Reply, refused, done, onReply}
 use Rattle.channels.specs.Bits.{bit, bitField}
 use Rattle.channels.specs.Exec.{execReserved, execSize, maskControl, maskNumber, noMask}
 use Rattle.channels.specs.Predicate.{hasPredicate, predicateCombine, predicateReserved}
@@ -65,6 +65,10 @@ unfoldable printed : Instruction → ℕ → Reply ℕ
 unfolding printedIn instructionRefusal instructionFields shlFields controlFields operandFields highField layoutRefusal fieldRefusal byteRefusal wordRefusal judged execGood predicateGood regionGood classGood tagGood tagRefusal execReserved predicateReserved predicateCombine isListed hasHighWord sizeOf lineOf shlLine predicateText hasPredicate execText maskNumber maskControl noMask execSize bit bitField digits characterOf codeText regionText destinationRegionText generalText operandText destinationText immediateText typeText
 printed i room = printedIn room i
 
+room-answers : (printed first 42 ≡ refused 15) × (printed first 43 ≡ done 43) × (printed first 50 ≡ done 43)
+unfolding printed
+room-answers = (refl, refl, refl)
+
 -- into no room with one field changed: the field's number comes first; with none changed 15
 fields-first : (printed (shift 6 0 (variable 1 0x0200) 2 0) 0 ≡ refused 3) × (printed (shift 3 0x1000 (variable 1 0x0200) 2 0) 0 ≡ refused 3) × (printed (shift 3 0 (operand.Immediate (record { code = 2; low = 1; high = 0 })) 2 0) 0 ≡ refused 4) × (printed (shift 3 0 (variable 1 0x8000) 2 0) 0 ≡ refused 3) × (printed (shift 3 0 (variable 1 0x0200) 6 0) 0 ≡ refused 3) × (printed (shift 3 0 (variable 1 0x0200) 2 1) 0 ≡ refused 3) × (printed first 0 ≡ refused 15)
 unfolding printed
@@ -73,11 +77,11 @@ fields-first = (refl, refl, refl, refl, refl, refl, refl)
 -- what a reading comes to in a room
 unfoldable into : ℕ → Reading → Assembly
 unfolding encodedIn instructionBytes instructionRefusal instructionFields shlFields controlFields operandFields highField layoutBytes layoutRefusal fieldBytes fieldRefusal bytesOf byteRefusal wordRefusal judged execGood predicateGood regionGood classGood tagGood tagRefusal execReserved predicateReserved predicateCombine bit bitField isListed hasHighWord sizeOf
-into room r = onReading r (λ i. onReply (encodedIn room i) (λ n. not-read n 0) wrote) (λ column. not-read 16 column)
+into room r = onReading r (λ i. onReply (encodedIn room i) (λ n. not-read n 0) wrote) not-read
 
 assembled-is : (room : ℕ) (t : List ℕ) (r : Reading) → reading t ≡ r → assembledIn room t ≡ into room r
 unfolding assembledIn into
-assembled-is room t r e = ap (λ (x : Reading). onReading x (λ i. onReply (encodedIn room i) (λ n. not-read n 0) wrote) (λ column. not-read 16 column)) (sym (reading-is t) ∙ e)
+assembled-is room t r e = ap (λ (x : Reading). onReading x (λ i. onReply (encodedIn room i) (λ n. not-read n 0) wrote) not-read) (sym (reading-is t) ∙ e)
 
 -- one byte short; an exact fit; no room for a text that is no line
 read-rooms : (assembledIn 23 line ≡ not-read 15 0) × (assembledIn 24 line ≡ wrote 24) × (assembledIn 0 (text "SHL") ≡ not-read 16 4)

@@ -171,8 +171,8 @@ predicate-lawful = through-lawful (pair-lawful openings-lawful id-and-ending-law
 
 -- ---- the test of the code
 
-pub plain-first : (opening id : ℕ) → opening ≡ 1 → eqb id 0 ≡ (eqb opening 1 && eqb id 0)
-plain-first opening id e = rw (eq-eqb opening 1 e)
+pub p0 : (opening id : ℕ) → opening ≡ 1 → eqb id 0 ≡ (eqb opening 1 && eqb id 0)
+p0 opening id e = rw (eq-eqb opening 1 e)
 
-pub not-plain-first : (opening id : ℕ) → (opening ≡ 1 → ⊥) → false ≡ (eqb opening 1 && eqb id 0)
-not-plain-first opening id n = rw (ne-eqb opening 1 n)
+pub not-p0 : (opening id : ℕ) → (opening ≡ 1 → ⊥) → false ≡ (eqb opening 1 && eqb id 0)
+not-p0 opening id n = rw (ne-eqb opening 1 n)

@@ -37,7 +37,7 @@ pub enum ImmediateRead {
 }
 
 // Whether a predicate that opens so and has this id would be the word 0, if it ended at once.
-pub fn is_plain_first(opening: u64, id: u64) -> bool
+pub fn is_p0(opening: u64, id: u64) -> bool
     ensures { λ r. ⌜ r ≡ (eqb opening 1 && eqb id 0) ⌝ }
 {
     if opening == 1 { id == 0 } else { false }
@@ -47,7 +47,7 @@ pub fn is_plain_first(opening: u64, id: u64) -> bool
 fn ending_at(text: &[u8], c: Cursor, opening: u64, id: u64) -> NumberRead
     ensures { λ r. ⌜ told r ≡ ending opening id .read (now (text .entry)) (c .at) ⌝ }
 {
-    if is_plain_first(opening, id) {
+    if is_p0(opening, id) {
         c.one_of(text, b".any) |.all) |")
     } else {
         c.one_of(text, b".any) |.all) |) |")

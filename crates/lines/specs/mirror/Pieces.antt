@@ -1,4 +1,4 @@
--- What the answers for the pieces of a line tell: values with the position past their text, or the position at which reading stops.
+-- What the answers for a line and its pieces tell: values with the position past their text, or the position at which reading stops.
 use Prim.Native.Nat.{ℕ}
 use Rattle.formats.specs.Format.{Out, got, stop}
 use Rattle.field_groups.specs.declared.Operand.{Operand}
@@ -9,6 +9,9 @@ use Rattle.lines.specs.declared.ScalarAndRawsRead.{ScalarAndRawsRead}
 use Rattle.lines.specs.declared.ScalarAndRawsRead.the-variants as scalar-and-raws
 use Rattle.lines.specs.declared.MessageRead.{MessageRead}
 use Rattle.lines.specs.declared.MessageRead.the-variants as message
+use Rattle.decoder.specs.declared.Instruction.{Instruction}
+use Rattle.lines.specs.declared.LineRead.{LineRead}
+use Rattle.lines.specs.declared.LineRead.the-variants as line
 
 abbrev pub toldBraces : BracesRead → Out (ℕ × ℕ)
 toldBraces (braces.Got size scale c) = got (size, scale) (c .at)
@@ -21,3 +24,7 @@ toldScalarAndRaws (scalar-and-raws.Stop k) = stop k
 abbrev pub toldMessage : MessageRead → Out (ℕ × (ℕ × ℕ))
 toldMessage (message.Got m c) = got (m .extended, (m .«num_src», m .«num_dst»)) (c .at)
 toldMessage (message.Stop k) = stop k
+
+abbrev pub toldLine : LineRead → Out Instruction
+toldLine (line.Got i c) = got i (c .at)
+toldLine (line.Stop k) = stop k

@@ -7,10 +7,10 @@ use Rattle.part_writers.proofs.put_ending.Statement.{statement}
 use Rattle.part_writers.proofs.put_ending.Tie as tie
 
 returns : tie.Need-returns
-returns c = c .before .before .put-word .ensures ∙ ap (written _ _) (sym (group-ending _ _ _ _ (c .before .before .before .before .before .before .is-plain-first .ensures) (c .before .before .before .before .before .if1 .taken)))
+returns c = c .before .before .put-word .ensures ∙ ap (written _ _) (sym (group-ending _ _ _ _ (c .before .before .before .before .before .before .is-p0 .ensures) (c .before .before .before .before .before .if1 .taken)))
 
 returns-2 : tie.Need-returns-2
-returns-2 c = c .before .before .put-word2 .ensures ∙ ap (written _ _) (sym (any-ending _ _ _ _ (c .before .before .before .before .before .before .is-plain-first .ensures) (c .before .before .before .before .before .if1 .left)))
+returns-2 c = c .before .before .put-word2 .ensures ∙ ap (written _ _) (sym (any-ending _ _ _ _ (c .before .before .before .before .before .before .is-p0 .ensures) (c .before .before .before .before .before .if1 .left)))
 
 pub put-ending-spec : {M : Type 1} → statement M
 put-ending-spec = tie.close (tie.spec (λ c κs. search needs) (λ c. search needs) (λ c κs. search needs) (λ c. search needs) (λ c κs. search needs) (λ c. search needs) returns (λ c. search needs) returns-2)

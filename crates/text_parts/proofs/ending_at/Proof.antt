@@ -9,14 +9,14 @@ unfolding ending
 returns c =
     let a = c .before .before in
     let b = a .before in
-    rw (← b .is-plain-first .ensures, a .if1 .taken, ← c .one-of .ensures)
+    rw (← b .is-p0 .ensures, a .if1 .taken, ← c .one-of .ensures)
 
 returns-2 : tie.Need-returns-2
 unfolding ending
 returns-2 c =
     let a = c .before .before in
     let b = a .before in
-    rw (← b .is-plain-first .ensures, a .if1 .left, ← c .one-of2 .ensures)
+    rw (← b .is-p0 .ensures, a .if1 .left, ← c .one-of2 .ensures)
 
 pub ending-at-spec : {M : Type 1} → statement M
 ending-at-spec = tie.close (tie.spec (λ c κs. search needs) (λ c. search needs) (λ c κs. search needs) (λ c. search needs) (λ c κs. search needs) returns returns-2)
