@@ -1,6 +1,7 @@
-// What decoder and encoder answer, written out.
+// What is answered for a kernel and for an instruction of numbers: decoding, encoding, printing and reading, written out.
 use crate::built;
 use crate::output;
+use crate::texts;
 use decoder::Decoded;
 use decoder::Instruction;
 use encoder::Encoded;
@@ -8,14 +9,8 @@ use encoder::Encoded;
 // The encoder's answer for this buffer, and the whole buffer after it.
 fn encode_into(instruction: Instruction, buffer: &mut [u8]) {
     match encoder::encode(instruction, buffer) {
-        Encoded::Wrote(count) => {
-            output::text(b" wrote ");
-            output::number(count);
-        }
-        Encoded::Refused(number) => {
-            output::text(b" refused ");
-            output::number(output::wide(number));
-        }
+        Encoded::Wrote(count) => output::answer(b" wrote ", count),
+        Encoded::Refused(number) => output::refused(number),
     }
     output::bytes(buffer);
 }
@@ -43,23 +38,26 @@ fn encode_again(instruction: Instruction, size: usize) {
     encode(instruction, more);
 }
 
-// The number of decoding at the start, the instruction's own bytes, and encoding what was decoded.
-pub(crate) fn decode_and_encode(kernel: &[u8]) {
+// The number of decoding at the start, the instruction's own bytes, and encoding, printing and reading what was decoded.
+pub(crate) fn of_kernel(kernel: &[u8]) {
     output::number(output::wide(decoder::decode_number(kernel, 0)));
     output::bytes(decoder::own_bytes(kernel, 0));
     match decoder::decode(kernel, 0) {
         Decoded::Accepted(instruction, cursor) => {
             encode_again(instruction, cursor.at);
+            texts::print_and_read(instruction, cursor.at);
         }
         Decoded::Refused(_) => {}
     }
     output::text(b"\n");
 }
 
-// Encoding the instruction of these numbers.
-pub(crate) fn encode_built(numbers: &[u8]) {
+// Encoding and printing the instruction of these numbers.
+pub(crate) fn of_numbers(numbers: &[u8]) {
     let room = output::wide(built::byte(numbers, 0));
+    let instruction = built::instruction(numbers);
     output::text(b"=");
-    encode(built::instruction(numbers), room);
+    encode(instruction, room);
+    texts::print_alone(instruction);
     output::text(b"\n");
 }

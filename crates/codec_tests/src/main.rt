@@ -1,8 +1,9 @@
-// The codec's tests: each kernel of standard input is decoded, and encoded again where it is accepted. The first lines of the
-// file `stdin` say how lines are read and written.
+// The codec's tests: each kernel of standard input is decoded; where it is accepted it is encoded again and printed, and its line
+// is read. The first lines of the file `stdin` say how lines are read and written.
 mod answers;
 mod built;
 mod output;
+mod texts;
 
 ghost use mathlib.Core.Path.{_≡_};
 ghost use Prim.Native.Nat.{_≤_, _<_};
@@ -43,13 +44,13 @@ fn answer_kernel(line: &[u8]) {
     let count = line.len() / 2;
     let kernel = kernel_of(line);
     if count <= 64 {
-        answers::decode_and_encode(&kernel[..count]);
+        answers::of_kernel(&kernel[..count]);
     }
 }
 
 fn answer_built(line: &[u8]) {
     let numbers = kernel_of(line);
-    answers::encode_built(&numbers);
+    answers::of_numbers(&numbers);
 }
 
 fn answer_line(line: &[u8]) {
@@ -88,7 +89,7 @@ fn answer_lines(text: &[u8]) {
 }
 
 fn main() {
-    let mut text = [0u8; 131072];
+    let mut text = [0u8; 65536];
     let count = io::read_full(0, &mut text);
     answer_lines(&text[..count]);
 }
