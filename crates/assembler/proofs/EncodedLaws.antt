@@ -19,7 +19,7 @@ use Rattle.decoder.specs.declared.Instruction.{Instruction}
 use Rattle.decoder.specs.Format.{instructionBytes, instructionRefusal}
 use Rattle.decoder.proofs.FormatLaws.{instruction-at-most}
 use Rattle.encoder.specs.Encoding.{encodedIn, encodedInto}
-use Rattle.lines.specs.Reading.{Reading, isLine, refusedAt, onReading, readingOf}
+use Rattle.lines.specs.Reading.{Reading, isLine, notRead, onReading, readingOf}
 use Rattle.lines.proofs.Statements.{read-line}
 use Rattle.lines.proofs.LongLaws.{long-text}
 use Rattle.text.specs.Assembling.{Assembly, wrote as isWrote, refused as isRefused, assembledIn, assembledInto}
@@ -90,7 +90,7 @@ module _ (t l : List ℕ) (room : length l ≡ 64) where
           let g = read-line t i r .0 .0 in
           let x : isWrote n ≡ isWrote (length (instructionBytes i)) = rw (encoded i l room g) at e in
           encoded-line i g n m (wrote-count n (length (instructionBytes i)) x) p
-      told (refusedAt k c) r e p = not-wrote n k c e
+      told (notRead k c) r e p = not-wrote n k c e
 
   pub refused-line : (k c : ℕ) → c < 18446744073709551616 → isRefused k c ≡ assembledIn (length l) t → Put t (columnLine c)
   unfolding assembledLine assembledIn
@@ -101,7 +101,7 @@ module _ (t l : List ℕ) (room : length l ≡ 64) where
       told (isLine i) r e =
           let x : isRefused k c ≡ isWrote (length (instructionBytes i)) = rw (encoded i l room (read-line t i r .0 .0)) at e in
           not-wrote (length (instructionBytes i)) k c (sym x)
-      told (refusedAt m d) r e =
+      told (notRead m d) r e =
           let x = refused-column k c m d e in
           (ap columnLine x, subst (λ (n : ℕ). length (columnLine n) ≤ 256) x (column-short c h))
 

@@ -9,15 +9,15 @@ use Rattle.lines.specs.mirror.Line.{line}
 
 pub data Reading : Type 0 where
   isLine : Instruction → Reading
-  refusedAt : ℕ → ℕ → Reading
+  notRead : ℕ → ℕ → Reading
 
 -- "16 for text that is no printed line, with the first column"
 abbrev pub noLine : ℕ → Reading
-noLine column = refusedAt 16 column
+noLine column = notRead 16 column
 
 unfoldable pub readingOf : List ℕ → Reading
 readingOf t = onOut (whole line t) (λ k. noLine (suc k)) (λ i e. isLine i)
 
 abbrev pub onReading {ℓ} : {X : Type ℓ} → Reading → (Instruction → X) → (ℕ → ℕ → X) → X
 onReading (isLine i) f g = f i
-onReading (refusedAt number column) f g = g number column
+onReading (notRead number column) f g = g number column

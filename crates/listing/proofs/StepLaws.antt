@@ -57,11 +57,11 @@ refusal-short number position h k =
 -- ---- the instruction at a position
 
 -- written, where listing goes on, and how long it is
-abbrev pub Stepped : List ℕ → ℕ → List ℕ → ℕ → ℕ → List ℕ → ℕ → Type 0
-Stepped kernel at l used e m next = (wrote e m ≡ written l used (stepText kernel at)) × ((next ≡ stepNext kernel at) × (length (stepText kernel at) ≤ 256))
+abbrev pub StepPut : List ℕ → ℕ → List ℕ → ℕ → ℕ → List ℕ → ℕ → Type 0
+StepPut kernel at l used e m next = (wrote e m ≡ written l used (stepText kernel at)) × ((next ≡ stepNext kernel at) × (length (stepText kernel at) ≤ 256))
 
 pub step-accepted : (kernel l m : List ℕ) (at used e next : ℕ) (i : Instruction) → Bytes kernel → instructionAt kernel at ≡ got i next →
-    wrote e m ≡ written l used (line .print i ++ lineEnd) → Stepped kernel at l used e m next
+    wrote e m ≡ written l used (line .print i ++ lineEnd) → StepPut kernel at l used e m next
 unfolding stepText stepNext
 step-accepted kernel l m at used e next i b d p =
     let k = decoded-prints kernel at i next b d in
@@ -72,7 +72,7 @@ step-accepted kernel l m at used e next i b d p =
     )
 
 pub step-refused : (kernel l m : List ℕ) (at used e n : ℕ) → n < 256 → at < 18446744073709551616 → instructionAt kernel at ≡ refused n →
-    wrote e m ≡ written l used (refusalLine n at) → Stepped kernel at l used e m (length kernel)
+    wrote e m ≡ written l used (refusalLine n at) → StepPut kernel at l used e m (length kernel)
 unfolding stepText stepNext
 step-refused kernel l m at used e n h k d p = rw d (p, (refl, refusal-short n at (omega (arith, h)) k))
 

@@ -19,7 +19,7 @@ use Rattle.line_blocks.proofs.TextOutLaws.{text-lines, part-out, line-out, over
 use Rattle.listing.specs.declared.State.{State}
 use Rattle.listing.specs.Listing.{refusalLine, stepText, stepNext, listedFrom, isKernel, listed, listingOutput}
 use Rattle.listing.specs.mirror.Parts.{isKernelIn, kernelIn, rowListed, whole, Goes, Passes}
-use Rattle.listing.proofs.StepLaws.{Stepped, refusal-short, listed-step, listed-over}
+use Rattle.listing.proofs.StepLaws.{StepPut, refusal-short, listed-step, listed-over}
 use Rattle.listing.proofs.LoadLaws.{Loads, not-so, take-bytes}
 
 abbrev pub state : ℕ → Bool → ℕ → ℕ → ℕ → ℕ → State
@@ -28,12 +28,12 @@ state used long size at out place = record { used = used; long = long; size = si
 -- ---- a line of the kernel at hand
 
 pub step-goes : (block line kernel part out after : List ℕ) (s : State) (e next : ℕ) → Bytes kernel → part ≡ take (s .size) kernel → s .at < length (take (s .size) kernel) →
-    s .out + 256 ≤ length out → Stepped part (s .at) out (s .out) e after next → Goes block line kernel out s line kernel after (state (s .used) (s .long) (s .size) next e (s .place))
+    s .out + 256 ≤ length out → StepPut part (s .at) out (s .out) e after next → Goes block line kernel out s line kernel after (state (s .used) (s .long) (s .size) next e (s .place))
 unfolding whole
 step-goes block line kernel part out after s e next bytes is h r stepped =
     let k = take (s .size) kernel in
     let b = take-bytes (s .size) kernel bytes in
-    let p = subst (λ (x : List ℕ). Stepped x (s .at) out (s .out) e after next) is stepped in
+    let p = subst (λ (x : List ℕ). StepPut x (s .at) out (s .out) e after next) is stepped in
     let t = stepText k (s .at) in
     let w = room-takes out t (s .out) e after (omega (arith, r, p .1 .1)) (p .0) in
     record {
