@@ -22,9 +22,10 @@ use Rattle.encoder.specs.Encoding.{encodedIn, encodedInto}
 use Rattle.lines.specs.Reading.{Reading, isLine, notRead, onReading, readingOf}
 use Rattle.lines.proofs.Statements.{read-line}
 use Rattle.lines.proofs.LongLaws.{long-text}
-use Rattle.text.specs.Assembling.{Assembly, wrote as isWrote, refused as isRefused, assembledIn, assembledInto}
+use Rattle.text.specs.Assembling.{wrote as isWrote, refused as isRefused, assembledIn, assembledInto}
+use Rattle.text.proofs.AssemblingLaws.{same-count, same-refusal, wrote-not-refused}
 use Rattle.line_blocks.specs.LinesOf.{lineEnd}
-use Rattle.assembler.specs.Assembling.{columnLine, assembledLine}
+use Rattle.assembler.specs.Assembling.{columnLine, lineFor, assembledLine}
 
 -- ---- how long it is
 
@@ -33,27 +34,6 @@ unfolding columnLine
 column-short column h = let a = digits-most column h in let b = length-append (digitsOf 10 column) lineEnd in omega (arith, a, b)
 
 -- ---- the two answers
-
-wrote-count : (n k : ℕ) → isWrote n ≡ isWrote k → n ≡ k
-wrote-count n k e = ap count e
-  where
-    count : Assembly → ℕ
-    count (isWrote m) = m
-    count (isRefused m c) = 0
-
-not-wrote : {X : Type 0} (n k c : ℕ) → isWrote n ≡ isRefused k c → X
-not-wrote n k c e = absurd (let z : _≡_ {A = ℕ} 0 1 = ap is e in omega arith)
-  where
-    is : Assembly → ℕ
-    is (isWrote m) = 0
-    is (isRefused m c) = 1
-
-refused-column : (n c k d : ℕ) → isRefused n c ≡ isRefused k d → c ≡ d
-refused-column n c k d e = ap column e
-  where
-    column : Assembly → ℕ
-    column (isWrote m) = 0
-    column (isRefused m x) = x
 
 module _ (i : Instruction) (l : List ℕ) (room : length l ≡ 64) (good : instructionRefusal i ≡ 0) where
   fits : ltb (length l) (length (instructionBytes i)) ≡ false
@@ -85,24 +65,24 @@ module _ (t l : List ℕ) (room : length l ≡ 64) where
     where
       told : (r : Reading) → readingOf t ≡ r → isWrote n ≡ onReading r (λ i. onReply (encodedIn (length l) i) (λ k. isRefused k 0) isWrote) isRefused →
           m ≡ onReading r (λ i. encodedInto l i) (λ _ _. l) →
-          (hexOf (take n m) ++ lineEnd ≡ onReading r (λ i. hexOf (instructionBytes i) ++ lineEnd) (λ _ column. columnLine column)) × (length (onReading r (λ i. hexOf (instructionBytes i) ++ lineEnd) (λ _ column. columnLine column)) ≤ 256)
+          (hexOf (take n m) ++ lineEnd ≡ lineFor r) × (length (lineFor r) ≤ 256)
       told (isLine i) r e p =
           let g = read-line t i r .0 .0 in
           let x : isWrote n ≡ isWrote (length (instructionBytes i)) = rw (encoded i l room g) at e in
-          encoded-line i g n m (wrote-count n (length (instructionBytes i)) x) p
-      told (notRead k c) r e p = not-wrote n k c e
+          encoded-line i g n m (same-count n (length (instructionBytes i)) x) p
+      told (notRead k c) r e p = wrote-not-refused n k c e
 
   pub refused-line : (k c : ℕ) → c < 18446744073709551616 → isRefused k c ≡ assembledIn (length l) t → Put t (columnLine c)
   unfolding assembledLine assembledIn
   refused-line k c h e = told (readingOf t) refl e
     where
       told : (r : Reading) → readingOf t ≡ r → isRefused k c ≡ onReading r (λ i. onReply (encodedIn (length l) i) (λ k. isRefused k 0) isWrote) isRefused →
-          (columnLine c ≡ onReading r (λ i. hexOf (instructionBytes i) ++ lineEnd) (λ _ column. columnLine column)) × (length (onReading r (λ i. hexOf (instructionBytes i) ++ lineEnd) (λ _ column. columnLine column)) ≤ 256)
+          (columnLine c ≡ lineFor r) × (length (lineFor r) ≤ 256)
       told (isLine i) r e =
           let x : isRefused k c ≡ isWrote (length (instructionBytes i)) = rw (encoded i l room (read-line t i r .0 .0)) at e in
-          not-wrote (length (instructionBytes i)) k c (sym x)
+          wrote-not-refused (length (instructionBytes i)) k c (sym x)
       told (notRead m d) r e =
-          let x = refused-column k c m d e in
+          let x = same-refusal k c m d e .1 in
           (ap columnLine x, subst (λ (n : ℕ). length (columnLine n) ≤ 256) x (column-short c h))
 
 -- as the function writes them
@@ -125,6 +105,6 @@ unfolding assembledLine
 start-assembled t = told (leb (length t) 128) refl
   where
     told : (b : Bool) → leb (length t) 128 ≡ b →
-        onReading (readingOf (take 128 t)) (λ i. hexOf (instructionBytes i) ++ lineEnd) (λ _ column. columnLine column) ≡ onReading (readingOf t) (λ i. hexOf (instructionBytes i) ++ lineEnd) (λ _ column. columnLine column)
+        lineFor (readingOf (take 128 t)) ≡ lineFor (readingOf t)
     told true e = rw (take-all 128 t (leb-true (length t) 128 e))
-    told false e = ap (λ (r : Reading). onReading r (λ i. hexOf (instructionBytes i) ++ lineEnd) (λ _ column. columnLine column)) (sym (long-text t (leb-false (length t) 128 e)))
+    told false e = ap lineFor (sym (long-text t (leb-false (length t) 128 e)))

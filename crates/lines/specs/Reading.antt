@@ -1,5 +1,5 @@
--- Reading a text: the instruction whose line it is, or a refusal's number and column. proofs/Statements.antt says what it is in the words of `lineOf`
--- alone, of which it is the only reading.
+-- Reading a text: the instruction whose line it is, or a refusal's number and column. `line-read` and `column-read` (proofs/Statements.antt) say what it
+-- is in the words of `lineOf` alone.
 use Prim.Native.Nat.{ℕ, suc}
 use mathlib.Core.List.{List}
 use Rattle.formats.specs.Format.{onOut}

@@ -5,7 +5,6 @@ use mathlib.Core.List.{List, _++_}
 use mathlib.Core.Logic.{_⊎_, inl, inr}
 use mathlib.Core.Bool.{Bool, true, false, cond}
 use Prim.Native.Nat.{ℕ, _-_, _≤_}
-use native.Mathlib.Omega.{arith}
 use lib.ListN.{length, take, drop}
 use lib.Dec.{ltb, eqb}
 use borrow.Author.Tests.{eq-eqb}
@@ -18,9 +17,10 @@ use Rattle.encoder.specs.Encoding.{encodedIn, encodedInto}
 use Rattle.encoder.proofs.RoundTrip.{decoded-encodes}
 use Rattle.lines.specs.LineOf.{lineOf}
 use Rattle.lines.specs.Claims.{Encodes}
-use Rattle.lines.specs.Reading.{Reading, isLine, noLine, onReading, readingOf}
+use Rattle.lines.specs.Reading.{onReading}
 use Rattle.lines.proofs.Statements.{line-read, read-line, decoded-line, reading-then}
-use Rattle.text.specs.Assembling.{Assembly, wrote, refused as not-read, assembledIn, assembledInto}
+use Rattle.text.specs.Assembling.{wrote, refused as not-read, assembledIn, assembledInto}
+use Rattle.text.proofs.AssemblingLaws.{same-refusal, wrote-not-refused}
 
 -- ---- a line read into a buffer is its instruction encoded there
 
@@ -38,24 +38,6 @@ decoded-printed-read s at i next b e l h =
 
 -- ---- a text that is not read, or has no room, changes nothing: 15, or 16 with a column
 
-same-refusal : (n c k d : ℕ) → not-read n c ≡ not-read k d → (n ≡ k) × (c ≡ d)
-same-refusal n c k d e = (ap number e, ap column e)
-  where
-    number : Assembly → ℕ
-    number (wrote m) = 0
-    number (not-read m x) = m
-
-    column : Assembly → ℕ
-    column (wrote m) = 0
-    column (not-read m x) = x
-
-no-wrote : {X : Type 0} (m n c : ℕ) → wrote m ≡ not-read n c → X
-no-wrote m n c e = absurd (let z : _≡_ {A = ℕ} 0 1 = ap is e in omega arith)
-  where
-    is : Assembly → ℕ
-    is (wrote m) = 0
-    is (not-read m x) = 1
-
 abbrev Refusal : ℕ → ℕ → Type 0
 Refusal n column = ((n ≡ 15) × (column ≡ 0)) ⊎ (n ≡ 16)
 
@@ -71,4 +53,4 @@ not-read-leaves t l n column =
         onReply (cond (eqb (instructionRefusal i) 0) (cond b (refused 15) (done (length (instructionBytes i)))) (refused (instructionRefusal i))) (λ k. not-read k 0) wrote ≡ not-read n column →
         (onReply (cond (eqb (instructionRefusal i) 0) (cond b (refused 15) (done (length (instructionBytes i)))) (refused (instructionRefusal i))) (λ _. l) (λ k. instructionBytes i ++ drop k l) ≡ l) × Refusal n column
     told i g true = rw (eq-eqb (instructionRefusal i) 0 g) (λ e. let x = same-refusal 15 0 n column e in (refl, inl (sym (x .0), sym (x .1))))
-    told i g false = rw (eq-eqb (instructionRefusal i) 0 g) (λ e. no-wrote (length (instructionBytes i)) n column e)
+    told i g false = rw (eq-eqb (instructionRefusal i) 0 g) (λ e. wrote-not-refused (length (instructionBytes i)) n column e)
