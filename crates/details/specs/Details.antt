@@ -1,0 +1,23 @@
+-- What an answer tells beside its number. Document 02, request 2: "name the operand by its place in field order, from 1, surfaces not counted",
+-- and "11 and 12 now carry channel and lane of the first offending pair".
+use Prim.Native.Nat.{ℕ}
+use mathlib.Core.Bool.{Bool, true, false, cond, _&&_}
+use mathlib.Core.List.{List, [], _∷_}
+use lib.Dec.{leb}
+use Rattle.details.specs.declared.Detail.{Detail}
+use Rattle.details.specs.declared.Detail.the-variants as detail
+
+-- the values that each case stands for: the operand's place, or the pair's channel and lane
+unfoldable pub valuesOf : Detail → List ℕ
+valuesOf detail.None = []
+valuesOf (detail.Operand place) = place ∷ []
+valuesOf (detail.Pair channel lane) = channel ∷ lane ∷ []
+
+unfoldable pub tells : Detail → Bool
+tells detail.None = false
+tells (detail.Operand place) = true
+tells (detail.Pair channel lane) = true
+
+-- of the numbers of an operand's tests, "6 becomes 20 to 24" and "25 alone" name the operand; 4, 5 and 7 tell nothing
+unfoldable pub operandDetail : ℕ → ℕ → Detail
+operandDetail number place = cond (leb 20 number && leb number 25) (detail.Operand place) detail.None
