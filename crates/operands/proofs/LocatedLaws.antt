@@ -19,12 +19,14 @@ use Rattle.field_groups.specs.declared.Operand.the-variants as operand
 use Rattle.regions.specs.declared.Role.{Role}
 use Rattle.regions.specs.declared.Role.the-variants as role
 use Rattle.regions.specs.declared.Variable.{Variable}
-use Rattle.regions.specs.Regions.{regionAllowed, elementOf}
+use Rattle.regions.specs.Regions.{elementOf}
+use Rattle.regions.specs.RegionRules.{regionRefusal}
 use Rattle.regions.specs.Reach.{elementsGood}
 use Rattle.regions.specs.Positions.{elementByte}
 use Rattle.regions.proofs.ReachLaws.{cond-either, elements-inside}
 use Rattle.regions.proofs.PositionLaws.{position-of, byte-of}
 use Rattle.regions.proofs.RegionLaws as regions
+use Rattle.regions.proofs.SplitLaws.{unbroken-allowed}
 use Rattle.operands.specs.declared.TypeRule.{TypeRule}
 use Rattle.operands.specs.declared.Elements.{Elements}
 use Rattle.operands.specs.declared.Located.{Located}
@@ -82,7 +84,7 @@ module _ (registers : ℕ) where
   general-fine o r lanes g v few p =
       let f = elementOf o g (sizeOf (v .code)) in
       cond-either (Fine lanes) (not (typeAllowed r (v .code))) (λ _ z. absurd (omega (arith, z)))
-      (λ _. cond-either (Fine lanes) (not (regionAllowed o (g .region) lanes)) (λ _ z. absurd (omega (arith, z)))
+      (λ _. cond-either (Fine lanes) (ltb 0 (regionRefusal o (g .region) lanes)) (λ b z. absurd (omega (arith, ltb-true 0 (regionRefusal o (g .region) lanes) b, z)))
       (λ _. cond-either (Fine lanes) (not (elementsGood v f lanes)) (λ _ z. absurd (omega (arith, z)))
       (λ e _. register-inside lanes (v .code) (elementByte (v .start) (sizeOf (v .code)) f) few
       (λ k l. rw (byte-of (v .start) (sizeOf (v .code)) f k) (element-inside registers (v .code) (v .start) (v .count) (f k) p (elements-inside v f lanes (not-false _ e) k l))))))
@@ -173,11 +175,11 @@ general-apart r lanes g v =
     let f = elementOf role.Destination g size in
     let at = position-of (elementByte (v .start) size f) in
     cond-either P (not (typeAllowed r (v .code))) (λ _ z. absurd (omega (arith, z)))
-    (λ _. cond-either P (not (regionAllowed role.Destination (g .region) lanes)) (λ _ z. absurd (omega (arith, z)))
+    (λ _. cond-either P (ltb 0 (regionRefusal role.Destination (g .region) lanes)) (λ b z. absurd (omega (arith, ltb-true 0 (regionRefusal role.Destination (g .region) lanes) b, z)))
     (λ e. cond-either P (not (elementsGood v f lanes)) (λ _ z. absurd (omega (arith, z)))
     (λ _ _. record {
       in-registers = refl;
-      each = λ j k l m. rw (at j (omega arith), at k m) (regions.destination-apart g lanes (v .start) size j k (not-false _ e) l);
+      each = λ j k l m. rw (at j (omega arith), at k m) (regions.destination-apart g lanes (v .start) size j k (unbroken-allowed role.Destination (g .region) lanes e) l);
     })))
 
 pub destination-apart : (t : Variables) (r : TypeRule) (exec : ℕ) (x : Operand) → locatedVector t role.Destination r exec x .number ≡ 0

@@ -3,7 +3,8 @@ use mathlib.Core.Path.{_≡_}
 use mathlib.Core.Bool.{Bool, cond, not}
 use Prim.Native.Nat.{ℕ, _<_}
 use native.Mathlib.Omega.{arith}
-use borrow.Author.Tests.{not-false}
+use lib.Dec.{ltb}
+use borrow.Author.Tests.{ltb-true, not-false}
 use Rattle.element_types.specs.Types.{sizeOf}
 use Rattle.channels.specs.Exec.{execSize}
 use Rattle.field_groups.specs.declared.General.{General}
@@ -14,7 +15,8 @@ use Rattle.field_groups.specs.declared.Operand.the-variants as operand
 use Rattle.regions.specs.declared.Role.{Role}
 use Rattle.regions.specs.declared.Role.the-variants as role
 use Rattle.regions.specs.declared.Variable.{Variable}
-use Rattle.regions.specs.Regions.{regionAllowed, elementOf}
+use Rattle.regions.specs.Regions.{elementOf}
+use Rattle.regions.specs.RegionRules.{regionRefusal}
 use Rattle.regions.specs.Reach.{elementsGood}
 use Rattle.regions.proofs.ReachLaws.{cond-either}
 use Rattle.operands.specs.declared.TypeRule.{TypeRule}
@@ -38,6 +40,10 @@ module _ (r : TypeRule) where
   past : (q : Bool) (n : ℕ) (l : Located) → 0 < n → Sized l → Sized (cond q (refusedOperand n) l)
   past q n l some sized = cond-either Sized q (λ _. refusal-sized n some) (λ _. sized)
 
+  -- a test whose number says whether it refuses
+  told : (n : ℕ) (l : Located) → Sized l → Sized (cond (ltb 0 n) (refusedOperand n) l)
+  told n l sized = cond-either Sized (ltb 0 n) (λ b. refusal-sized n (ltb-true 0 n b)) (λ _. sized)
+
   -- past the test of a type, elements of this type have its size
   typed : (code : ℕ) (l : Located) → (RuleSize r (sizeOf code) → Sized l) → Sized (cond (not (typeAllowed r code)) (refusedOperand 4) l)
   typed code l sized = cond-either Sized (not (typeAllowed r code)) (λ _. refusal-sized 4 (omega arith)) (λ a. sized (rule-size code r (not-false _ a)))
@@ -46,7 +52,7 @@ module _ (r : TypeRule) where
   unfolding generalOf registerElements
   general-sized o lanes g v =
       typed (v .code) _ (λ size.
-      past (not (regionAllowed o (g .region) lanes)) 6 _ (omega arith)
+      told (regionRefusal o (g .region) lanes) _
       (past (not (elementsGood v (elementOf o g (sizeOf (v .code))) lanes)) 7 _ (omega arith) (λ _. size)))
 
   immediate-sized : (i : Immediate) → Sized (immediateOf r i)

@@ -1,8 +1,8 @@
 -- One operand: refused by its tests in order, or where its elements are. Document 01, "The numbers given back":
--- "each operand in order 5, 4 (type), 6, 7".
+-- "each operand in order 5, 4 (type), 6, 7"; document 02, request 2: "6 becomes 20 to 24 .. 25 alone, in the same place".
 use Prim.Native.Nat.{ℕ, _+_, _*_, _%_, _^_}
 use mathlib.Core.Bool.{Bool, cond, not, _&&_}
-use lib.Dec.{leb, eqb}
+use lib.Dec.{ltb, leb, eqb}
 use Rattle.element_types.specs.Types.{sizeOf}
 use Rattle.channels.specs.Exec.{execSize}
 use Rattle.field_groups.specs.declared.General.{General}
@@ -13,7 +13,8 @@ use Rattle.field_groups.specs.declared.Operand.the-variants as operand
 use Rattle.regions.specs.declared.Role.{Role}
 use Rattle.regions.specs.declared.Role.the-variants as role
 use Rattle.regions.specs.declared.Variable.{Variable}
-use Rattle.regions.specs.Regions.{regionAllowed, elementOf}
+use Rattle.regions.specs.Regions.{elementOf}
+use Rattle.regions.specs.RegionRules.{regionRefusal}
 use Rattle.regions.specs.Reach.{elementsGood}
 use Rattle.regions.specs.Positions.{elementByte}
 use Rattle.operands.specs.declared.TypeRule.{TypeRule}
@@ -23,11 +24,11 @@ use Rattle.tables.specs.Variables.{Variables}
 use Rattle.operands.specs.Variables.{inTable, variableAt}
 use Rattle.operands.specs.Elements.{registerElements, immediateElement, refusedOperand}
 
--- a General operand of a variable in the table: 4, 6, 7
+-- a General operand of a variable in the table: 4, 20 to 25, 7
 unfoldable pub generalOf : Role → TypeRule → ℕ → General → Variable → Located
 generalOf role rule lanes g v =
     cond (not (typeAllowed rule (v .code))) (refusedOperand 4)
-    (cond (not (regionAllowed role (g .region) lanes)) (refusedOperand 6)
+    (cond (ltb 0 (regionRefusal role (g .region) lanes)) (refusedOperand (regionRefusal role (g .region) lanes))
     (cond (not (elementsGood v (elementOf role g (sizeOf (v .code))) lanes)) (refusedOperand 7)
     (registerElements (v .code) (elementByte (v .start) (sizeOf (v .code)) (elementOf role g (sizeOf (v .code)))))))
 

@@ -110,7 +110,7 @@ fn variable_at(types: &[u8], starts: &[u16], counts: &[u16], index: u16) -> Vari
     }
 }
 
-// 4, 6, 7 of a General operand, or its elements.
+// 4, 20 to 25, 7 of a General operand, or its elements.
 fn locate_general(
     role: Role,
     rule: TypeRule,
@@ -124,8 +124,9 @@ fn locate_general(
     if !type_allowed(rule, code) {
         return refused(4);
     }
-    if !regions::region_allowed(role, general.region, lanes) {
-        return refused(6);
+    let broken = regions::region_refusal(role, general.region, lanes);
+    if 0 < broken {
+        return refused(broken);
     }
     if !regions::elements_good(role, general, variable, lanes) {
         return refused(7);

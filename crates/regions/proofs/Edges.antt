@@ -9,13 +9,14 @@ use Rattle.field_groups.specs.declared.General.{General}
 use Rattle.regions.specs.declared.Role.{Role}
 use Rattle.regions.specs.declared.Role.the-variants as role
 use Rattle.regions.specs.declared.Variable.{Variable}
-use Rattle.regions.specs.Regions.{verticalCode, widthCode, horizontalCode, strideOf, between, sourceRegionGood, scalarRegionGood, destinationRegionGood, regionAllowed, firstElement, sourceElement, elementOf}
+use Rattle.regions.specs.Regions.{verticalCode, widthCode, horizontalCode, strideOf, between, scalarRegionGood, firstElement, sourceElement, elementOf}
+use Rattle.regions.specs.RegionRules.{isStride, standsFor, widthZeroOr32, strideOverFour, widthOverExecSize, destinationStrideZero, nullOutOfPlace, scalarRegionWrong, firstBroken, regionRefusal}
 use Rattle.regions.specs.Reach.{lowest, highest, twoRegisters, reachGood, elementsGood}
 use Rattle.regions.proofs.ReachLaws.{inside-highest}
 
--- 6, 7 or 0, by the tests of a region
+-- 20 to 25, 7 or 0, by the tests of a region
 abbrev pub regionNumber : Role → ℕ → General → Variable → ℕ
-regionNumber o lanes g v = cond (not (regionAllowed o (g .region) lanes)) 6 (cond (not (elementsGood v (elementOf o g (sizeOf (v .code))) lanes)) 7 0)
+regionNumber o lanes g v = cond (ltb 0 (regionRefusal o (g .region) lanes)) (regionRefusal o (g .region) lanes) (cond (not (elementsGood v (elementOf o g (sizeOf (v .code))) lanes)) 7 0)
 
 -- <V;W,H> by codes, from row and column 0
 abbrev pub region : ℕ → ℕ → ℕ → General
@@ -25,49 +26,71 @@ region vertical width horizontal = record { index = 0; row = 0; column = 0; regi
 abbrev pub words : ℕ → Variable
 words count = record { code = UW; start = 0; count = count }
 
--- the number for a role, its lanes, a region and so many UW; <16;8,2> with 16 lanes ends in element 30
+-- the number for a role, its lanes, a region and so many UW; <16;8,2> with 16 lanes ends in element 30, and of two rules the earlier stands
 abbrev pub Edges : (Role → ℕ → General → ℕ → ℕ) → Type 0
 Edges number =
     (number role.Source 16 (region 6 5 3) 31 ≡ 0)
     × (number role.Source 16 (region 6 5 3) 30 ≡ 7)
-    × (number role.Source 4 (region 6 5 3) 64 ≡ 6)
-    × (number role.Source 32 (region 6 7 3) 128 ≡ 6)
-    × (number role.Source 16 (region 6 5 5) 64 ≡ 6)
-    × (number role.Source 16 (region 6 0 3) 64 ≡ 6)
-    × (number role.Source 16 (region 0 5 3) 64 ≡ 6)
+    × (number role.Source 4 (region 6 5 3) 64 ≡ 22)
+    × (number role.Source 32 (region 6 7 3) 128 ≡ 20)
+    × (number role.Source 8 (region 5 7 5) 64 ≡ 20)
+    × (number role.Source 8 (region 0 1 2) 64 ≡ 20)
+    × (number role.Source 16 (region 6 5 5) 64 ≡ 21)
+    × (number role.Source 8 (region 5 6 5) 64 ≡ 21)
+    × (number role.Source 8 (region 5 0 5) 64 ≡ 21)
+    × (number role.Source 8 (region 0 6 2) 64 ≡ 22)
+    × (number role.Source 16 (region 6 0 3) 64 ≡ 24)
+    × (number role.Source 16 (region 0 5 3) 64 ≡ 24)
+    × (number role.Source 8 (region 5 5 0) 64 ≡ 24)
     × (number role.Source 2 (region 7 2 1) 64 ≡ 7)
     × (number role.Scalar 16 (region 1 2 1) 1 ≡ 0)
-    × (number role.Scalar 16 (region 1 2 2) 64 ≡ 6)
+    × (number role.Scalar 16 (region 1 2 2) 64 ≡ 25)
+    × (number role.Scalar 1 (region 5 7 5) 64 ≡ 25)
     × (number role.Destination 8 (region 0 0 2) 8 ≡ 0)
     × (number role.Destination 8 (region 0 0 2) 7 ≡ 7)
-    × (number role.Destination 8 (region 0 0 1) 8 ≡ 6)
-    × (number role.Destination 8 (region 1 0 2) 8 ≡ 6)
+    × (number role.Destination 8 (region 5 0 7) 64 ≡ 21)
+    × (number role.Destination 8 (region 0 5 1) 8 ≡ 23)
+    × (number role.Destination 8 (region 1 0 2) 8 ≡ 24)
+    × (number role.Destination 8 (region 0 7 2) 8 ≡ 24)
+    × (number role.Destination 8 (region 0 6 2) 8 ≡ 24)
+    × (number role.Destination 8 (region 0 0 0) 8 ≡ 24)
 
 -- the number by what is computed
 computed : Role → ℕ → General → ℕ → ℕ
 computed o lanes g count =
     let f = elementOf o g 2 in
-    cond (not (regionAllowed o (g .region) lanes)) 6 (cond (not ((eqb lanes 0 || ltb (highest f lanes) count) && reachGood f lanes 0 2)) 7 0)
+    cond (ltb 0 (regionRefusal o (g .region) lanes)) (regionRefusal o (g .region) lanes) (cond (not ((eqb lanes 0 || ltb (highest f lanes) count) && reachGood f lanes 0 2)) 7 0)
 
 number-is : (o : Role) (lanes : ℕ) (g : General) (count : ℕ) → regionNumber o lanes g (words count) ≡ computed o lanes g count
 unfolding computed elementsGood
 number-is o lanes g count = rw (sizes .uw, ← inside-highest (elementOf o g 2) count lanes)
 
 pub regions-at-edges : Edges (λ o lanes g count. regionNumber o lanes g (words count))
-unfolding computed verticalCode widthCode horizontalCode strideOf between sourceRegionGood scalarRegionGood destinationRegionGood regionAllowed firstElement sourceElement elementOf lowest highest twoRegisters reachGood
+unfolding computed verticalCode widthCode horizontalCode strideOf between scalarRegionGood isStride standsFor widthZeroOr32 strideOverFour widthOverExecSize destinationStrideZero nullOutOfPlace scalarRegionWrong firstBroken regionRefusal firstElement sourceElement elementOf lowest highest twoRegisters reachGood
 regions-at-edges = (
   number-is role.Source 16 (region 6 5 3) 31,
   number-is role.Source 16 (region 6 5 3) 30,
   number-is role.Source 4 (region 6 5 3) 64,
   number-is role.Source 32 (region 6 7 3) 128,
+  number-is role.Source 8 (region 5 7 5) 64,
+  number-is role.Source 8 (region 0 1 2) 64,
   number-is role.Source 16 (region 6 5 5) 64,
+  number-is role.Source 8 (region 5 6 5) 64,
+  number-is role.Source 8 (region 5 0 5) 64,
+  number-is role.Source 8 (region 0 6 2) 64,
   number-is role.Source 16 (region 6 0 3) 64,
   number-is role.Source 16 (region 0 5 3) 64,
+  number-is role.Source 8 (region 5 5 0) 64,
   number-is role.Source 2 (region 7 2 1) 64,
   number-is role.Scalar 16 (region 1 2 1) 1,
   number-is role.Scalar 16 (region 1 2 2) 64,
+  number-is role.Scalar 1 (region 5 7 5) 64,
   number-is role.Destination 8 (region 0 0 2) 8,
   number-is role.Destination 8 (region 0 0 2) 7,
-  number-is role.Destination 8 (region 0 0 1) 8,
+  number-is role.Destination 8 (region 5 0 7) 64,
+  number-is role.Destination 8 (region 0 5 1) 8,
   number-is role.Destination 8 (region 1 0 2) 8,
+  number-is role.Destination 8 (region 0 7 2) 8,
+  number-is role.Destination 8 (region 0 6 2) 8,
+  number-is role.Destination 8 (region 0 0 0) 8,
 )

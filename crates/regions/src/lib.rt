@@ -1,9 +1,11 @@
-// Regions: which region words are good, which element of its variable each lane takes, and where that is.
+// Regions: which rule a region word breaks, which element of its variable each lane takes, and where that is.
 use field_groups::General;
 ghost use mathlib.Core.Path.{_≡_};
 ghost use Prim.Native.Nat.{_+_, _-_, _/_, _%_, _<_, min, max};
 ghost use Rattle.element_types.specs.Types.{sizeOf};
-ghost use Rattle.regions.specs.Regions.{strideOf, sourceRegionGood, destinationRegionGood, regionAllowed, firstElement, elementOf};
+ghost use Rattle.regions.specs.declared.Role.the-variants as role;
+ghost use Rattle.regions.specs.Regions.{strideOf, firstElement, elementOf};
+ghost use Rattle.regions.specs.RegionRules.{isStride, standsFor, regionRefusal};
 ghost use Rattle.regions.specs.Reach.{lowest, highest, twoRegisters, elementsGood};
 ghost use Rattle.regions.specs.mirror.Grid.{gridElement, gridOf};
 ghost use Rattle.regions.specs.Positions.{lanePositions, elementByte};
@@ -61,36 +63,67 @@ fn stride_of(code: u16) -> u8
     if code == 7 { 32 } else { 0 }
 }
 
-fn source_region_good(region: u16, lanes: u8) -> bool
-    ensures { λ r. ⌜ r ≡ sourceRegionGood region lanes ⌝ }
+fn is_stride(code: u16) -> bool
+    ensures { λ r. ⌜ r ≡ isStride code ⌝ }
+{
+    (1 <= code) & (code <= 7)
+}
+
+fn stands_for(number: u8, code: u16) -> bool
+    ensures { λ r. ⌜ r ≡ standsFor number code ⌝ }
+{
+    is_stride(code) & (stride_of(code) == number)
+}
+
+// 20, 21, 22, 24.
+fn source_refusal(region: u16, lanes: u8) -> u8
+    ensures { λ r. ⌜ r ≡ regionRefusal role.Source region lanes ⌝ }
 {
     let vertical = region % 16;
     let width = region / 16 % 16;
     let horizontal = region / 256 % 16;
-    (2 <= width)
-        & (width <= 6)
-        & (stride_of(width) <= lanes)
-        & ((1 <= vertical) & (vertical <= 7))
-        & ((1 <= horizontal) & (horizontal <= 4))
+    if stands_for(0, width) | stands_for(32, width) {
+        return 20;
+    }
+    if 4 < stride_of(horizontal) {
+        return 21;
+    }
+    if lanes < stride_of(width) {
+        return 22;
+    }
+    if !is_stride(vertical) | !is_stride(width) | !is_stride(horizontal) {
+        return 24;
+    }
+    0
 }
 
-fn destination_region_good(region: u16) -> bool
-    ensures { λ r. ⌜ r ≡ destinationRegionGood region ⌝ }
+// 21, 23, 24; the lanes do not matter.
+fn destination_refusal(region: u16) -> u8
+    ensures { λ r. ⌜ r ≡ regionRefusal role.Destination region 0 ⌝ }
 {
     let vertical = region % 16;
     let width = region / 16 % 16;
     let horizontal = region / 256 % 16;
-    (2 <= horizontal) & (horizontal <= 4) & (vertical == 0) & (width == 0)
+    if 4 < stride_of(horizontal) {
+        return 21;
+    }
+    if stands_for(0, horizontal) {
+        return 23;
+    }
+    if (vertical != 0) | (width != 0) | !is_stride(horizontal) {
+        return 24;
+    }
+    0
 }
 
-// Whether an operand of this role and so many lanes may have a region word.
-pub fn region_allowed(role: Role, region: u16, lanes: u8) -> bool
-    ensures { λ r. ⌜ r ≡ regionAllowed role region lanes ⌝ }
+// The number of the first rule that a region word breaks, for an operand of this role and so many lanes; 0 if it breaks none.
+pub fn region_refusal(role: Role, region: u16, lanes: u8) -> u8
+    ensures { λ r. ⌜ r ≡ regionRefusal role region lanes ⌝ }
 {
     match role {
-        Role::Source => source_region_good(region, lanes),
-        Role::Scalar => region == SCALAR_REGION,
-        Role::Destination => destination_region_good(region),
+        Role::Source => source_refusal(region, lanes),
+        Role::Scalar => if region == SCALAR_REGION { 0 } else { 25 },
+        Role::Destination => destination_refusal(region),
     }
 }
 

@@ -1,5 +1,6 @@
 -- `operands::locate_general` meets its contract: at each return, what the calls and tests on the way say picks the case of `Operands`.
 use borrow.Author.Needs.{needs}
+use borrow.Author.Tests.{lt-ltb, le-ltb}
 use Rattle.operands.specs.Elements.{registerElements}
 use Rattle.operands.specs.Operands.{generalOf}
 use Rattle.operands.proofs.locate_general.Statement.{statement}
@@ -19,7 +20,7 @@ returns-2 c =
     let b = a .before in
     let d = b .before in
     let e = d .before in
-    rw (← e .type-allowed .ensures, d .if1 .left, ← b .region-allowed .ensures, a .if2 .taken, ← c .refused2 .ensures)
+    rw (← e .type-allowed .ensures, d .if1 .left, ← b .region-refusal .ensures, lt-ltb _ _ (a .if2 .taken), ← c .refused2 .ensures)
 
 returns-3 : tie.Need-returns-3
 unfolding generalOf
@@ -30,7 +31,7 @@ returns-3 c =
     let e = d .before in
     let f = e .before in
     let g = f .before in
-    rw (← g .type-allowed .ensures, f .if1 .left, ← e .region-allowed .ensures, d .if2 .left, ← b .elements-good .ensures, a .if3 .taken, ← c .refused3 .ensures)
+    rw (← g .type-allowed .ensures, f .if1 .left, ← e .region-refusal .ensures, le-ltb _ _ (d .if2 .left), ← b .elements-good .ensures, a .if3 .taken, ← c .refused3 .ensures)
 
 returns-4 : tie.Need-returns-4
 unfolding generalOf registerElements
@@ -43,7 +44,7 @@ returns-4 c =
     let g = f .before in
     let h = g .before in
     let i = h .before in
-    rw (← i .type-allowed .ensures, h .if1 .left, ← g .region-allowed .ensures, f .if2 .left, ← e .elements-good .ensures, d .if3 .left, ← c .element-positions .ensures, ← b .size-of .ensures, ← a .is-signed .ensures)
+    rw (← i .type-allowed .ensures, h .if1 .left, ← g .region-refusal .ensures, le-ltb _ _ (f .if2 .left), ← e .elements-good .ensures, d .if3 .left, ← c .element-positions .ensures, ← b .size-of .ensures, ← a .is-signed .ensures)
 
 pub locate-general-spec : {M : Type 1} → statement M
 locate-general-spec = tie.close (tie.spec (λ c κs. search needs) (λ c κs. search needs) returns (λ c κs. search needs) (λ c κs. search needs) returns-2 (λ c κs. search needs) (λ c κs. search needs) returns-3 (λ c κs. search needs) (λ c κs. search needs) (λ c κs. search needs) returns-4)

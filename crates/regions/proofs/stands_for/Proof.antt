@@ -1,0 +1,15 @@
+-- `regions::stands_for` meets its contract.
+use borrow.Author.Needs.{needs}
+use Rattle.regions.specs.RegionRules.{standsFor}
+use Rattle.regions.proofs.stands_for.Statement.{statement}
+use Rattle.regions.proofs.stands_for.Tie as tie
+
+returns : tie.Need-returns
+unfolding standsFor
+returns c =
+    let stride : tie.After-stride-of = search c in
+    let listed : tie.After-is-stride = search stride in
+    rw (← listed .is-stride .ensures, ← stride .stride-of .ensures)
+
+pub stands-for-spec : {M : Type 1} → statement M
+stands-for-spec = tie.close (tie.spec (λ c κs. search needs) (λ c κs. search needs) returns)
