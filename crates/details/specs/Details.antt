@@ -18,6 +18,10 @@ tells detail.None = false
 tells (detail.Operand place) = true
 tells (detail.Pair channel lane) = true
 
--- of the numbers of an operand's tests, "6 becomes 20 to 24" and "25 alone" name the operand; 4, 5 and 7 tell nothing
+-- "6 becomes 20 to 24", and "25 alone"; the other numbers of an operand's tests, 4, 5 and 7, tell nothing
+unfoldable pub namesOperand : ℕ → Bool
+namesOperand number = leb 20 number && leb number 25
+
+-- what the refusal of the operand at a place tells
 unfoldable pub operandDetail : ℕ → ℕ → Detail
-operandDetail number place = cond (leb 20 number && leb number 25) (detail.Operand place) detail.None
+operandDetail number place = cond (namesOperand number) (detail.Operand place) detail.None

@@ -10,6 +10,8 @@ use Rattle.element_types.specs.Types.{UD, UQ}
 use Rattle.channels.specs.Exec.{execSize}
 use Rattle.tables.specs.Tables.{Tables}
 use Rattle.field_groups.specs.declared.Control.{Control}
+use Rattle.details.specs.declared.Detail.{Detail}
+use Rattle.details.specs.declared.Detail.the-variants as detail
 use Rattle.decoder.specs.declared.Shl.{Shl}
 use Rattle.decoder.specs.declared.Gather.{Gather}
 use Rattle.decoder.specs.declared.Scatter.{Scatter}
@@ -50,14 +52,14 @@ KeepsFor (instruction.Scatter i) = Keeps operation.Scatter (i .control) rule.Add
 KeepsFor (instruction.RawSend i) = λ _. ⊥
 
 -- past the tests of three operands
-past-three : (P : Plan → Type 0) (a b c : ℕ) (next : Plan) → (a ≡ 0 → b ≡ 0 → c ≡ 0 → next .number ≡ 0 → P next) → tested a (tested b (tested c next)) .number ≡ 0 → P (tested a (tested b (tested c next)))
-past-three P a b c next h = accepted-then P a _ (λ x. accepted-then P b _ (λ y. accepted-then P c next (h x y)))
+past-three : (P : Plan → Type 0) (a b c : ℕ) (d e f : Detail) (next : Plan) → (a ≡ 0 → b ≡ 0 → c ≡ 0 → next .number ≡ 0 → P next) → tested a d (tested b e (tested c f next)) .number ≡ 0 → P (tested a d (tested b e (tested c f next)))
+past-three P a b c d e f next h = accepted-then P a d _ (λ x. accepted-then P b e _ (λ y. accepted-then P c f next (h x y)))
 
 module _ (t : Variables) (bits : ℕ) where
   shl-keeps : (i : Shl) → execSize (i .control .exec) ≤ 32 → checkedShl t bits i .number ≡ 0 → KeepsFor (instruction.Shl i) (checkedShl t bits i)
   unfolding checkedShl shlDst shlSrc0 shlSrc1 shlPlan
   shl-keeps i few =
-      past-three (KeepsFor (instruction.Shl i)) (shlDst t i .number) (shlSrc0 t i .number) (shlSrc1 t i .number) _ (λ dst src0 src1 _.
+      past-three (KeepsFor (instruction.Shl i)) (shlDst t i .number) (shlSrc0 t i .number) (shlSrc1 t i .number) _ _ _ _ (λ dst src0 src1 _.
       record {
         operation = refl;
         control = refl;
@@ -70,7 +72,7 @@ module _ (t : Variables) (bits : ℕ) where
   gather-keeps : (part : Part) (i : Gather) → execSize (i .control .exec) ≤ 32 → checkedGatherOperands t bits part i .number ≡ 0 → KeepsFor (instruction.Gather i) (checkedGatherOperands t bits part i)
   unfolding checkedGatherOperands gatherOffset gatherElementOffset gatherDst gatherPlan
   gather-keeps part i few =
-      past-three (KeepsFor (instruction.Gather i)) (gatherOffset t i .number) (gatherElementOffset t i .number) (gatherDst t i .number) _ (λ offset element dst _.
+      past-three (KeepsFor (instruction.Gather i)) (gatherOffset t i .number) (gatherElementOffset t i .number) (gatherDst t i .number) _ _ _ _ (λ offset element dst _.
       record {
         operation = refl;
         control = refl;
@@ -83,7 +85,7 @@ module _ (t : Variables) (bits : ℕ) where
   scatter-keeps : (i : Scatter) → execSize (i .control .exec) ≤ 32 → checkedScatter t bits i .number ≡ 0 → KeepsFor (instruction.Scatter i) (checkedScatter t bits i)
   unfolding checkedScatter scatterAddress scatterElementOffset scatterSrc scatterPlan
   scatter-keeps i few =
-      past-three (KeepsFor (instruction.Scatter i)) (scatterAddress t i .number) (scatterElementOffset t i .number) (scatterSrc t i .number) _ (λ address element src _.
+      past-three (KeepsFor (instruction.Scatter i)) (scatterAddress t i .number) (scatterElementOffset t i .number) (scatterSrc t i .number) _ _ _ _ (λ address element src _.
       record {
         operation = refl;
         control = refl;
@@ -95,7 +97,7 @@ module _ (t : Variables) (bits : ℕ) where
 
   send-keeps : (i : RawSend) → checkedSend t i .number ≡ 0 → KeepsFor (instruction.RawSend i) (checkedSend t i)
   unfolding checkedSend
-  send-keeps i = past-three (KeepsFor (instruction.RawSend i)) _ _ _ _ (λ _ _ _ z. absurd (omega (arith, refusal-number 9, z)))
+  send-keeps i = past-three (KeepsFor (instruction.RawSend i)) _ _ _ _ _ _ _ (λ _ _ _ z. absurd (omega (arith, refusal-number 9 detail.None, z)))
 
 module _ (t : Tables) where
   operands-keep : (bits : ℕ) (i : Instruction) → execSize (controlOf i .exec) ≤ 32 → checkedOperands t bits i .number ≡ 0 → KeepsFor i (checkedOperands t bits i)
@@ -103,7 +105,7 @@ module _ (t : Tables) where
   operands-keep bits (instruction.Shl i) few = shl-keeps _ bits i few
   operands-keep bits (instruction.Gather i) few =
       cond-either (λ (p : Plan). p .number ≡ 0 → KeepsFor (instruction.Gather i) p) (not (ltb (i .access .surface) (length (t .surfaces .lengths))))
-      (λ _ z. absurd (omega (arith, refusal-number 5, z)))
+      (λ _ z. absurd (omega (arith, refusal-number 5 detail.None, z)))
       (λ _. gather-keeps _ bits (surfacePart (t .surfaces) (i .access .surface)) i few)
   operands-keep bits (instruction.Scatter i) few = scatter-keeps _ bits i few
   operands-keep bits (instruction.RawSend i) few = send-keeps _ bits i
@@ -111,5 +113,5 @@ module _ (t : Tables) where
   pub plan-keeps : (i : Instruction) → checked t i .number ≡ 0 → KeepsFor i (checked t i)
   unfolding checked
   plan-keeps i =
-      accepted-then (KeepsFor i) (controlRefusal (t .predicates) (controlOf i)) _
+      accepted-then (KeepsFor i) (controlRefusal (t .predicates) (controlOf i)) _ _
       (λ e. operands-keep _ i (omega (arith, lanes-fit (t .predicates) (controlOf i) e)))

@@ -1,4 +1,5 @@
 pub mod TestLaws
+pub mod PlaceLaws
 pub mod PlanLaws
 pub mod Edges
 pub mod ChannelLaws

@@ -13,6 +13,7 @@ use Rattle.tables.specs.declared.Lengths.{Lengths}
 use Rattle.tables.specs.Tables.{Tables, tablesGood}
 use Rattle.tables.proofs.Laws.{placed, surface-inside}
 use Rattle.channels.specs.Exec.{execSize, execOffset}
+use Rattle.details.specs.declared.Detail.the-variants as detail
 use Rattle.decoder.specs.declared.Shl.{Shl}
 use Rattle.decoder.specs.declared.Gather.{Gather}
 use Rattle.decoder.specs.declared.Scatter.{Scatter}
@@ -92,9 +93,9 @@ module _ (registers surfaces : ℕ) (t : Variables) (all : AllPlaced registers t
   shl-sound bits i fit =
       let exec = i .control .exec in
       let few : execSize exec ≤ 32 = omega arith in
-      accepted-then Fine (shlDst t i .number) _ (λ dst.
-      accepted-then Fine (shlSrc0 t i .number) _ (λ src0.
-      accepted-then Fine (shlSrc1 t i .number) _ (λ src1 _.
+      accepted-then Fine (shlDst t i .number) _ _ (λ dst.
+      accepted-then Fine (shlSrc0 t i .number) _ _ (λ src0.
+      accepted-then Fine (shlSrc1 t i .number) _ _ (λ src1 _.
       record {
         lanes = fit;
         operands = record {
@@ -112,9 +113,9 @@ module _ (registers surfaces : ℕ) (t : Variables) (all : AllPlaced registers t
       let exec = i .control .exec in
       let few : execSize exec ≤ 32 = omega arith in
       let needed = elementsNeeded exec UD in
-      accepted-then Fine (gatherOffset t i .number) _ (λ offset.
-      accepted-then Fine (gatherElementOffset t i .number) _ (λ element.
-      accepted-then Fine (gatherDst t i .number) _ (λ dst _.
+      accepted-then Fine (gatherOffset t i .number) _ _ (λ offset.
+      accepted-then Fine (gatherElementOffset t i .number) _ _ (λ element.
+      accepted-then Fine (gatherDst t i .number) _ _ (λ dst _.
       record {
         lanes = fit;
         operands = record {
@@ -133,9 +134,9 @@ module _ (registers surfaces : ℕ) (t : Variables) (all : AllPlaced registers t
       let exec = i .control .exec in
       let few : execSize exec ≤ 32 = omega arith in
       let needed = scatterNeeded exec (i .channels) in
-      accepted-then Fine (scatterAddress t i .number) _ (λ address.
-      accepted-then Fine (scatterElementOffset t i .number) _ (λ element.
-      accepted-then Fine (scatterSrc t i .number) _ (λ src _.
+      accepted-then Fine (scatterAddress t i .number) _ _ (λ address.
+      accepted-then Fine (scatterElementOffset t i .number) _ _ (λ element.
+      accepted-then Fine (scatterSrc t i .number) _ _ (λ src _.
       record {
         lanes = fit;
         operands = record {
@@ -150,10 +151,10 @@ module _ (registers surfaces : ℕ) (t : Variables) (all : AllPlaced registers t
   send-never : (i : RawSend) → checkedSend t i .number ≡ 0 → Fine (checkedSend t i)
   unfolding checkedSend
   send-never i =
-      accepted-then Fine (sendDesc t i .number) _ (λ _.
-      accepted-then Fine (sendSrc t i .number) _ (λ _.
-      accepted-then Fine (sendDst t i .number) _ (λ _ z.
-      absurd (omega (arith, refusal-number 9, z)))))
+      accepted-then Fine (sendDesc t i .number) _ _ (λ _.
+      accepted-then Fine (sendSrc t i .number) _ _ (λ _.
+      accepted-then Fine (sendDst t i .number) _ _ (λ _ z.
+      absurd (omega (arith, refusal-number 9 detail.None, z)))))
 
 module _ (l : Lengths) (t : Tables) (good : tablesGood l t ≡ true) where
   gather-sound : (bits : ℕ) (i : Gather) → execOffset (i .control .exec) + execSize (i .control .exec) ≤ 32
@@ -162,7 +163,7 @@ module _ (l : Lengths) (t : Tables) (good : tablesGood l t ≡ true) where
   gather-sound bits i fit =
       let index = i .access .surface in
       cond-either (λ (p : Plan). p .number ≡ 0 → Sound (l .registers) (l .surfaces) p) (not (ltb index (length (t .surfaces .lengths))))
-      (λ _ z. absurd (omega (arith, refusal-number 5, z)))
+      (λ _ z. absurd (omega (arith, refusal-number 5 detail.None, z)))
       (λ e. gather-operands-sound (l .registers) (l .surfaces) (t .variables) (placed l t good) bits (surfacePart (t .surfaces) index) i fit
       (surface-inside l t good index (ltb-true _ _ (not-false _ e))))
 
@@ -177,5 +178,5 @@ module _ (l : Lengths) (t : Tables) (good : tablesGood l t ≡ true) where
   pub plan-sound : (i : Instruction) → checked t i .number ≡ 0 → Sound (l .registers) (l .surfaces) (checked t i)
   unfolding checked
   plan-sound i =
-      accepted-then (Sound (l .registers) (l .surfaces)) (controlRefusal (t .predicates) (controlOf i)) _
+      accepted-then (Sound (l .registers) (l .surfaces)) (controlRefusal (t .predicates) (controlOf i)) _ _
       (λ e. operands-sound (predicateBits (t .predicates) (controlOf i .pred)) i (lanes-fit (t .predicates) (controlOf i) e))

@@ -1,13 +1,16 @@
 -- All that a run tests of an instruction before it reads data. Document 01, "The numbers given back":
 -- "A run then tests 8; predicate 5; surface 5; each operand in order 5, 4 (type), 6, 7; 9; ..". An operand's own tests are those of
--- `Operands`; here is their order. No data, execution mask or taint is asked for.
+-- `Operands`; here is their order, and each operand's "place in field order, from 1, surfaces not counted" (document 02, request 2). No data,
+-- execution mask or taint is asked for.
 use Prim.Native.Nat.{ℕ}
 use mathlib.Core.Bool.{cond, not}
+use mathlib.Core.List.{List, [], _∷_}
 use lib.Dec.{ltb}
 use lib.ListN.{length}
 use Rattle.element_types.specs.Types.{UD, UQ}
 use Rattle.tables.specs.Tables.{Tables}
 use Rattle.tables.specs.Surfaces.{Surfaces, surfaceLength, surfaceStart}
+use Rattle.details.specs.declared.Detail.the-variants as detail
 use Rattle.decoder.specs.declared.Shl.{Shl}
 use Rattle.decoder.specs.declared.Gather.{Gather}
 use Rattle.decoder.specs.declared.Scatter.{Scatter}
@@ -23,7 +26,7 @@ use Rattle.plan.specs.declared.Part.{Part}
 use Rattle.plan.specs.declared.Plan.{Plan}
 use Rattle.plan.specs.Control.{controlOf, controlRefusal, predicateBits}
 use Rattle.plan.specs.Needed.{elementsNeeded, scatterNeeded, registersNeeded, blockBytes}
-use Rattle.plan.specs.Plans.{refusedPlan, tested, shlPlan, gatherPlan, scatterPlan}
+use Rattle.plan.specs.Plans.{refusedPlan, tested, testedFrom, shlPlan, gatherPlan, scatterPlan}
 
 -- SHL: Dst, Src0, Src1
 unfoldable pub shlDst : Variables → Shl → Located
@@ -35,12 +38,13 @@ shlSrc0 t i = locatedVector t role.Source rule.Shift (i .control .exec) (i .sour
 unfoldable pub shlSrc1 : Variables → Shl → Located
 shlSrc1 t i = locatedVector t role.Source rule.Shift (i .control .exec) (i .count)
 
+abbrev pub shlOperands : Variables → Shl → List Located
+shlOperands t i = shlDst t i ∷ shlSrc0 t i ∷ shlSrc1 t i ∷ []
+
 unfoldable pub checkedShl : Variables → ℕ → Shl → Plan
 checkedShl t bits i =
-    tested (shlDst t i .number)
-    (tested (shlSrc0 t i .number)
-    (tested (shlSrc1 t i .number)
-    (shlPlan (i .control) bits (shlSrc0 t i .elements) (shlSrc1 t i .elements) (shlDst t i .elements))))
+    testedFrom 1 (shlOperands t i)
+    (shlPlan (i .control) bits (shlSrc0 t i .elements) (shlSrc1 t i .elements) (shlDst t i .elements))
 
 -- GATHER_SCALED: the surface, then Offset, Element_offset, Dst
 unfoldable pub gatherOffset : Variables → Gather → Located
@@ -52,13 +56,14 @@ gatherElementOffset t i = locatedRaw t rule.Offset (elementsNeeded (i .control .
 unfoldable pub gatherDst : Variables → Gather → Located
 gatherDst t i = locatedRaw t rule.Dword (elementsNeeded (i .control .exec) UD) (i .destination)
 
+abbrev pub gatherOperands : Variables → Gather → List Located
+gatherOperands t i = gatherOffset t i ∷ gatherElementOffset t i ∷ gatherDst t i ∷ []
+
 unfoldable pub checkedGatherOperands : Variables → ℕ → Part → Gather → Plan
 checkedGatherOperands t bits part i =
-    tested (gatherOffset t i .number)
-    (tested (gatherElementOffset t i .number)
-    (tested (gatherDst t i .number)
+    testedFrom 1 (gatherOperands t i)
     (gatherPlan (i .control) bits (gatherOffset t i .elements) (gatherElementOffset t i .elements) (gatherDst t i .elements)
-    (blockBytes (i .access .«num_blocks»)) part)))
+    (blockBytes (i .access .«num_blocks»)) part)
 
 -- the part of the surface buffer that is this surface's
 unfoldable pub surfacePart : Surfaces → ℕ → Part
@@ -67,7 +72,7 @@ surfacePart t index = record { start = surfaceStart t index; length = surfaceLen
 -- 5: "surface not in its table", before the operands
 unfoldable pub checkedGather : Variables → Surfaces → ℕ → Gather → Plan
 checkedGather t surfaces bits i =
-    cond (not (ltb (i .access .surface) (length (surfaces .lengths)))) (refusedPlan 5)
+    cond (not (ltb (i .access .surface) (length (surfaces .lengths)))) (refusedPlan 5 detail.None)
     (checkedGatherOperands t bits (surfacePart surfaces (i .access .surface)) i)
 
 -- SVM SCATTER4_SCALED: Address, Element_offset, Src
@@ -80,13 +85,14 @@ scatterElementOffset t i = locatedRaw t rule.Address (elementsNeeded (i .control
 unfoldable pub scatterSrc : Variables → Scatter → Located
 scatterSrc t i = locatedRaw t rule.Dword (scatterNeeded (i .control .exec) (i .channels)) (i .source)
 
+abbrev pub scatterOperands : Variables → Scatter → List Located
+scatterOperands t i = scatterAddress t i ∷ scatterElementOffset t i ∷ scatterSrc t i ∷ []
+
 unfoldable pub checkedScatter : Variables → ℕ → Scatter → Plan
 checkedScatter t bits i =
-    tested (scatterAddress t i .number)
-    (tested (scatterElementOffset t i .number)
-    (tested (scatterSrc t i .number)
+    testedFrom 1 (scatterOperands t i)
     (scatterPlan (i .control) bits (scatterAddress t i .elements) (scatterElementOffset t i .elements) (scatterSrc t i .elements)
-    (i .channels))))
+    (i .channels))
 
 -- RAW_SEND: Desc, Src, Dst; and 9: "RAW_SEND, otherwise good"
 unfoldable pub sendDesc : Variables → RawSend → Located
@@ -98,12 +104,11 @@ sendSrc t i = locatedRaw t rule.Any (registersNeeded (i .message .«num_src»)) 
 unfoldable pub sendDst : Variables → RawSend → Located
 sendDst t i = locatedRaw t rule.Any (registersNeeded (i .message .«num_dst»)) (i .destination)
 
+abbrev pub sendOperands : Variables → RawSend → List Located
+sendOperands t i = sendDesc t i ∷ sendSrc t i ∷ sendDst t i ∷ []
+
 unfoldable pub checkedSend : Variables → RawSend → Plan
-checkedSend t i =
-    tested (sendDesc t i .number)
-    (tested (sendSrc t i .number)
-    (tested (sendDst t i .number)
-    (refusedPlan 9)))
+checkedSend t i = testedFrom 1 (sendOperands t i) (refusedPlan 9 detail.None)
 
 -- surface 5 for a gather, the operands in field order, 9 for RAW_SEND
 unfoldable pub checkedOperands : Tables → ℕ → Instruction → Plan
@@ -115,5 +120,5 @@ checkedOperands t bits (instruction.RawSend i) = checkedSend (t .variables) i
 -- 8 and predicate 5 come first
 unfoldable pub checked : Tables → Instruction → Plan
 checked t i =
-    tested (controlRefusal (t .predicates) (controlOf i))
+    tested (controlRefusal (t .predicates) (controlOf i)) detail.None
     (checkedOperands t (predicateBits (t .predicates) (controlOf i .pred)) i)

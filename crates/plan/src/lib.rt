@@ -4,11 +4,13 @@ use decoder::Instruction;
 use decoder::RawSend;
 use decoder::Scatter;
 use decoder::Shl;
+use details::Detail;
 use field_groups::Control;
 use operands::Elements;
 use operands::TypeRule;
 use regions::Role;
 ghost use mathlib.Core.Path.{_≡_};
+ghost use Rattle.details.specs.Details.{operandDetail};
 ghost use Rattle.tables.specs.Tables.{tables};
 ghost use Rattle.tables.specs.Borrowed.{variableTable, predicateTable, surfaceTable};
 ghost use Rattle.plan.specs.Control.{controlOf, controlRefusal, predicateBits};
@@ -34,6 +36,8 @@ struct Part {
 // SHL: left is Src0, right Src1, payload Dst. Gather: Offset, Element_offset, Dst. Scatter: Address, Element_offset, Src.
 pub struct Plan {
     pub number: u8,
+    // what the refusal tells
+    pub detail: Detail,
     pub operation: Operation,
     pub control: Control,
     // the predicate's, 0 without one
@@ -50,8 +54,8 @@ pub struct Plan {
     pub length: u32,
 }
 
-fn refused(number: u8) -> Plan
-    ensures { λ r. ⌜ r ≡ refusedPlan number ⌝ }
+fn refused(number: u8, detail: Detail) -> Plan
+    ensures { λ r. ⌜ r ≡ refusedPlan number detail ⌝ }
 {
     let none = Elements {
         size: 0,
@@ -63,6 +67,7 @@ fn refused(number: u8) -> Plan
     let control = Control { exec: 0, pred: 0 };
     Plan {
         number,
+        detail,
         operation: Operation::Refused,
         control,
         bits: 0,
@@ -74,6 +79,13 @@ fn refused(number: u8) -> Plan
         start: 0,
         length: 0,
     }
+}
+
+// The refusal of the operand at a place.
+fn refused_operand(number: u8, place: u8) -> Plan
+    ensures { λ r. ⌜ r ≡ refusedPlan number (operandDetail number place) ⌝ }
+{
+    refused(number, details::of_operand(number, place))
 }
 
 fn control_of(instruction: Instruction) -> Control
@@ -177,6 +189,7 @@ fn shl_plan(control: Control, bits: u32, left: Elements, right: Elements, payloa
 {
     Plan {
         number: 0,
+        detail: Detail::None,
         operation: Operation::Shl,
         control,
         bits,
@@ -203,6 +216,7 @@ fn gather_plan(
 {
     Plan {
         number: 0,
+        detail: Detail::None,
         operation: Operation::Gather,
         control,
         bits,
@@ -228,6 +242,7 @@ fn scatter_plan(
 {
     Plan {
         number: 0,
+        detail: Detail::None,
         operation: Operation::Scatter,
         control,
         bits,
@@ -259,7 +274,7 @@ fn check_shl(types: &[u8], starts: &[u16], counts: &[u16], bits: u32, instructio
         destination,
     );
     if 0 < dst.number {
-        return refused(dst.number);
+        return refused_operand(dst.number, 1);
     }
     let src0 = operands::locate_vector(
         types,
@@ -271,7 +286,7 @@ fn check_shl(types: &[u8], starts: &[u16], counts: &[u16], bits: u32, instructio
         source,
     );
     if 0 < src0.number {
-        return refused(src0.number);
+        return refused_operand(src0.number, 2);
     }
     let src1 = operands::locate_vector(
         types,
@@ -283,7 +298,7 @@ fn check_shl(types: &[u8], starts: &[u16], counts: &[u16], bits: u32, instructio
         count,
     );
     if 0 < src1.number {
-        return refused(src1.number);
+        return refused_operand(src1.number, 3);
     }
     let left = src0.elements;
     let right = src1.elements;
@@ -315,7 +330,7 @@ fn check_gather_operands(
         address,
     );
     if 0 < offset.number {
-        return refused(offset.number);
+        return refused_operand(offset.number, 1);
     }
     let element = operands::locate_raw(
         types,
@@ -326,7 +341,7 @@ fn check_gather_operands(
         instruction.element_offset,
     );
     if 0 < element.number {
-        return refused(element.number);
+        return refused_operand(element.number, 2);
     }
     let dst = operands::locate_raw(
         types,
@@ -337,7 +352,7 @@ fn check_gather_operands(
         instruction.destination,
     );
     if 0 < dst.number {
-        return refused(dst.number);
+        return refused_operand(dst.number, 3);
     }
     let left = offset.elements;
     let right = element.elements;
@@ -359,7 +374,7 @@ fn check_gather(
 {
     let surface = instruction.access.surface;
     if !((surface as usize) < surfaces.len()) {
-        return refused(5);
+        return refused(5, Detail::None);
     }
     let part = surface_part(surfaces, surface);
     check_gather_operands(types, starts, counts, bits, part, instruction)
@@ -387,7 +402,7 @@ fn check_scatter(
         base,
     );
     if 0 < address.number {
-        return refused(address.number);
+        return refused_operand(address.number, 1);
     }
     let offsets = elements_needed(exec, element_types::UQ);
     let element = operands::locate_raw(
@@ -399,7 +414,7 @@ fn check_scatter(
         instruction.element_offset,
     );
     if 0 < element.number {
-        return refused(element.number);
+        return refused_operand(element.number, 2);
     }
     let needed = scatter_needed(exec, instruction.channels);
     let src = operands::locate_raw(
@@ -411,7 +426,7 @@ fn check_scatter(
         instruction.source,
     );
     if 0 < src.number {
-        return refused(src.number);
+        return refused_operand(src.number, 3);
     }
     let left = address.elements;
     let right = element.elements;
@@ -435,7 +450,7 @@ fn check_send(types: &[u8], starts: &[u16], counts: &[u16], instruction: RawSend
         descriptor,
     );
     if 0 < desc.number {
-        return refused(desc.number);
+        return refused_operand(desc.number, 1);
     }
     let sent = registers_needed(instruction.message.num_src);
     let src = operands::locate_raw(
@@ -447,7 +462,7 @@ fn check_send(types: &[u8], starts: &[u16], counts: &[u16], instruction: RawSend
         instruction.source,
     );
     if 0 < src.number {
-        return refused(src.number);
+        return refused_operand(src.number, 2);
     }
     let received = registers_needed(instruction.message.num_dst);
     let dst = operands::locate_raw(
@@ -459,9 +474,9 @@ fn check_send(types: &[u8], starts: &[u16], counts: &[u16], instruction: RawSend
         instruction.destination,
     );
     if 0 < dst.number {
-        return refused(dst.number);
+        return refused_operand(dst.number, 3);
     }
-    refused(9)
+    refused(9, Detail::None)
 }
 
 // The number of an instruction's refusal, or its plan.
@@ -478,7 +493,7 @@ pub fn check(
     let control = control_of(instruction);
     let number = control_refusal(predicates, control);
     if 0 < number {
-        return refused(number);
+        return refused(number, Detail::None);
     }
     let bits = predicate_bits(predicates, control.pred);
     match instruction {
