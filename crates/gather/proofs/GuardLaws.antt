@@ -7,6 +7,7 @@ use Rattle.little_endian.specs.LittleEndian.{Bytes}
 use Rattle.cells.specs.Buffer.{Buffer}
 use Rattle.cells.specs.Writes.{writtenAll}
 use Rattle.cells.specs.Over.{among, each}
+use Rattle.details.specs.declared.Detail.the-variants as detail
 use Rattle.cells.specs.Effect.{refused, RegistersDone}
 use Rattle.cells.proofs.EffectLaws.{unless-refused, unless-passed, nothing-written}
 use Rattle.cells.proofs.LaneLaws.{lanes-alike}
@@ -31,14 +32,14 @@ unfolding gatherFits
 fits-told p exec l r e f g = rw (f, g, e)
 
 module _ (mask : ℕ) (p : Plan) (b surfaces : Buffer) where
-  pub guard-refuses : gatherFits p ≡ false → gatherGuarded mask p b surfaces ≡ refused 7
+  pub guard-refuses : gatherFits p ≡ false → gatherGuarded mask p b surfaces ≡ refused 7 detail.None
   unfolding gatherGuarded
-  guard-refuses e = unless-refused _ 7 _ (ap not e)
+  guard-refuses e = unless-refused _ 7 _ _ (ap not e)
 
   -- the guard is not the reason of an answer
   pub guard-passes : gatherFits p ≡ true → gatherGuarded mask p b surfaces ≡ gatherEffect p (lanesOn mask p) b surfaces
   unfolding gatherGuarded
-  guard-passes e = unless-passed _ 7 _ (ap not e)
+  guard-passes e = unless-passed _ 7 _ _ (ap not e)
 
   pub gather-refused : (fit : Bool) → fit ≡ gatherFits p → not fit ≡ true → RegistersDone (gatherGuarded mask p b surfaces) 7 b b
   gather-refused fit f e =

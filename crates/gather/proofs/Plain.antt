@@ -35,4 +35,4 @@ module _ (b c f g : Buffer) (r : Plainly b c) (q : Plainly f g) (p : Plan) where
 
   pub gather-plain : (lanes : List ℕ) → PlainEffects (gatherEffect p lanes b f) (gatherEffect p lanes c g)
   unfolding gatherEffect
-  gather-plain lanes = record { number = refl; registers = each-alike SameBytes _ _ lanes lane-plain; memory = none }
+  gather-plain lanes = record { number = refl; detail = refl; registers = each-alike SameBytes _ _ lanes lane-plain; memory = none }

@@ -46,4 +46,4 @@ module _ (b c f g : Buffer) (r : Agreeing b c) (q : Agreeing f g) (p : Plan) whe
 
   pub gather-alike : (lanes : List ℕ) → AlikeEffects (gatherEffect p lanes b f) (gatherEffect p lanes c g)
   unfolding gatherEffect
-  gather-alike lanes = record { number = refl; registers = each-alike SameUntainted _ _ lanes lane-alike; memory = none }
+  gather-alike lanes = record { number = refl; detail = refl; registers = each-alike SameUntainted _ _ lanes lane-alike; memory = none }

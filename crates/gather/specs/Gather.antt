@@ -7,7 +7,7 @@ use lib.Dec.{ltb}
 use Rattle.cells.specs.Buffer.{Buffer, isTainted, markOf}
 use Rattle.cells.specs.Writes.{Write}
 use Rattle.cells.specs.Over.{each}
-use Rattle.cells.specs.Effect.{Effect}
+use Rattle.cells.specs.Effect.{Effect, writing}
 use Rattle.plan.specs.declared.Plan.{Plan}
 use Rattle.staging.specs.Sources.{elementValue, eitherTainted}
 
@@ -47,4 +47,4 @@ gatherLane registers surfaces p lane =
     (getD (p .payload .at) lane 0) 0 4
 
 unfoldable pub gatherEffect : Plan → List ℕ → Buffer → Buffer → Effect
-gatherEffect p lanes registers surfaces = record { number = 0; registers = each (gatherLane registers surfaces p) lanes; memory = [] }
+gatherEffect p lanes registers surfaces = writing (each (gatherLane registers surfaces p) lanes) []

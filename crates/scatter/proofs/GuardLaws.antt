@@ -3,6 +3,8 @@ use Prim.Native.Nat.{ℕ, _≤_}
 use mathlib.Core.Path.{_≡_, sym, ap, _∙_}
 use mathlib.Core.Bool.{Bool, true, false, not}
 use mathlib.Core.List.{List}
+use Rattle.details.specs.declared.Detail.the-variants as detail
+use Rattle.details.specs.declared.Status.{Status}
 use Rattle.cells.specs.Buffer.{Buffer}
 use Rattle.cells.specs.Effect.{refused, MemoryDone}
 use Rattle.cells.proofs.EffectLaws.{unless-refused, unless-passed}
@@ -19,19 +21,19 @@ use Rattle.scatter.proofs.OrderLaws.{refusal-done, same-done}
 use Rattle.scatter.proofs.RoomLaws.{few, from-room-is}
 
 module _ (w : Window) (mask : ℕ) (p : Plan) (registers : Buffer) where
-  pub guard-refuses : scatterFits p ≡ false → scatterGuarded w mask p registers ≡ refused 7
+  pub guard-refuses : scatterFits p ≡ false → scatterGuarded w mask p registers ≡ refused 7 detail.None
   unfolding scatterGuarded
-  guard-refuses e = unless-refused _ 7 _ (ap not e)
+  guard-refuses e = unless-refused _ 7 _ _ (ap not e)
 
   -- the guard is not the reason of an answer
   pub guard-passes : scatterFits p ≡ true → scatterGuarded w mask p registers ≡ scatterEffect w p (lanesOn mask p) registers
   unfolding scatterGuarded
-  guard-passes e = unless-passed _ 7 _ (ap not e)
+  guard-passes e = unless-passed _ 7 _ _ (ap not e)
 
-  pub scatter-refused : (fit : Bool) (b : Buffer) → fit ≡ scatterFits p → fit ≡ false → MemoryDone (scatterGuarded w mask p registers) 7 b b
-  scatter-refused fit b f e = refusal-done _ 7 b (guard-refuses (sym f ∙ e))
+  pub scatter-refused : (fit : Bool) (b : Buffer) → fit ≡ scatterFits p → fit ≡ false → MemoryDone (scatterGuarded w mask p registers) (record { number = 7; detail = detail.None }) b b
+  scatter-refused fit b f e = refusal-done _ 7 _ b (guard-refuses (sym f ∙ e))
 
-  pub scatter-done : (fits : scatterFits p ≡ true) (lanes : Lanes) (l : Layout) (s : Pairs) (on : List Bool) (sums : List ℕ) (room b b′ : Buffer) (n : ℕ) → lanes ≡ lanesOf (p .control .exec) (p .control .pred) mask (p .bits) → l ≡ layoutFor p → s ≡ pairsOf p → room ≡ sourcesStaged registers p → WorkedOut (room .bytes) l lanes on sums → MemoryDone (roomEffect w l s on sums room) n b b′ → MemoryDone (scatterGuarded w mask p registers) n b b′
+  pub scatter-done : (fits : scatterFits p ≡ true) (lanes : Lanes) (l : Layout) (s : Pairs) (on : List Bool) (sums : List ℕ) (room b b′ : Buffer) (n : Status) → lanes ≡ lanesOf (p .control .exec) (p .control .pred) mask (p .bits) → l ≡ layoutFor p → s ≡ pairsOf p → room ≡ sourcesStaged registers p → WorkedOut (room .bytes) l lanes on sums → MemoryDone (roomEffect w l s on sums room) n b b′ → MemoryDone (scatterGuarded w mask p registers) n b b′
   scatter-done fits lanes l s on sums room b b′ n told layout pairs staged worked =
       let worked′ : WorkedOut (sourcesStaged registers p .bytes) (layoutFor p) lanes on sums = rw (← staged, ← layout) worked in
       let whole : roomEffect w l s on sums room ≡ scatterEffect w p (lanesOn mask p) registers = rw (staged, pairs, layout) (from-room-is p fits registers mask lanes told on sums worked′ w) in

@@ -15,5 +15,6 @@ pub mod Untainted
 pub mod Refusal
 pub mod Plain
 pub mod SoundLaws
-pub mod PairResults
 pub mod FirstTest
+pub mod FirstPair
+pub mod PairResults

@@ -3,43 +3,51 @@ use Prim.Native.Nat.{ℕ}
 use mathlib.Core.Path.{_≡_, refl, sym, ap, _∙_}
 use mathlib.Core.Bool.{Bool, true, false}
 use mathlib.Core.List.{List, []}
+use Rattle.details.specs.declared.Detail.{Detail}
+use Rattle.details.specs.declared.Detail.the-variants as detail
+use Rattle.details.specs.declared.Status.{Status}
+use Rattle.details.specs.Details.{tells}
 use Rattle.cells.specs.Buffer.{Buffer}
 use Rattle.cells.specs.Writes.{writtenAll}
-use Rattle.cells.specs.Effect.{Effect, refused, MemoryDone}
+use Rattle.cells.specs.Effect.{Effect, refused, writing, MemoryDone}
 use Rattle.cells.proofs.EffectLaws.{unless-refused, unless-passed, nothing-written}
 use Rattle.staging.specs.declared.Layout.{Layout}
 use Rattle.scatter.specs.declared.Rule.the-variants as rule
 use Rattle.scatter.specs.declared.Pairs.{Pairs}
 use Rattle.scatter.specs.Scatter.{Window}
-use Rattle.scatter.specs.mirror.FromRoom.{allWrites, someBreaks, someTainted, roomEffect}
+use Rattle.scatter.specs.mirror.FromRoom.{allWrites, firstBreaking, someTainted, roomEffect}
 
-pub refusal-done : (e : Effect) (n : ℕ) (b : Buffer) → e ≡ refused n → MemoryDone e n b b
-refusal-done e n b is =
-    (sym (ap (λ (x : Effect). x .number) is), sym (ap (λ (x : Effect). writtenAll (x .memory) b) is ∙ nothing-written b))
+pub refusal-done : (e : Effect) (n : ℕ) (d : Detail) (b : Buffer) → e ≡ refused n d → MemoryDone e (record { number = n; detail = d }) b b
+refusal-done e n d b is =
+    (sym (ap (λ (x : Effect). x .number) is), sym (ap (λ (x : Effect). x .detail) is), sym (ap (λ (x : Effect). writtenAll (x .memory) b) is ∙ nothing-written b))
 
-pub same-done : (e d : Effect) (n : ℕ) (b b′ : Buffer) → e ≡ d → MemoryDone e n b b′ → MemoryDone d n b b′
-same-done e d n b b′ is a =
-    (a .0 ∙ ap (λ (x : Effect). x .number) is, a .1 ∙ ap (λ (x : Effect). writtenAll (x .memory) b) is)
+pub same-done : (e f : Effect) (r : Status) (b b′ : Buffer) → e ≡ f → MemoryDone e r b b′ → MemoryDone f r b b′
+same-done e f r b b′ is a =
+    (a .0 ∙ ap (λ (x : Effect). x .number) is, a .1 ∙ ap (λ (x : Effect). x .detail) is, a .2 ∙ ap (λ (x : Effect). writtenAll (x .memory) b) is)
 
 module _ (w : Window) (l : Layout) (s : Pairs) (on : List Bool) (sums : List ℕ) (room : Buffer) (tainted : Bool) (t : tainted ≡ someTainted (room .taint) l on) where
-  pub tainted-done : (b : Buffer) → tainted ≡ true → MemoryDone (roomEffect w l s on sums room) 10 b b
+  pub tainted-done : (b : Buffer) → tainted ≡ true → MemoryDone (roomEffect w l s on sums room) (record { number = 10; detail = detail.None }) b b
   unfolding roomEffect
-  tainted-done b yes₀ = refusal-done _ 10 b (unless-refused _ 10 _ (sym t ∙ yes₀))
+  tainted-done b yes₀ = refusal-done _ 10 _ b (unless-refused _ 10 _ _ (sym t ∙ yes₀))
 
-  module _ (sure : tainted ≡ false) (odd : Bool) (o : odd ≡ someBreaks rule.Aligned s on sums) where
-    pub misaligned-done : (b : Buffer) → odd ≡ true → MemoryDone (roomEffect w l s on sums room) 11 b b
+  -- what a search found, and whether that tells something
+  module _ (sure : tainted ≡ false) (odd : Detail) (o : odd ≡ firstBreaking rule.Aligned s on sums) (some : Bool) (told : some ≡ tells odd) where
+    pub misaligned-done : (b : Buffer) → some ≡ true → MemoryDone (roomEffect w l s on sums room) (record { number = 11; detail = odd }) b b
     unfolding roomEffect
-    misaligned-done b yes₁ = refusal-done _ 11 b (unless-passed _ 10 _ (sym t ∙ sure) ∙ unless-refused _ 11 _ (sym o ∙ yes₁))
+    misaligned-done b yes₁ =
+        refusal-done _ 11 odd b (unless-passed _ 10 _ _ (sym t ∙ sure) ∙ (unless-refused _ 11 _ _ (ap tells (sym o) ∙ (sym told ∙ yes₁)) ∙ ap (refused 11) (sym o)))
 
-    module _ (even : odd ≡ false) (out : Bool) (f : out ≡ someBreaks (rule.Inside (w .base) (w .length)) s on sums) where
-      pub outside-done : (b : Buffer) → out ≡ true → MemoryDone (roomEffect w l s on sums room) 12 b b
+    module _ (even : some ≡ false) (out : Detail) (f : out ≡ firstBreaking (rule.Inside (w .base) (w .length)) s on sums) (more : Bool) (known : more ≡ tells out) where
+      pub outside-done : (b : Buffer) → more ≡ true → MemoryDone (roomEffect w l s on sums room) (record { number = 12; detail = out }) b b
       unfolding roomEffect
       outside-done b yes₂ =
-          refusal-done _ 12 b (unless-passed _ 10 _ (sym t ∙ sure) ∙ (unless-passed _ 11 _ (sym o ∙ even) ∙ unless-refused _ 12 _ (sym f ∙ yes₂)))
+          refusal-done _ 12 out b
+          (unless-passed _ 10 _ _ (sym t ∙ sure) ∙ (unless-passed _ 11 _ _ (ap tells (sym o) ∙ (sym told ∙ even)) ∙ (unless-refused _ 12 _ _ (ap tells (sym f) ∙ (sym known ∙ yes₂)) ∙ ap (refused 12) (sym f))))
 
-      passed : out ≡ false → roomEffect w l s on sums room ≡ record { number = 0; registers = []; memory = allWrites (w .base) room s on sums }
+      passed : more ≡ false → roomEffect w l s on sums room ≡ writing [] (allWrites (w .base) room s on sums)
       unfolding roomEffect
-      passed inside = unless-passed _ 10 _ (sym t ∙ sure) ∙ (unless-passed _ 11 _ (sym o ∙ even) ∙ unless-passed _ 12 _ (sym f ∙ inside))
+      passed inside =
+          unless-passed _ 10 _ _ (sym t ∙ sure) ∙ (unless-passed _ 11 _ _ (ap tells (sym o) ∙ (sym told ∙ even)) ∙ unless-passed _ 12 _ _ (ap tells (sym f) ∙ (sym known ∙ inside)))
 
-      pub pairs-done : (b b′ : Buffer) → out ≡ false → b′ ≡ writtenAll (allWrites (w .base) room s on sums) b → MemoryDone (roomEffect w l s on sums room) 0 b b′
-      pairs-done b b′ inside made = same-done _ _ 0 b b′ (sym (passed inside)) (refl, made)
+      pub pairs-done : (b b′ : Buffer) → more ≡ false → b′ ≡ writtenAll (allWrites (w .base) room s on sums) b → MemoryDone (roomEffect w l s on sums room) (record { number = 0; detail = detail.None }) b b′
+      pairs-done b b′ inside made = same-done _ _ _ b b′ (sym (passed inside)) (refl, refl, made)

@@ -1,22 +1,25 @@
 -- Where the loops over lanes and channels begin and where a search ends, in the words of `FromRoom`; and what one pair writes.
-use Prim.Native.Nat.{ℕ, _+_, _*_, _-_, _<_}
+use Prim.Native.Nat.{ℕ, _+_, _*_, _-_, _≤_, _<_}
 use mathlib.Core.Path.{_≡_, refl, sym, ap, subst}
 use mathlib.Core.Bool.{Bool, true, false, cond, _&&_}
 use mathlib.Core.List.{List, []}
 use lib.ListN.{getD}
+use Rattle.details.specs.declared.Detail.the-variants as detail
 use Rattle.cells.specs.Buffer.{Buffer}
 use Rattle.cells.specs.Writes.{Write, writtenAll, copyWrites}
-use Rattle.cells.specs.Over.{amongFrom, each, some}
+use Rattle.cells.specs.Over.{amongFrom, each, some, firstLane, firstPair}
 use Rattle.cells.proofs.EffectLaws.{nothing-written}
 use Rattle.cells.proofs.LaneLaws.{lanes-begun, lanes-turn}
-use Rattle.cells.proofs.SearchLaws.{some-begun, some-step}
+use Rattle.cells.proofs.SearchLaws.{some-begun}
+use Rattle.cells.proofs.AmongLaws.{among-begun}
+use Rattle.cells.proofs.FirstLaws.{lane-turn, lane-hit, lane-over, pairs-begun, pairs-enter, pairs-off, pairs-over}
 use Rattle.channels.specs.Bits.{bit}
 use Rattle.staging.specs.declared.Layout.{Layout}
 use Rattle.staging.specs.mirror.Room.{eitherStaged}
 use Rattle.scatter.specs.declared.Rule.{Rule}
 use Rattle.scatter.specs.declared.Pairs.{Pairs}
 use Rattle.scatter.specs.mirror.Rules.{breaks}
-use Rattle.scatter.specs.mirror.FromRoom.{enabledLanes, targetFrom, rowPlace, pairWrites, rowWrites, allWrites, rowBreaks, someBreaks, someTainted}
+use Rattle.scatter.specs.mirror.FromRoom.{enabledLanes, targetFrom, rowPlace, pairWrites, rowWrites, allWrites, firstBreaking, someTainted}
 
 -- a test of a lane that is asked whether it is on
 pub and-told : (on here there : Bool) → here ≡ there → (on && here) ≡ (on && there)
@@ -26,19 +29,46 @@ pub tainted-begun : (taint : List ℕ) (s : Layout) (on : List Bool) → some (e
 unfolding someTainted enabledLanes
 tainted-begun taint s on = some-begun (eitherStaged taint s) (λ k. getD on k false) (s .lanes)
 
-module _ (rule : Rule) (on : List Bool) (sums : List ℕ) where
-  pub row-begun : (lanes c : ℕ) → some (λ i. breaks rule (targetFrom (getD sums i 0) c)) (amongFrom (λ k. getD on k false) 0 (lanes - 0)) ≡ rowBreaks rule on sums lanes c
-  unfolding rowBreaks enabledLanes
-  row-begun lanes c = some-begun (λ i. breaks rule (targetFrom (getD sums i 0) c)) (λ k. getD on k false) lanes
+-- what of a search is left is what the whole finds
+module _ (rule : Rule) (on : List Bool) (sums : List ℕ) (s : Pairs) where
+  -- whether a pair breaks the rule
+  abbrev pub pairBreaks : ℕ → ℕ → Bool
+  pairBreaks c i = breaks rule (targetFrom (getD sums i 0) c)
 
-  -- a lane that is on and breaks the rule: so does its channel
-  pub row-found : (lanes c i : ℕ) → i < lanes → (getD on i false && breaks rule (targetFrom (getD sums i 0) c)) ≡ true → some (λ k. breaks rule (targetFrom (getD sums k 0) c)) (amongFrom (λ k. getD on k false) i (lanes - i)) ≡ rowBreaks rule on sums lanes c → rowBreaks rule on sums lanes c ≡ true
-  row-found lanes c i h here e =
-      sym (rw (some-step (λ k. breaks rule (targetFrom (getD sums k 0) c)) (λ k. getD on k false) i lanes h, here) at e)
+  -- from a channel on
+  abbrev pub ChannelsLeft : ℕ → Type 0
+  ChannelsLeft c = firstPair pairBreaks (amongFrom (bit (s .channels)) c (4 - c)) (enabledLanes on (s .lanes)) ≡ firstBreaking rule s on sums
 
-  pub rows-begun : (s : Pairs) → some (rowBreaks rule on sums (s .lanes)) (amongFrom (bit (s .channels)) 0 (4 - 0)) ≡ someBreaks rule s on sums
-  unfolding someBreaks
-  rows-begun s = some-begun (rowBreaks rule on sums (s .lanes)) (bit (s .channels)) 4
+  -- from a lane of a channel on
+  abbrev pub LanesLeft : ℕ → ℕ → Type 0
+  LanesLeft c i =
+      firstLane (pairBreaks c) c (amongFrom (λ k. getD on k false) i (s .lanes - i)) (firstPair pairBreaks (amongFrom (bit (s .channels)) (c + 1) (4 - (c + 1))) (enabledLanes on (s .lanes)))
+      ≡ firstBreaking rule s on sums
+
+  pub search-begun : ChannelsLeft 0
+  unfolding firstBreaking
+  search-begun = pairs-begun pairBreaks (bit (s .channels)) (enabledLanes on (s .lanes)) 4
+
+  -- a channel that is on, and one that is not
+  pub channel-entered : (c : ℕ) → c < 4 → bit (s .channels) c ≡ true → ChannelsLeft c → LanesLeft c 0
+  unfolding enabledLanes
+  channel-entered c h on′ e =
+      rw (among-begun (λ k. getD on k false) (s .lanes)) (pairs-enter pairBreaks (bit (s .channels)) (enabledLanes on (s .lanes)) c 4 _ h on′ e)
+
+  pub channel-passed : (c : ℕ) → c < 4 → bit (s .channels) c ≡ false → ChannelsLeft c → ChannelsLeft (c + 1)
+  channel-passed c h off e = pairs-off pairBreaks (bit (s .channels)) (enabledLanes on (s .lanes)) c 4 _ h off e
+
+  pub lane-passed : (c i : ℕ) → i < s .lanes → (getD on i false && pairBreaks c i) ≡ false → LanesLeft c i → LanesLeft c (i + 1)
+  lane-passed c i h miss e = lane-turn (pairBreaks c) (λ k. getD on k false) c _ i (s .lanes) _ h miss e
+
+  pub lane-found : (c i : ℕ) → i < s .lanes → (getD on i false && pairBreaks c i) ≡ true → LanesLeft c i → detail.Pair c i ≡ firstBreaking rule s on sums
+  lane-found c i h hit e = lane-hit (pairBreaks c) (λ k. getD on k false) c _ i (s .lanes) _ h hit e
+
+  pub lanes-passed : (c i : ℕ) → s .lanes ≤ i → LanesLeft c i → ChannelsLeft (c + 1)
+  lanes-passed c i h e = lane-over (pairBreaks c) (λ k. getD on k false) c _ i (s .lanes) _ h e
+
+  pub none-found : (c : ℕ) → 4 ≤ c → ChannelsLeft c → detail.None ≡ firstBreaking rule s on sums
+  none-found c h e = pairs-over pairBreaks (bit (s .channels)) (enabledLanes on (s .lanes)) c 4 _ h e
 
 pub pair-written : (base : ℕ) (room : Buffer) (begin sum c lane address to : ℕ) (b b′ : Buffer) → b′ ≡ writtenAll (copyWrites room (begin + 4 * lane) to 4) b → address ≡ targetFrom sum c → to ≡ address - base → b′ ≡ writtenAll (pairWrites base room begin sum c lane) b
 unfolding pairWrites

@@ -1,7 +1,7 @@
 -- What SVM SCATTER4_SCALED leaves, where it is not refused: every enabled pair's four bytes hold its data with their marks, but for those that a
 -- later pair writes, and no other byte of the memory changes, nor its mark.
 use Prim.Native.Nat.{ℕ, _+_, _-_, _≤_, _<_}
-use mathlib.Core.Path.{_≡_, refl, ap, _∙_}
+use mathlib.Core.Path.{_≡_, refl, sym, ap, _∙_}
 use mathlib.Core.Logic.{inl, inr}
 use mathlib.Core.Bool.{Bool, false}
 use mathlib.Core.List.{List}
@@ -10,6 +10,7 @@ use lib.Dec.{leb}
 use lib.ListN.{length, getD}
 use borrow.Author.Tests.{leb-true, not-false}
 use Rattle.scatter.specs.Results.{EnabledPair, Later, PairsHold, place}
+use Rattle.details.specs.Details.{tells}
 use Rattle.cells.specs.Buffer.{Buffer, isTainted, markOf}
 use Rattle.cells.specs.Writes.{Write, writtenAll}
 use Rattle.cells.specs.Over.{among, each, some}
@@ -31,7 +32,8 @@ use Rattle.staging.specs.Lanes.{lanesOn}
 use Rattle.staging.specs.Sources.{eitherTainted}
 use Rattle.staging.proofs.LanesOnLaws.{lanes-on-are}
 use Rattle.staging.specs.Results.{Enabled}
-use Rattle.scatter.specs.Scatter.{Window, channelsOn, target, sourceByte, misaligned, outside, scatterPair, scatterEffect}
+use Rattle.scatter.specs.Scatter.{Window, channelsOn, target, sourceByte, misaligned, outside, scatterPair, firstOffending, scatterEffect}
+use Rattle.scatter.proofs.FirstTest.{offending-some}
 use Rattle.cells.proofs.BoolLaws.{both-true}
 
 -- what test 12 lets pass has its four bytes in the window
@@ -104,10 +106,10 @@ module _ (w : Window) (mask : ℕ) (p : Plan) (registers : Buffer) where
       tests : (scatterEffect w p lanes registers .memory ≡ each channelWrites (channelsOn p)) × (some (λ c. some (λ i. outside w (target (registers .bytes) p c i)) lanes) (channelsOn p) ≡ false)
       unfolding scatterEffect
       tests =
-          let first = unless-done (some (λ i. eitherTainted (registers .taint) (p .left) (p .right) i) lanes) 10 _ (omega arith) passed in
-          let second = unless-done (some (λ c. some (λ i. misaligned (target (registers .bytes) p c i)) lanes) (channelsOn p)) 11 _ (omega arith) (first .1) in
-          let third = unless-done (some (λ c. some (λ i. outside w (target (registers .bytes) p c i)) lanes) (channelsOn p)) 12 _ (omega arith) (second .1) in
-          (ap (λ (e : Effect). e .memory) (unless-passed _ 10 _ (first .0) ∙ (unless-passed _ 11 _ (second .0) ∙ unless-passed _ 12 _ (third .0))), third .0)
+          let first = unless-done (some (λ i. eitherTainted (registers .taint) (p .left) (p .right) i) lanes) 10 _ _ (omega arith) passed in
+          let second = unless-done (tells (firstOffending misaligned p lanes (registers .bytes))) 11 _ _ (omega arith) (first .1) in
+          let third = unless-done (tells (firstOffending (outside w) p lanes (registers .bytes))) 12 _ _ (omega arith) (second .1) in
+          (ap (λ (e : Effect). e .memory) (unless-passed _ 10 _ _ (first .0) ∙ (unless-passed _ 11 _ _ (second .0) ∙ unless-passed _ 12 _ _ (third .0))), sym (offending-some (outside w) p lanes (registers .bytes)) ∙ third .0)
 
       pair-inside : (c lane : ℕ) → EnabledPair mask p c lane → Room memory (place w p registers c lane) 4
       unfolding channelsOn

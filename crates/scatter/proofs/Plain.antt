@@ -2,15 +2,16 @@
 -- same number and the same bytes, and no marks in the second.
 use mathlib.Core.Path.{_≡_, refl, ap}
 use mathlib.Core.Logic.{_≢_}
+use mathlib.Core.Bool.{Bool}
 use mathlib.Core.List.{List}
 use Prim.Native.Nat.{ℕ, _-_}
 use Rattle.cells.specs.Buffer.{Buffer}
-use Rattle.cells.proofs.Related.{none, each-alike, effects-unless}
-use Rattle.cells.proofs.Untainted.{some-same}
+use Rattle.cells.proofs.Related.{none, each-alike, effects-found}
+use Rattle.cells.proofs.FirstLaws.{pairs-same}
 use Rattle.cells.proofs.Plain.{SameBytes, Plainly, PlainWrites, PlainEffects, some-nowhere, copy-plain, unless-marked}
 use Rattle.plan.specs.declared.Plan.{Plan}
 use Rattle.staging.proofs.Plain.{both-plain, either-plain}
-use Rattle.scatter.specs.Scatter.{Window, channelsOn, targetAddress, target, sourceByte, misaligned, outside, scatterPair, scatterEffect}
+use Rattle.scatter.specs.Scatter.{Window, channelsOn, targetAddress, target, sourceByte, misaligned, outside, scatterPair, firstOffending, scatterEffect}
 
 module _ (b c : Buffer) (r : Plainly b c) (p : Plan) where
   target-plain : (k lane : ℕ) → target (b .bytes) p k lane ≡ target (c .bytes) p k lane
@@ -21,14 +22,19 @@ module _ (b c : Buffer) (r : Plainly b c) (p : Plan) where
   unfolding scatterPair
   pair-plain w k lane = copy-plain b c r (sourceByte p k lane) _ _ 4 (ap (λ a. a - w .base) (target-plain k lane))
 
+  offending-plain : (fails : ℕ → Bool) (lanes : List ℕ) → firstOffending fails p lanes (b .bytes) ≡ firstOffending fails p lanes (c .bytes)
+  unfolding firstOffending
+  offending-plain fails lanes = pairs-same (λ k i. fails (target (b .bytes) p k i)) (λ k i. fails (target (c .bytes) p k i)) (channelsOn p) lanes (λ k i. ap fails (target-plain k i))
+
   pub scatter-plain : (w : Window) (lanes : List ℕ) → scatterEffect w p lanes b .number ≢ 10 → PlainEffects (scatterEffect w p lanes b) (scatterEffect w p lanes c)
   unfolding scatterEffect
   scatter-plain w lanes sure =
-      unless-marked _ _ 10 _ _ (some-nowhere _ lanes (λ i. either-plain b c r _ _ i)) sure (λ _.
-      effects-unless SameBytes _ _ 11 _ _ (some-same _ _ (channelsOn p) (λ k. some-same _ _ lanes (λ i. ap misaligned (target-plain k i)))) (λ _.
-      effects-unless SameBytes _ _ 12 _ _ (some-same _ _ (channelsOn p) (λ k. some-same _ _ lanes (λ i. ap (outside w) (target-plain k i)))) (λ _.
+      unless-marked _ _ 10 _ _ _ (some-nowhere _ lanes (λ i. either-plain b c r _ _ i)) sure (λ _.
+      effects-found SameBytes 11 _ _ _ _ (offending-plain misaligned lanes) (λ _.
+      effects-found SameBytes 12 _ _ _ _ (offending-plain (outside w) lanes) (λ _.
       record {
         number = refl;
+        detail = refl;
         registers = none;
         memory = each-alike SameBytes _ _ (channelsOn p) (λ k. each-alike SameBytes _ _ lanes (λ i. pair-plain w k i));
       })))

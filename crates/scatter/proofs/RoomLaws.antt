@@ -7,12 +7,14 @@ use native.Mathlib.Omega.{arith}
 use lib.Dec.{leb}
 use lib.ListN.{getD}
 use borrow.Author.Tests.{leb-true}
+use Rattle.details.specs.declared.Detail.{Detail}
 use Rattle.cells.specs.Buffer.{Buffer}
 use Rattle.cells.specs.Writes.{copyWrites}
-use Rattle.cells.specs.Over.{each, some}
+use Rattle.cells.specs.Over.{each, some, firstPair}
 use Rattle.cells.proofs.CopyLaws.{Copied}
 use Rattle.cells.proofs.LaneLaws.{lanes-alike}
 use Rattle.cells.proofs.SearchLaws.{some-alike}
+use Rattle.cells.proofs.FirstLaws.{pairs-alike}
 use Rattle.channels.specs.Bits.{bit}
 use Rattle.channels.specs.Exec.{execSize}
 use Rattle.channels.specs.Lanes.{laneOn}
@@ -30,10 +32,10 @@ use Rattle.staging.proofs.LanesOnLaws.{lanes-on-are}
 use Rattle.staging.proofs.RoomLaws.{data-first, data-second, data-either, data-copied}
 use Rattle.scatter.specs.declared.Rule.{Rule}
 use Rattle.scatter.specs.declared.Rule.the-variants as rule
-use Rattle.scatter.specs.Scatter.{Window, channelsOn, target, sourceByte, misaligned, scatterPair, scatterEffect}
+use Rattle.scatter.specs.Scatter.{Window, channelsOn, target, sourceByte, misaligned, scatterPair, firstOffending, scatterEffect}
 use Rattle.scatter.specs.mirror.Guarded.{scatterFits}
 use Rattle.scatter.specs.mirror.Rules.{breaks}
-use Rattle.scatter.specs.mirror.FromRoom.{layoutFor, pairsOf, sourcesStaged, laneSum, WorkedOut, enabledLanes, targetFrom, rowPlace, pairWrites, rowWrites, allWrites, rowBreaks, someBreaks, someTainted, roomEffect}
+use Rattle.scatter.specs.mirror.FromRoom.{layoutFor, pairsOf, sourcesStaged, laneSum, WorkedOut, enabledLanes, targetFrom, rowPlace, pairWrites, rowWrites, allWrites, firstBreaking, someTainted, roomEffect}
 use Rattle.scatter.proofs.AmongAlike.{among-alike}
 use Rattle.scatter.proofs.EffectOrder.{tested, scatter-in-order}
 use Rattle.scatter.proofs.NeededLaws.{dword-needed, needed-at-most}
@@ -128,13 +130,13 @@ module _ (p : Plan) (fit : scatterFits p ≡ true) where
       unfolding someTainted
       tainted-alike = some-lanes _ _ same-tainted
 
-      row-alike : (r : Rule) (c : ℕ) → rowBreaks r on sums count c ≡ some (λ i. breaks r (target (registers .bytes) p c i)) (lanesOn mask p)
-      unfolding rowBreaks
-      row-alike r c = some-lanes _ _ (λ k h. ap (breaks r) (same-target c k h))
+      same-pairs : (r : Rule) → firstPair (λ c i. breaks r (targetFrom (getD sums i 0) c)) (channelsOn p) (enabledLanes on count) ≡ firstPair (λ c i. breaks r (target (registers .bytes) p c i)) (channelsOn p) (enabledLanes on count)
+      unfolding enabledLanes
+      same-pairs r = pairs-alike (λ k. getD on k false) _ _ (channelsOn p) count (λ c k h. ap (breaks r) (same-target c k h))
 
-      breaks-alike : (r : Rule) → someBreaks r (pairsOf p) on sums ≡ some (λ c. some (λ i. breaks r (target (registers .bytes) p c i)) (lanesOn mask p)) (channelsOn p)
-      unfolding someBreaks channelsOn
-      breaks-alike r = some-alike _ _ (bit (p .channels)) 4 (λ c h _. row-alike r c)
+      breaks-alike : (r : Rule) → firstBreaking r (pairsOf p) on sums ≡ firstOffending (breaks r) p (lanesOn mask p) (registers .bytes)
+      unfolding firstBreaking firstOffending channelsOn
+      breaks-alike r = same-pairs r ∙ ap (firstPair (λ c i. breaks r (target (registers .bytes) p c i)) (channelsOn p)) same-lanes
 
       same-each : (w : Window) (c : ℕ) → c < 4 → bit (p .channels) c ≡ true → each (λ i. pairWrites (w .base) room (rowPlace (pairsOf p) c) (getD sums i 0) c i) (enabledLanes on count) ≡ each (λ i. scatterPair w registers p c i) (enabledLanes on count)
       unfolding enabledLanes
@@ -151,6 +153,6 @@ module _ (p : Plan) (fit : scatterFits p ≡ true) where
       pub from-room-is : (w : Window) → roomEffect w (layoutFor p) (pairsOf p) on sums room ≡ scatterEffect w p (lanesOn mask p) registers
       unfolding roomEffect breaks
       from-room-is w =
-          ap₂ (λ (t o : Bool). tested t o (someBreaks (rule.Inside (w .base) (w .length)) (pairsOf p) on sums) (allWrites (w .base) room (pairsOf p) on sums)) tainted-alike (breaks-alike rule.Aligned)
-          ∙ (ap₂ (tested (some (λ i. eitherTainted (registers .taint) (p .left) (p .right) i) (lanesOn mask p)) (some (λ c. some (λ i. misaligned (target (registers .bytes) p c i)) (lanesOn mask p)) (channelsOn p))) (breaks-alike (rule.Inside (w .base) (w .length))) (writes-alike w)
+          ap₂ (λ (t : Bool) (o : Detail). tested t o (firstBreaking (rule.Inside (w .base) (w .length)) (pairsOf p) on sums) (allWrites (w .base) room (pairsOf p) on sums)) tainted-alike (breaks-alike rule.Aligned)
+          ∙ (ap₂ (tested (some (λ i. eitherTainted (registers .taint) (p .left) (p .right) i) (lanesOn mask p)) (firstOffending misaligned p (lanesOn mask p) (registers .bytes))) (breaks-alike (rule.Inside (w .base) (w .length))) (writes-alike w)
           ∙ sym (scatter-in-order w p (lanesOn mask p) registers))

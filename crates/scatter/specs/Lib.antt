@@ -1,3 +1,4 @@
 pub mod Scatter
 pub mod Results
+pub mod Offending
 pub mod mirror

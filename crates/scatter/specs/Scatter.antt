@@ -4,10 +4,12 @@ use mathlib.Core.Bool.{Bool, not, _&&_}
 use mathlib.Core.List.{List, []}
 use lib.ListN.{getD}
 use lib.Dec.{leb, eqb}
+use Rattle.details.specs.declared.Detail.{Detail}
+use Rattle.details.specs.declared.Detail.the-variants as detail
 use Rattle.cells.specs.Buffer.{Buffer}
 use Rattle.cells.specs.Writes.{Write, copyWrites}
-use Rattle.cells.specs.Over.{among, each, some}
-use Rattle.cells.specs.Effect.{Effect, unless}
+use Rattle.cells.specs.Over.{among, each, some, firstPair}
+use Rattle.cells.specs.Effect.{Effect, unless, unlessFound, writing}
 use Rattle.channels.specs.Bits.{bit}
 use Rattle.plan.specs.declared.Plan.{Plan}
 use Rattle.plan.specs.Needed.{enabledBelow, channelStride}
@@ -46,10 +48,15 @@ outside w address = not (leb (w .base) address && leb (address + 4) (w .base + w
 unfoldable pub scatterPair : Window → Buffer → Plan → ℕ → ℕ → List Write
 scatterPair w registers p c lane = copyWrites registers (sourceByte p c lane) (target (registers .bytes) p c lane - w .base) 4
 
--- "10 over all lanes; 11 over all; 12 over all", of enabled lanes and pairs only; then "c outer, i inner; the later write stays"
+-- "the first offending channel-and-lane pair ends the search": the first of the enabled pairs whose target fails a test
+unfoldable pub firstOffending : (ℕ → Bool) → Plan → List ℕ → List ℕ → Detail
+firstOffending fails p lanes bytes = firstPair (λ c i. fails (target bytes p c i)) (channelsOn p) lanes
+
+-- "10 over all lanes; 11 over all; 12 over all", of enabled lanes and pairs only; "11 and 12 now carry channel and lane of the first offending
+-- pair" (document 02, request 2); then "c outer, i inner; the later write stays"
 unfoldable pub scatterEffect : Window → Plan → List ℕ → Buffer → Effect
 scatterEffect w p lanes registers =
-    unless (some (λ i. eitherTainted (registers .taint) (p .left) (p .right) i) lanes) 10
-    (unless (some (λ c. some (λ i. misaligned (target (registers .bytes) p c i)) lanes) (channelsOn p)) 11
-    (unless (some (λ c. some (λ i. outside w (target (registers .bytes) p c i)) lanes) (channelsOn p)) 12
-    (record { number = 0; registers = []; memory = each (λ c. each (λ i. scatterPair w registers p c i) lanes) (channelsOn p) })))
+    unless (some (λ i. eitherTainted (registers .taint) (p .left) (p .right) i) lanes) 10 detail.None
+    (unlessFound 11 (firstOffending misaligned p lanes (registers .bytes))
+    (unlessFound 12 (firstOffending (outside w) p lanes (registers .bytes))
+    (writing [] (each (λ c. each (λ i. scatterPair w registers p c i) lanes) (channelsOn p)))))

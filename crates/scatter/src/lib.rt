@@ -1,5 +1,7 @@
 // SVM SCATTER4_SCALED: each enabled channel of each enabled lane writes a dword to memory.
 use channels::Lanes;
+use details::Detail;
+use details::Status;
 use operands::Elements;
 use plan::Plan;
 use staging::Layout;
@@ -18,7 +20,7 @@ ghost use Rattle.staging.specs.mirror.Room.{eitherStaged};
 ghost use Rattle.scatter.specs.Scatter.{outside};
 ghost use Rattle.scatter.specs.mirror.Guarded.{scatterFits, window, scatterGuarded};
 ghost use Rattle.scatter.specs.mirror.Rules.{breaks};
-ghost use Rattle.scatter.specs.mirror.FromRoom.{layoutFor, pairsOf, sourcesStaged, laneSum, WorkedOut, targetFrom, rowPlace, pairWrites, rowWrites, allWrites, someBreaks, someTainted, roomEffect};
+ghost use Rattle.scatter.specs.mirror.FromRoom.{layoutFor, pairsOf, sourcesStaged, laneSum, WorkedOut, targetFrom, rowPlace, pairWrites, rowWrites, allWrites, firstBreaking, someTainted, roomEffect};
 
 // What every target address has to meet. The window is given by its base and its length.
 enum Rule {
@@ -141,12 +143,12 @@ fn lane_breaks(rule: Rule, on: bool, sum: u64, channel: u8) -> bool
     on & breaks(rule, target_from(sum, channel))
 }
 
-// Whether an enabled pair of a channel and a lane breaks a rule: the first that does ends the search.
-fn some_breaks(rule: Rule, pairs: Pairs, on: &[bool; 16], sums: &[u64; 16]) -> bool
+// The first enabled pair of a channel and a lane that breaks a rule: it ends the search.
+fn first_breaking(rule: Rule, pairs: Pairs, on: &[bool; 16], sums: &[u64; 16]) -> Detail
     requires { ⌜ pairs .lanes ≤ 16 ⌝ }
-    ensures { λ r. ⌜ r ≡ someBreaks rule pairs (now (on .entry)) (now (sums .entry)) ⌝ }
+    ensures { λ r. ⌜ r ≡ firstBreaking rule pairs (now (on .entry)) (now (sums .entry)) ⌝ }
 {
-    let mut found = false;
+    let mut found = Detail::None;
     let mut channel: u8 = 0;
     'search: while channel < 4 {
         if channels::bit_at(pairs.channels as u32, channel as usize) {
@@ -154,7 +156,7 @@ fn some_breaks(rule: Rule, pairs: Pairs, on: &[bool; 16], sums: &[u64; 16]) -> b
             while lane < pairs.lanes {
                 let index = lane as usize;
                 if lane_breaks(rule, on[index], sums[index], channel) {
-                    found = true;
+                    found = Detail::Pair(channel, lane);
                     break 'search;
                 }
                 lane += 1;
@@ -328,19 +330,30 @@ fn from_room(
     base: u64,
     memory: &mut [u8],
     memory_taint: &mut [u8],
-) -> u8
+) -> Status
     requires { ⌜ (layout .lanes ≤ 16) × (pairs .lanes ≤ 16) ⌝ }
     ensures { λ r. ⌜ MemoryDone (roomEffect (window base (now (memory .entry))) layout pairs (now (on .entry)) (now (sums .entry)) (buffer (now (room .entry)) (now («room_taint» .entry)))) r (buffer (now (memory .entry)) (now («memory_taint» .entry))) (buffer (now (memory .exit)) (now («memory_taint» .exit))) ⌝ }
 {
     if some_tainted(room_taint, layout, on) {
-        return 10;
+        return Status {
+            number: 10,
+            detail: Detail::None,
+        };
     }
-    if some_breaks(Rule::Aligned, pairs, on, sums) {
-        return 11;
+    let misaligned = first_breaking(Rule::Aligned, pairs, on, sums);
+    if details::tells(misaligned) {
+        return Status {
+            number: 11,
+            detail: misaligned,
+        };
     }
     let inside = Rule::Inside(base, memory.len() as u64);
-    if some_breaks(inside, pairs, on, sums) {
-        return 12;
+    let outside = first_breaking(inside, pairs, on, sums);
+    if details::tells(outside) {
+        return Status {
+            number: 12,
+            detail: outside,
+        };
     }
     write_pairs(
         room,
@@ -352,7 +365,10 @@ fn from_room(
         memory,
         memory_taint,
     );
-    0
+    Status {
+        number: 0,
+        detail: Detail::None,
+    }
 }
 
 // Whether the lanes are no more than 16, and the elements of both addresses have room.
@@ -395,7 +411,7 @@ fn scatter_fitting(
     register_taint: &[u8],
     memory: &mut [u8],
     memory_taint: &mut [u8],
-) -> u8
+) -> Status
     requires { ⌜ scatterFits plan ≡ true ⌝ }
     ensures { λ r. ⌜ MemoryDone (scatterGuarded (window base (now (memory .entry))) mask plan (buffer (now (registers .entry)) (now («register_taint» .entry)))) r (buffer (now (memory .entry)) (now («memory_taint» .entry))) (buffer (now (memory .exit)) (now («memory_taint» .exit))) ⌝ }
 {
@@ -421,7 +437,7 @@ fn scatter_fitting(
     )
 }
 
-// The number of a refusal, or 0 with the dwords written; 7 for a plan that no check makes.
+// The number of a refusal with what it tells, or 0 with the dwords written; 7 for a plan that no check makes.
 pub fn scatter(
     plan: Plan,
     mask: u32,
@@ -430,7 +446,7 @@ pub fn scatter(
     register_taint: &[u8],
     memory: &mut [u8],
     memory_taint: &mut [u8],
-) -> u8
+) -> Status
     ensures { λ r. ⌜ MemoryDone (scatterGuarded (window base (now (memory .entry))) mask plan (buffer (now (registers .entry)) (now («register_taint» .entry)))) r (buffer (now (memory .entry)) (now («memory_taint» .entry))) (buffer (now (memory .exit)) (now («memory_taint» .exit))) ⌝ }
 {
     if fits(plan) {
@@ -444,6 +460,9 @@ pub fn scatter(
             memory_taint,
         )
     } else {
-        7
+        Status {
+            number: 7,
+            detail: Detail::None,
+        }
     }
 }

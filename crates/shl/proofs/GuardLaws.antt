@@ -6,6 +6,7 @@ use borrow.Author.Tests.{not-true, not-false}
 use Rattle.cells.specs.Buffer.{Buffer}
 use Rattle.cells.specs.Writes.{writtenAll}
 use Rattle.cells.specs.Over.{among, each}
+use Rattle.details.specs.declared.Detail.the-variants as detail
 use Rattle.cells.specs.Effect.{refused, RegistersDone}
 use Rattle.cells.proofs.EffectLaws.{unless-refused, unless-passed, nothing-written}
 use Rattle.cells.proofs.LaneLaws.{lanes-alike}
@@ -24,14 +25,14 @@ use Rattle.shl.specs.mirror.Guarded.{shlFits, shlGuarded}
 use Rattle.shl.proofs.RoomLaws.{room-lane-is}
 
 module _ (mask : ℕ) (p : Plan) (b : Buffer) where
-  pub guard-refuses : shlFits p ≡ false → shlGuarded mask p b ≡ refused 7
+  pub guard-refuses : shlFits p ≡ false → shlGuarded mask p b ≡ refused 7 detail.None
   unfolding shlGuarded
-  guard-refuses e = unless-refused _ 7 _ (ap not e)
+  guard-refuses e = unless-refused _ 7 _ _ (ap not e)
 
   -- the guard is not the reason of an answer
   pub guard-passes : shlFits p ≡ true → shlGuarded mask p b ≡ shlEffect p (lanesOn mask p) b
   unfolding shlGuarded
-  guard-passes e = unless-passed _ 7 _ (ap not e)
+  guard-passes e = unless-passed _ 7 _ _ (ap not e)
 
   pub shl-refused : (fit : Bool) → fit ≡ shlFits p → not fit ≡ true → RegistersDone (shlGuarded mask p b) 7 b b
   shl-refused fit f e =

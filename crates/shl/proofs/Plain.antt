@@ -20,4 +20,4 @@ lane-plain b c r p lane =
 
 pub shl-plain : (p : Plan) (lanes : List ℕ) (b c : Buffer) → Plainly b c → PlainEffects (shlEffect p lanes b) (shlEffect p lanes c)
 unfolding shlEffect
-shl-plain p lanes b c r = record { number = refl; registers = each-alike SameBytes _ _ lanes (lane-plain b c r p); memory = none }
+shl-plain p lanes b c r = record { number = refl; detail = refl; registers = each-alike SameBytes _ _ lanes (lane-plain b c r p); memory = none }

@@ -19,4 +19,4 @@ lane-alike b c r p lane =
 
 pub shl-alike : (p : Plan) (lanes : List ℕ) (b c : Buffer) → Agreeing b c → AlikeEffects (shlEffect p lanes b) (shlEffect p lanes c)
 unfolding shlEffect
-shl-alike p lanes b c r = record { number = refl; registers = each-alike SameUntainted _ _ lanes (lane-alike b c r p); memory = none }
+shl-alike p lanes b c r = record { number = refl; detail = refl; registers = each-alike SameUntainted _ _ lanes (lane-alike b c r p); memory = none }

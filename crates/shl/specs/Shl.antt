@@ -5,7 +5,7 @@ use lib.ListN.{getD}
 use Rattle.cells.specs.Buffer.{Buffer, markOf}
 use Rattle.cells.specs.Writes.{Write, numberWrites}
 use Rattle.cells.specs.Over.{each}
-use Rattle.cells.specs.Effect.{Effect}
+use Rattle.cells.specs.Effect.{Effect, writing}
 use Rattle.shift.specs.Exact.{shifted}
 use Rattle.plan.specs.declared.Plan.{Plan}
 use Rattle.staging.specs.Sources.{elementValue, eitherTainted}
@@ -24,4 +24,4 @@ shlLane b p lane = numberWrites (getD (p .payload .at) lane 0) (p .payload .size
 
 -- the enabled lanes, in order, over the registers as they were
 unfoldable pub shlEffect : Plan → List ℕ → Buffer → Effect
-shlEffect p lanes registers = record { number = 0; registers = each (shlLane registers p) lanes; memory = [] }
+shlEffect p lanes registers = writing (each (shlLane registers p) lanes) []

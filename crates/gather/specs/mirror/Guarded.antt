@@ -3,6 +3,7 @@
 use Prim.Native.Nat.{ℕ}
 use mathlib.Core.Bool.{Bool, not, _&&_}
 use Rattle.cells.specs.Buffer.{Buffer}
+use Rattle.details.specs.declared.Detail.the-variants as detail
 use Rattle.cells.specs.Effect.{Effect, unless}
 use Rattle.channels.specs.Exec.{execSize}
 use Rattle.plan.specs.declared.Plan.{Plan}
@@ -15,4 +16,4 @@ unfoldable pub gatherFits : Plan → Bool
 gatherFits p = elementsFit 4 (p .left) (execSize (p .control .exec)) && elementsFit 4 (p .right) (execSize (p .control .exec))
 
 unfoldable pub gatherGuarded : ℕ → Plan → Buffer → Buffer → Effect
-gatherGuarded mask p registers surfaces = unless (not (gatherFits p)) 7 (gatherEffect p (lanesOn mask p) registers surfaces)
+gatherGuarded mask p registers surfaces = unless (not (gatherFits p)) 7 detail.None (gatherEffect p (lanesOn mask p) registers surfaces)

@@ -9,23 +9,27 @@ returns c = tainted-done _ _ _ _ _ _ _ (c .before .some-tainted .ensures) _ (c .
 
 returns-2 : tie.Need-returns-2
 returns-2 c =
-    let t = c .before .before in
-    let a = t .before .before .before .before .before .before .args in
-    misaligned-done _ _ (a .pairs) (a .on .now) (a .sums .now) _ _ (t .before .some-tainted .ensures) (t .if1 .left) _ (c .before .some-breaks .ensures) _ (c .if2 .taken)
+    let o : tie.After-first-breaking = search c in
+    let t : tie.After-some-tainted = search o in
+    let start : tie.Start = search t in
+    let a = start .args in
+    misaligned-done _ _ (a .pairs) (a .on .now) (a .sums .now) _ _ (t .some-tainted .ensures) (o .before .if1 .left) _ (o .first-breaking .ensures) _ (c .before .tells .ensures) _ (c .if2 .taken)
 
 returns-3 : tie.Need-returns-3
 returns-3 c =
-    let o = c .before .before in
-    let t = o .before .before in
-    outside-done _ _ _ _ _ _ _ (t .before .some-tainted .ensures) (t .if1 .left) _ (o .before .some-breaks .ensures) (o .if2 .left) _ (c .before .some-breaks2 .ensures) _ (c .if3 .taken)
+    let f : tie.After-first-breaking2 = search c in
+    let o : tie.After-first-breaking = search f in
+    let t : tie.After-some-tainted = search o in
+    outside-done _ _ _ _ _ _ _ (t .some-tainted .ensures) (o .before .if1 .left) _ (o .first-breaking .ensures) _ (f .before .before .tells .ensures) (f .before .if2 .left) _ (f .first-breaking2 .ensures) _ (c .before .tells2 .ensures) _ (c .if3 .taken)
 
 returns-4 : tie.Need-returns-4
 returns-4 c =
-    let w = c .before .before .before .before in
-    let f = w .before .before .before in
-    let o = f .before .before in
-    let t = o .before .before in
-    pairs-done _ _ _ _ _ _ _ (t .before .some-tainted .ensures) (t .if1 .left) _ (o .before .some-breaks .ensures) (o .if2 .left) _ (f .before .some-breaks2 .ensures) _ _ (f .if3 .left) (w .write-pairs .ensures)
+    let w : tie.After-write-pairs = search c in
+    let inside : tie.Else3 = search w in
+    let f : tie.After-first-breaking2 = search inside in
+    let o : tie.After-first-breaking = search f in
+    let t : tie.After-some-tainted = search o in
+    pairs-done _ _ _ _ _ _ _ (t .some-tainted .ensures) (o .before .if1 .left) _ (o .first-breaking .ensures) _ (f .before .before .tells .ensures) (f .before .if2 .left) _ (f .first-breaking2 .ensures) _ (inside .before .tells2 .ensures) _ _ (inside .if3 .left) (w .write-pairs .ensures)
 
 pub from-room-spec : {M : Type 1} → statement M
-from-room-spec = tie.close (tie.spec (λ c κs. search needs) returns (λ c κs. search needs) returns-2 (λ c κs. search needs) returns-3 (λ c κs. search needs) (λ c. search needs) (λ c. search needs) returns-4)
+from-room-spec = tie.close (tie.spec (λ c κs. search needs) returns (λ c κs. search needs) (λ c κs. search needs) returns-2 (λ c κs. search needs) (λ c κs. search needs) returns-3 (λ c κs. search needs) (λ c. search needs) (λ c. search needs) returns-4)

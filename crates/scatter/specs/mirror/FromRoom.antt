@@ -5,10 +5,12 @@ use mathlib.Core.Path.{_≡_}
 use mathlib.Core.Bool.{Bool, false}
 use mathlib.Core.List.{List, []}
 use lib.ListN.{getD}
+use Rattle.details.specs.declared.Detail.{Detail}
+use Rattle.details.specs.declared.Detail.the-variants as detail
 use Rattle.cells.specs.Buffer.{Buffer}
 use Rattle.cells.specs.Writes.{Write, copyWrites}
-use Rattle.cells.specs.Over.{among, each, some}
-use Rattle.cells.specs.Effect.{Effect, unless}
+use Rattle.cells.specs.Over.{among, each, some, firstPair}
+use Rattle.cells.specs.Effect.{Effect, unless, unlessFound, writing}
 use Rattle.channels.specs.Bits.{bit}
 use Rattle.channels.specs.Exec.{execSize}
 use Rattle.channels.specs.mirror.Prepared.{isOn}
@@ -72,12 +74,9 @@ rowWrites base room begin on sums lanes c = each (λ i. pairWrites base room beg
 unfoldable pub allWrites : ℕ → Buffer → Pairs → List Bool → List ℕ → List Write
 allWrites base room s on sums = each (λ c. rowWrites base room (rowPlace s c) on sums (s .lanes) c) (among (bit (s .channels)) 4)
 
--- an enabled lane of one channel breaks a rule, and one of any enabled channel
-unfoldable pub rowBreaks : Rule → List Bool → List ℕ → ℕ → ℕ → Bool
-rowBreaks rule on sums lanes c = some (λ i. breaks rule (targetFrom (getD sums i 0) c)) (enabledLanes on lanes)
-
-unfoldable pub someBreaks : Rule → Pairs → List Bool → List ℕ → Bool
-someBreaks rule s on sums = some (rowBreaks rule on sums (s .lanes)) (among (bit (s .channels)) 4)
+-- the first enabled pair that breaks a rule
+unfoldable pub firstBreaking : Rule → Pairs → List Bool → List ℕ → Detail
+firstBreaking rule s on sums = firstPair (λ c i. breaks rule (targetFrom (getD sums i 0) c)) (among (bit (s .channels)) 4) (enabledLanes on (s .lanes))
 
 -- ---- of the instruction
 unfoldable pub someTainted : List ℕ → Layout → List Bool → Bool
@@ -85,7 +84,7 @@ someTainted taint s on = some (eitherStaged taint s) (enabledLanes on (s .lanes)
 
 unfoldable pub roomEffect : Window → Layout → Pairs → List Bool → List ℕ → Buffer → Effect
 roomEffect w l s on sums room =
-    unless (someTainted (room .taint) l on) 10
-    (unless (someBreaks rule.Aligned s on sums) 11
-    (unless (someBreaks (rule.Inside (w .base) (w .length)) s on sums) 12
-    (record { number = 0; registers = []; memory = allWrites (w .base) room s on sums })))
+    unless (someTainted (room .taint) l on) 10 detail.None
+    (unlessFound 11 (firstBreaking rule.Aligned s on sums)
+    (unlessFound 12 (firstBreaking (rule.Inside (w .base) (w .length)) s on sums)
+    (writing [] (allWrites (w .base) room s on sums))))

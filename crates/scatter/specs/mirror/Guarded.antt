@@ -6,6 +6,7 @@ use mathlib.Core.Bool.{Bool, not, _&&_}
 use mathlib.Core.List.{List}
 use lib.Dec.{leb}
 use lib.ListN.{length}
+use Rattle.details.specs.declared.Detail.the-variants as detail
 use Rattle.cells.specs.Buffer.{Buffer}
 use Rattle.cells.specs.Effect.{Effect, unless}
 use Rattle.channels.specs.Exec.{execSize}
@@ -26,4 +27,4 @@ window base memory = record { base = base; length = length memory }
 
 -- the mask is the paper's EM
 unfoldable pub scatterGuarded : Window → ℕ → Plan → Buffer → Effect
-scatterGuarded w mask p registers = unless (not (scatterFits p)) 7 (scatterEffect w p (lanesOn mask p) registers)
+scatterGuarded w mask p registers = unless (not (scatterFits p)) 7 detail.None (scatterEffect w p (lanesOn mask p) registers)

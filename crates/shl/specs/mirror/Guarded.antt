@@ -4,6 +4,7 @@ use Prim.Native.Nat.{ℕ}
 use mathlib.Core.Bool.{Bool, not, _&&_}
 use lib.Dec.{leb}
 use Rattle.cells.specs.Buffer.{Buffer}
+use Rattle.details.specs.declared.Detail.the-variants as detail
 use Rattle.cells.specs.Effect.{Effect, unless}
 use Rattle.channels.specs.Exec.{execSize}
 use Rattle.plan.specs.declared.Plan.{Plan}
@@ -18,4 +19,4 @@ shlFits p =
     && leb (p .payload .size) 4
 
 unfoldable pub shlGuarded : ℕ → Plan → Buffer → Effect
-shlGuarded mask p registers = unless (not (shlFits p)) 7 (shlEffect p (lanesOn mask p) registers)
+shlGuarded mask p registers = unless (not (shlFits p)) 7 detail.None (shlEffect p (lanesOn mask p) registers)

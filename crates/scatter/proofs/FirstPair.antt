@@ -1,0 +1,54 @@
+-- A scatter's search tells the first offending pair of all enabled pairs.
+use Prim.Native.Nat.{ℕ, _<_}
+use mathlib.Core.Path.{_≡_, sym, _∙_}
+use mathlib.Core.Logic.{⊎-elim}
+use mathlib.Core.Bool.{Bool, true, false}
+use mathlib.Core.List.{List}
+use native.Mathlib.Omega.{arith}
+use Rattle.details.specs.declared.Detail.{Detail}
+use Rattle.cells.specs.Over.{among, firstPair}
+use Rattle.cells.proofs.FirstFound.{FoundPair, NoPair, pairs-found}
+use Rattle.channels.specs.Bits.{bit}
+use Rattle.channels.specs.Exec.{execSize}
+use Rattle.channels.specs.Lanes.{laneOn}
+use Rattle.channels.proofs.LaneLaws.{on-below-size}
+use Rattle.plan.specs.declared.Plan.{Plan}
+use Rattle.staging.specs.Lanes.{lanesOn}
+use Rattle.staging.specs.Results.{Enabled}
+use Rattle.staging.proofs.LanesOnLaws.{lanes-on-are}
+use Rattle.scatter.specs.Scatter.{channelsOn, target, firstOffending}
+use Rattle.scatter.specs.Results.{EnabledPair, Later}
+use Rattle.scatter.specs.Offending.{IsFirst, Searched, found, clear}
+
+module _ (mask : ℕ) (p : Plan) (offends : ℕ → ℕ → Bool) where
+  abbrev on : ℕ → Bool
+  on = laneOn (p .control .exec) (p .control .pred) mask (p .bits)
+
+  abbrev size : ℕ
+  size = execSize (p .control .exec)
+
+  below : (lane : ℕ) → Enabled mask p lane → lane < size
+  below lane h = on-below-size (p .control .exec) (p .control .pred) mask (p .bits) lane h
+
+  found-first : (d : Detail) → FoundPair offends (bit (p .channels)) on size 0 4 d → Searched mask p offends d
+  found-first d f =
+      rw (f .is)
+      (found {c = f .channel} {lane = f .lane} (record {
+        enabled = record { channel = omega (arith, f .high); channel-on = f .channel-on; lane-on = f .lane-on };
+        offending = f .has;
+        before = λ e other pair later.
+            ⊎-elim
+            (λ l. f .channels-before e other (omega arith) l (pair .channel-on) (below other (pair .lane-on)) (pair .lane-on))
+            (λ same. rw (same .0) (f .lanes-before other (same .1) (pair .lane-on)))
+            later;
+      }))
+
+  found-none : (d : Detail) → NoPair offends (bit (p .channels)) on size 0 4 d → Searched mask p offends d
+  found-none d z = rw (z .is) (clear (λ c lane pair. z .none c lane (omega arith) (omega (arith, pair .channel)) (pair .channel-on) (below lane (pair .lane-on)) (pair .lane-on)))
+
+  pairs-searched : Searched mask p offends (firstPair offends (among (bit (p .channels)) 4) (among on size))
+  pairs-searched = ⊎-elim (found-first _) (found-none _) (pairs-found offends (bit (p .channels)) on size 4)
+
+pub offending-first : (fails : ℕ → Bool) (mask : ℕ) (p : Plan) (bytes : List ℕ) → Searched mask p (λ c i. fails (target bytes p c i)) (firstOffending fails p (lanesOn mask p) bytes)
+unfolding firstOffending channelsOn
+offending-first fails mask p bytes = rw (lanes-on-are mask p) (pairs-searched mask p (λ c i. fails (target bytes p c i)))

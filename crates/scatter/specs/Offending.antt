@@ -1,0 +1,21 @@
+-- Which pair a scatter's refusal names, said of all enabled pairs. Document 02, request 2: "11 and 12 now carry channel and lane of the first
+-- offending pair, in document 01's order"; document 01: "c outer, i inner", "Only enabled pairs are tested".
+use Prim.Native.Nat.{ℕ}
+use mathlib.Core.Path.{_≡_}
+use mathlib.Core.Bool.{Bool, true, false}
+use Rattle.details.specs.declared.Detail.{Detail}
+use Rattle.details.specs.declared.Detail.the-variants as detail
+use Rattle.plan.specs.declared.Plan.{Plan}
+use Rattle.scatter.specs.Results.{EnabledPair, Later}
+
+module _ (mask : ℕ) (p : Plan) (offends : ℕ → ℕ → Bool) where
+  -- an enabled pair that offends, where no enabled pair before it does
+  pub record IsFirst (c lane : ℕ) : Type 0 where
+    pub enabled : EnabledPair mask p c lane
+    pub offending : offends c lane ≡ true
+    pub before : (d other : ℕ) → EnabledPair mask p d other → Later d other c lane → offends d other ≡ false
+
+  -- what is told of a search over all enabled pairs: the first that offends, or nothing where none does
+  pub data Searched : Detail → Type 0 where
+    found : {c lane : ℕ} → IsFirst c lane → Searched (detail.Pair c lane)
+    clear : ((c lane : ℕ) → EnabledPair mask p c lane → offends c lane ≡ false) → Searched detail.None
