@@ -10,15 +10,18 @@ use reference::case_writer::write_case;
 use reference::generate::mistakes::{Mistake, Mistake::*, Refused};
 use reference::refusal::Detail;
 
-/// The mistakes that show on a case, `PlaceFrom0` apart, which shows wherever an operand is named.
+/// The mistakes that show on a case, apart from two that show wherever an operand is named.
 fn shown(case: &mut Case, draft: Draft) -> Vec<Mistake> {
     case.kernel = draft.bytes();
     let file = write_case(case);
     let answer = answer_to(&file);
     let mut mistakes = Refused::of(&file, &answer).map_or(vec![], |it| it.mistakes());
     let names_operand = matches!(answer.detail, Detail::Operand(_));
-    assert_eq!(mistakes.contains(&PlaceFrom0), names_operand);
-    mistakes.retain(|it| *it != PlaceFrom0);
+    let everywhere = [PlaceFrom0, PlaceOverFields];
+    for mistake in everywhere {
+        assert_eq!(mistakes.contains(&mistake), names_operand);
+    }
+    mistakes.retain(|it| !everywhere.contains(it));
     mistakes
 }
 

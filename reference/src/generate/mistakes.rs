@@ -6,7 +6,7 @@ use crate::case_file::read_case;
 use crate::decode::decode;
 use crate::element;
 use crate::fields::Role;
-use crate::instruction::{Instruction, GATHER, SHL};
+use crate::instruction::{Instruction, GATHER, SHL, SVM};
 use crate::lanes::lanes_on;
 use crate::number::{
     NOT_ALLOWED, NOT_IN_TABLE, NOT_IN_WINDOW, NULL, OUTSIDE, SCALAR_REGION, TAINTED_ADDRESS,
@@ -38,6 +38,8 @@ pub enum Mistake {
     LastOperand,
     /// The place counts from 0.
     PlaceFrom0,
+    /// The place counts all fields, from the opcode on.
+    PlaceOverFields,
     /// The surface counts among the places.
     SurfaceCounted,
     /// The lane loop stands outside the channel loop.
@@ -57,7 +59,7 @@ pub enum Mistake {
 }
 
 impl Mistake {
-    pub const ALL: [Mistake; 18] = [
+    pub const ALL: [Mistake; 19] = [
         Mistake::WidthBeforeStride,
         Mistake::NullsFirst,
         Mistake::Width32Over,
@@ -68,6 +70,7 @@ impl Mistake {
         Mistake::RuleByRule,
         Mistake::LastOperand,
         Mistake::PlaceFrom0,
+        Mistake::PlaceOverFields,
         Mistake::SurfaceCounted,
         Mistake::LaneOutside,
         Mistake::LastPair,
@@ -90,6 +93,7 @@ impl Mistake {
             Mistake::RuleByRule => "each rule over all operands",
             Mistake::LastOperand => "last operand at fault",
             Mistake::PlaceFrom0 => "place from 0",
+            Mistake::PlaceOverFields => "place over all fields",
             Mistake::SurfaceCounted => "surface counted",
             Mistake::LaneOutside => "lane loop outside channel loop",
             Mistake::LastPair => "last offending pair",
@@ -164,6 +168,7 @@ impl Mistake {
         };
         let place = match self {
             Mistake::PlaceFrom0 => 0,
+            Mistake::PlaceOverFields => 1 + fields_before_operands(it),
             Mistake::SurfaceCounted if it.opcode == GATHER => 2,
             _ => 1,
         };
@@ -195,6 +200,7 @@ impl Mistake {
         };
         let named = match self {
             Mistake::PlaceFrom0 => place - 1,
+            Mistake::PlaceOverFields => place + fields_before_operands(&refused.instruction),
             _ => place,
         };
         (first(place), Detail::Operand(named))
@@ -229,6 +235,18 @@ impl Mistake {
             _ => pair.lane,
         };
         (number, Detail::Pair { channel, lane })
+    }
+}
+
+/// How many fields of the pages' Format tables stand before the first operand.
+fn fields_before_operands(instruction: &Instruction) -> usize {
+    match instruction.opcode {
+        // Opcode, Exec_size, Pred.
+        SHL => 3,
+        // Opcode, sub-opcode, Exec_size, Pred, Channels, Scale.
+        SVM => 6,
+        // Opcode, Exec_size, Pred, Block_size, Num_blocks, Scale, Surface, or as many of RAW_SEND.
+        _ => 7,
     }
 }
 

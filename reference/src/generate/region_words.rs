@@ -96,7 +96,7 @@ fn of_shl(
     mut exec_code: u16,
 ) -> Meant {
     if operand == DESTINATION && code == 4 {
-        // A stride of 4 over 32 bytes is four registers.
+        // Of 32 bytes every fourth one: four registers.
         exec_code = exec_code.min(4);
     }
     let mut region = right(random, operand, exec_code);
