@@ -1,14 +1,26 @@
-//! The bench program as a function: a case file in, the output lines out.
+//! The bench program as a function: a case file in, the output lines out; and the whole answer, of which its 40 line shows
+//! the numbers.
 
+use crate::case::Case;
 use crate::case_file::read_case;
 use crate::case_writer::{line, memory_line};
 use crate::number::{BAD_LINE, SIZES};
+use crate::refusal::Detail;
 use crate::run::{run, Answer};
 
-/// "It writes 40 (number ub, completed uw, position ud), then 01, 05, 08, 0a."
-pub fn bench(input: &[u8]) -> Vec<u8> {
-    let mut case = match read_case(input) {
-        Ok(case) => case,
+/// The answer to a case file.
+pub fn answer(input: &[u8]) -> Answer {
+    answered(input).0
+}
+
+/// The answer to a case file, and what the run left unless it is 13 or 14.
+fn answered(input: &[u8]) -> (Answer, Option<Case>) {
+    match read_case(input) {
+        Ok(mut case) => match run(&mut case) {
+            // "13 likewise, position 0."
+            answer if answer.number == SIZES => (answer, None),
+            answer => (answer, Some(case)),
+        },
         // "is 14, at the first such line and before any 13: only the 40 line, completed 0, line number
         // from 1 as position"
         Err(line_number) => {
@@ -16,15 +28,19 @@ pub fn bench(input: &[u8]) -> Vec<u8> {
                 number: BAD_LINE,
                 completed: 0,
                 position: line_number,
+                detail: Detail::None,
             };
-            return file_of(vec![answer_line(&answer)]);
+            (answer, None)
         }
-    };
-    let answer = run(&mut case);
-    // "13 likewise, position 0."
-    if answer.number == SIZES {
-        return file_of(vec![answer_line(&answer)]);
     }
+}
+
+/// "It writes 40 (number ub, completed uw, position ud), then 01, 05, 08, 0a."
+pub fn bench(input: &[u8]) -> Vec<u8> {
+    let (answer, left) = answered(input);
+    let Some(case) = left else {
+        return file_of(vec![answer_line(&answer)]);
+    };
     file_of(vec![
         answer_line(&answer),
         line(0x01, &[&case.registers]),

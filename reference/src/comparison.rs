@@ -1,7 +1,7 @@
-//! The comparison: cases through a command and through an interpreter, every byte of output equal.
+//! The comparison: cases through a command and through an interpreter, every byte that comes back equal.
 
 use crate::command::{run_batch, run_once};
-use crate::difference::{first_difference, listing};
+use crate::difference::{first_difference, listing, verdict_difference};
 use crate::panics::caught;
 use crate::programs::Interpreter;
 use crate::source::{NamedCase, Source};
@@ -13,12 +13,31 @@ pub struct Comparison {
     pub source: Source,
     /// The command's words.
     pub command: Vec<String>,
+    pub compared: Compared,
+    /// What gives the library's output or verdict.
     pub interpreter: Interpreter,
     /// Processes at a time, and the time that one may take.
     pub jobs: u64,
     pub patience: Duration,
     /// Whether reports show long lines whole.
     pub whole: bool,
+}
+
+/// What comes back for a case: the bench program's output, or the verdict.
+#[derive(Clone, Copy, Debug, PartialEq, Eq)]
+pub enum Compared {
+    Outputs,
+    Verdicts,
+}
+
+impl Compared {
+    /// The first difference in words, or nothing where all is equal.
+    fn difference(self, expected: &[u8], got: &[u8]) -> Option<String> {
+        match self {
+            Compared::Outputs => first_difference(expected, got).map(|it| it.to_string()),
+            Compared::Verdicts => verdict_difference(expected, got),
+        }
+    }
 }
 
 /// A case whose outputs differ, or that could not be judged.
@@ -107,7 +126,7 @@ impl Comparison {
     fn problem(&self, case: &NamedCase, got: Result<Vec<u8>, String>) -> Option<String> {
         let expected = (self.interpreter)(&case.file);
         let (difference, got) = match got {
-            Ok(got) => (first_difference(&expected, &got)?.to_string(), got),
+            Ok(got) => (self.compared.difference(&expected, &got)?, got),
             Err(problem) => (problem, Vec::new()),
         };
         Some(format!(

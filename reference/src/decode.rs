@@ -3,7 +3,7 @@
 
 use crate::cursor::Cursor;
 use crate::element_type::UQ;
-use crate::fields::{self, Place};
+use crate::fields::{self, Role};
 use crate::instruction::{
     Instruction, RawOperand, VectorOperand, GATHER, RAW_SEND, SCATTER, SHL, SVM,
 };
@@ -52,9 +52,9 @@ fn instruction(cursor: &mut Cursor) -> Result<Instruction, u8> {
 fn shl(cursor: &mut Cursor) -> Result<Instruction, u8> {
     let exec = exec(cursor, false)?;
     let pred = pred(cursor)?;
-    let dst = vector(cursor, Place::Destination)?;
-    let src0 = vector(cursor, Place::Source)?;
-    let src1 = vector(cursor, Place::Source)?;
+    let dst = vector(cursor, Role::Destination)?;
+    let src0 = vector(cursor, Role::Source)?;
+    let src1 = vector(cursor, Role::Source)?;
     Ok(Instruction {
         opcode: SHL,
         exec,
@@ -76,7 +76,7 @@ fn gather(cursor: &mut Cursor) -> Result<Instruction, u8> {
     fields::num_blocks(num_blocks)?;
     let scale = cursor.uw()?;
     let surface = cursor.ub()?;
-    let scalar = vector(cursor, Place::Source)?;
+    let scalar = vector(cursor, Role::Source)?;
     let element_offset = raw(cursor)?;
     let raw_dst = raw(cursor)?;
     Ok(Instruction {
@@ -105,7 +105,7 @@ fn scatter(cursor: &mut Cursor) -> Result<Instruction, u8> {
     let channels = cursor.ub()?;
     fields::channels(channels)?;
     let scale = cursor.uw()?;
-    let scalar = vector(cursor, Place::Source)?;
+    let scalar = vector(cursor, Role::Source)?;
     let element_offset = raw(cursor)?;
     let raw_src = raw(cursor)?;
     Ok(Instruction {
@@ -133,7 +133,7 @@ fn raw_send(cursor: &mut Cursor) -> Result<Instruction, u8> {
     fields::num_src(num_src)?;
     let num_dst = cursor.ub()?;
     fields::num_dst(num_dst)?;
-    let scalar = vector(cursor, Place::Source)?;
+    let scalar = vector(cursor, Role::Source)?;
     let raw_src = raw(cursor)?;
     let raw_dst = raw(cursor)?;
     Ok(Instruction {
@@ -163,12 +163,12 @@ fn pred(cursor: &mut Cursor) -> Result<u16, u8> {
     Ok(word)
 }
 
-fn vector(cursor: &mut Cursor, place: Place) -> Result<VectorOperand, u8> {
+fn vector(cursor: &mut Cursor, role: Role) -> Result<VectorOperand, u8> {
     let mut operand = VectorOperand {
         tag: cursor.ub()?,
         ..VectorOperand::default()
     };
-    fields::tag(operand.tag, place)?;
+    fields::tag(operand.tag, role)?;
     if operand.is_immediate() {
         operand.immediate_type = cursor.ub()?;
         fields::immediate_type(operand.immediate_type)?;

@@ -1,4 +1,4 @@
-//! Where two outputs of the bench program differ first, said readably.
+//! Where two outputs of the bench program, or two verdicts, differ first, said readably.
 
 use std::fmt::{self, Display};
 
@@ -43,6 +43,30 @@ pub fn first_difference(expected: &[u8], got: &[u8]) -> Option<Difference> {
         got: digits(got),
         frame: frame_name(&expected[line_start..]),
     })
+}
+
+/// Where two verdicts differ first, by word, or nothing when they are equal byte for byte.
+pub fn verdict_difference(expected: &[u8], got: &[u8]) -> Option<String> {
+    if expected == got {
+        return None;
+    }
+    let same = expected.iter().zip(got).take_while(|(a, b)| a == b).count();
+    let words = expected[..same]
+        .iter()
+        .filter(|byte| **byte == b' ')
+        .count();
+    let word = match words {
+        0 => "number",
+        1 => "completed",
+        2 => "position",
+        _ => "what it carries",
+    };
+    Some(format!(
+        "first difference: character {} ({word}): expected \"{}\", got \"{}\"",
+        same + 1,
+        text(expected),
+        text(got)
+    ))
 }
 
 fn frame_name(line: &[u8]) -> &'static str {

@@ -2,7 +2,7 @@
 //! high word that the type lacks is 3), then 15, its buffer untouched; bytes past an encoding stay."
 
 use crate::element_type::UQ;
-use crate::fields::{self, Place};
+use crate::fields::{self, Role};
 use crate::instruction::{
     Instruction, RawOperand, VectorOperand, GATHER, RAW_SEND, SCATTER, SHL, SVM,
 };
@@ -25,9 +25,9 @@ pub fn encoding(instruction: &Instruction) -> Result<Vec<u8>, u8> {
     match instruction.opcode {
         SHL => {
             exec_and_pred(&mut bytes, instruction, false)?;
-            vector(&mut bytes, &instruction.dst, Place::Destination)?;
-            vector(&mut bytes, &instruction.src0, Place::Source)?;
-            vector(&mut bytes, &instruction.src1, Place::Source)?;
+            vector(&mut bytes, &instruction.dst, Role::Destination)?;
+            vector(&mut bytes, &instruction.src0, Role::Source)?;
+            vector(&mut bytes, &instruction.src1, Role::Source)?;
         }
         GATHER => {
             exec_and_pred(&mut bytes, instruction, false)?;
@@ -36,7 +36,7 @@ pub fn encoding(instruction: &Instruction) -> Result<Vec<u8>, u8> {
             bytes.push(instruction.num_blocks);
             bytes.extend(instruction.scale.to_le_bytes());
             bytes.push(instruction.surface);
-            vector(&mut bytes, &instruction.scalar, Place::Source)?;
+            vector(&mut bytes, &instruction.scalar, Role::Source)?;
             raw(&mut bytes, &instruction.element_offset);
             raw(&mut bytes, &instruction.raw_dst);
         }
@@ -49,7 +49,7 @@ pub fn encoding(instruction: &Instruction) -> Result<Vec<u8>, u8> {
             fields::channels(instruction.channels)?;
             bytes.push(instruction.channels);
             bytes.extend(instruction.scale.to_le_bytes());
-            vector(&mut bytes, &instruction.scalar, Place::Source)?;
+            vector(&mut bytes, &instruction.scalar, Role::Source)?;
             raw(&mut bytes, &instruction.element_offset);
             raw(&mut bytes, &instruction.raw_src);
         }
@@ -62,7 +62,7 @@ pub fn encoding(instruction: &Instruction) -> Result<Vec<u8>, u8> {
             bytes.push(instruction.num_src);
             fields::num_dst(instruction.num_dst)?;
             bytes.push(instruction.num_dst);
-            vector(&mut bytes, &instruction.scalar, Place::Source)?;
+            vector(&mut bytes, &instruction.scalar, Role::Source)?;
             raw(&mut bytes, &instruction.raw_src);
             raw(&mut bytes, &instruction.raw_dst);
         }
@@ -79,8 +79,8 @@ fn exec_and_pred(bytes: &mut Vec<u8>, instruction: &Instruction, scatter: bool) 
     Ok(())
 }
 
-fn vector(bytes: &mut Vec<u8>, operand: &VectorOperand, place: Place) -> Result<(), u8> {
-    fields::tag(operand.tag, place)?;
+fn vector(bytes: &mut Vec<u8>, operand: &VectorOperand, role: Role) -> Result<(), u8> {
+    fields::tag(operand.tag, role)?;
     bytes.push(operand.tag);
     if operand.is_immediate() {
         fields::immediate_type(operand.immediate_type)?;

@@ -6,7 +6,7 @@ use crate::number::{NOT_ALLOWED, RESERVED};
 
 /// Where a vector operand stands. A scalar is a source.
 #[derive(Clone, Copy, Debug, PartialEq, Eq)]
-pub enum Place {
+pub enum Role {
     Destination,
     Source,
 }
@@ -62,12 +62,12 @@ pub fn num_dst(count: u8) -> Result<(), u8> {
 
 /// "tag (bits 0-2 class, 3-5 modifier)"; "then 2 or 3, then 4 for class and modifier";
 /// "any class but General, or Immediate on a source, is 4"; "modifiers ... are left out".
-pub fn tag(byte: u8, place: Place) -> Result<(), u8> {
+pub fn tag(byte: u8, role: Role) -> Result<(), u8> {
     reserved_unless(byte & 0xc0 == 0)?;
     let class = byte & 0x07;
     let modifier = (byte >> 3) & 0x07;
     let class_allowed =
-        class == CLASS_GENERAL || (class == CLASS_IMMEDIATE && place == Place::Source);
+        class == CLASS_GENERAL || (class == CLASS_IMMEDIATE && role == Role::Source);
     if class_allowed && modifier == 0 {
         Ok(())
     } else {

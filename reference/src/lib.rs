@@ -8,7 +8,10 @@
 //! - "The numbers given back": `number`, `run_checks`, `run`
 //! - "The bench table" (the bench program): `case_file`, `case_writer`, `hex`, `bench`, `batch`
 //!
-//! Document 02, request 1, kernels as text: `spelling`, `print`, `ways`, `read`, `listed`, `assembled`.
+//! Document 02:
+//!
+//! - request 1, kernels as text: `spelling`, `print`, `ways`, `read`, `listed`, `assembled`
+//! - request 2, which region rule: `region`, `operands`, `refusal`, `verdict`
 //!
 //! Beside the interpreter stand the generators of cases and lines (`assemble`, `generate`), the comparisons (`source`,
 //! `command`, `difference`, `comparison`, `line_comparison`) and the programs (`programs`, `panics`).
@@ -42,6 +45,7 @@ pub mod panics;
 pub mod print;
 pub mod programs;
 pub mod read;
+pub mod refusal;
 pub mod region;
 pub mod run;
 pub mod run_checks;
@@ -51,4 +55,5 @@ pub mod show;
 pub mod sizes;
 pub mod source;
 pub mod spelling;
+pub mod verdict;
 pub mod ways;

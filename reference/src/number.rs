@@ -13,8 +13,7 @@ pub const RESERVED: u8 = 3;
 pub const NOT_ALLOWED: u8 = 4;
 /// "variable, predicate or surface not in its table"
 pub const NOT_IN_TABLE: u8 = 5;
-/// "region parameters wrong"
-pub const REGION: u8 = 6;
+// 6, "region parameters wrong", is given no more: document 02, request 2, splits it into 20 to 25.
 /// "element outside its variable, over two registers, raw offset unaligned, or show past the end"
 pub const OUTSIDE: u8 = 7;
 /// "offset + ExecSize over 32"
@@ -36,3 +35,15 @@ pub const BAD_LINE: u8 = 14;
 pub const SHORT_BUFFER: u8 = 15;
 /// Document 02, request 1: "text that is no printed line"
 pub const NO_LINE: u8 = 16;
+/// Request 2, 20 to 24 "in the order just given": "width 0 or 32"
+pub const WIDTH_0_OR_32: u8 = 20;
+/// "horizontal stride over 4"
+pub const STRIDE_OVER_4: u8 = 21;
+/// "width over ExecSize"
+pub const WIDTH_OVER_EXEC_SIZE: u8 = 22;
+/// "destination stride zero"
+pub const DESTINATION_STRIDE_0: u8 = 23;
+/// "Null where none may stand or not Null where it must"
+pub const NULL: u8 = 24;
+/// "a scalar's region is judged by 25 alone"
+pub const SCALAR_REGION: u8 = 25;

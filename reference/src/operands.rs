@@ -1,11 +1,14 @@
-//! What a run asks of one operand: "each operand in order 5, 4 (type), 6, 7".
+//! What a run asks of one operand: "each operand in order 5, 4 (type), 6, 7", 6 being 20 to 24, or 25 for a scalar.
+//!
+//! An operand's place is its number in field order, from 1.
 
 use crate::case::{Case, Variable};
 use crate::element_type;
-use crate::fields::Place;
+use crate::fields::Role;
 use crate::instruction::{RawOperand, VectorOperand};
-use crate::number::{NOT_ALLOWED, NOT_IN_TABLE, OUTSIDE, REGION};
-use crate::region;
+use crate::number::{NOT_ALLOWED, NOT_IN_TABLE, OUTSIDE, SCALAR_REGION};
+use crate::refusal::Refusal;
+use crate::region::{self, Region, RULES};
 use crate::sizes::REGISTER;
 
 /// 5: "variable ... not in its table"
@@ -29,42 +32,50 @@ fn type_is_one_of(type_code: u8, allowed: &[u8]) -> Result<(), u8> {
 pub fn vector(
     case: &Case,
     operand: &VectorOperand,
-    place: Place,
+    place: usize,
+    role: Role,
     exec_size: u64,
     allowed: &[u8],
-) -> Result<(), u8> {
+) -> Result<(), Refusal> {
     if operand.is_immediate() {
-        return type_is_one_of(operand.immediate_type, allowed);
+        type_is_one_of(operand.immediate_type, allowed)?;
+        return Ok(());
     }
     let variable = variable(case, operand.index)?;
     type_is_one_of(variable.type_code, allowed)?;
-    let right = match place {
-        Place::Source => region::source_is_right(operand.region, exec_size),
-        Place::Destination => region::destination_is_right(operand.region),
-    };
-    if !right {
-        return Err(REGION);
+    let region = Region::of(operand.region, role, exec_size);
+    if let Some(number) = region::first_broken(&RULES, &region) {
+        return Err(Refusal::of_operand(number, place));
     }
-    let elements = match place {
-        Place::Source => region::source_elements(operand, variable.type_code, exec_size),
-        Place::Destination => region::destination_elements(operand, variable.type_code, exec_size),
+    let elements = match role {
+        Role::Source => region::source_elements(operand, variable.type_code, exec_size),
+        Role::Destination => region::destination_elements(operand, variable.type_code, exec_size),
     };
-    elements_lie_well(&variable, &elements)
+    elements_lie_well(&variable, &elements)?;
+    Ok(())
 }
 
 /// A scalar: "Immediate, or General with region <0;1,0>."
-pub fn scalar(case: &Case, operand: &VectorOperand, allowed: u8) -> Result<(), u8> {
+pub fn scalar(
+    case: &Case,
+    operand: &VectorOperand,
+    place: usize,
+    allowed: u8,
+) -> Result<(), Refusal> {
     if operand.is_immediate() {
-        return type_is_one_of(operand.immediate_type, &[allowed]);
+        type_is_one_of(operand.immediate_type, &[allowed])?;
+        return Ok(());
     }
     let variable = variable(case, operand.index)?;
     type_is_one_of(variable.type_code, &[allowed])?;
+    // "a scalar's region is judged by 25 alone, in the same place"
     if !region::scalar_is_right(operand.region) {
-        return Err(REGION);
+        return Err(Refusal::of_operand(SCALAR_REGION, place));
     }
     // Its one element is that of a region of ExecSize 1.
     let elements = region::source_elements(operand, variable.type_code, 1);
-    elements_lie_well(&variable, &elements)
+    elements_lie_well(&variable, &elements)?;
+    Ok(())
 }
 
 /// "All ExecSize elements, enabled or not, lie in the variable and touch at most two adjacent
@@ -90,7 +101,7 @@ pub fn raw(
     operand: &RawOperand,
     allowed: Option<&[u8]>,
     bytes_needed: u64,
-) -> Result<(), u8> {
+) -> Result<(), Refusal> {
     let variable = variable(case, operand.index)?;
     if let Some(allowed) = allowed {
         type_is_one_of(variable.type_code, allowed)?;
@@ -100,7 +111,7 @@ pub fn raw(
     let end = size * u64::from(variable.count);
     // "for none, the offset may be the variable's end": with no byte needed, this sum is the offset.
     if offset % size != 0 || offset + bytes_needed > end {
-        return Err(OUTSIDE);
+        return Err(OUTSIDE.into());
     }
     Ok(())
 }

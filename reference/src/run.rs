@@ -6,18 +6,20 @@ use crate::gather::gather;
 use crate::instruction::{Instruction, GATHER, SHL};
 use crate::lanes::lanes_on;
 use crate::number::{DONE, SIZES};
+use crate::refusal::{Detail, Refusal};
 use crate::run_checks;
 use crate::scatter::scatter;
 use crate::shl::shl;
 use crate::sizes;
 
 /// "A run answers number, instructions completed and byte position of the refused instruction (or the
-/// end)."
+/// end)." Document 02, request 2, adds what some numbers carry.
 #[derive(Clone, Copy, Debug, PartialEq, Eq)]
 pub struct Answer {
     pub number: u8,
     pub completed: usize,
     pub position: usize,
+    pub detail: Detail,
 }
 
 /// Run the case's kernel on the case's buffers. "Earlier instructions stand."
@@ -28,6 +30,7 @@ pub fn run(case: &mut Case) -> Answer {
             number: SIZES,
             completed: 0,
             position: 0,
+            detail: Detail::None,
         };
     }
     let mut completed = 0;
@@ -38,11 +41,12 @@ pub fn run(case: &mut Case) -> Answer {
                 completed += 1;
                 position += length;
             }
-            Err(number) => {
+            Err(Refusal { number, detail }) => {
                 return Answer {
                     number,
                     completed,
                     position,
+                    detail,
                 }
             }
         }
@@ -51,15 +55,16 @@ pub fn run(case: &mut Case) -> Answer {
         number: DONE,
         completed,
         position,
+        detail: Detail::None,
     }
 }
 
 /// One instruction: decoded, tested, then its effect. Gives its length in bytes, or refuses and
 /// changes nothing.
-fn step(case: &mut Case, position: usize) -> Result<usize, u8> {
+fn step(case: &mut Case, position: usize) -> Result<usize, Refusal> {
     let decoded = decode(&case.kernel, position);
     if decoded.number != DONE {
-        return Err(decoded.number);
+        return Err(decoded.number.into());
     }
     let length = decoded.part.len();
     let instruction = decoded.instruction;
@@ -68,7 +73,7 @@ fn step(case: &mut Case, position: usize) -> Result<usize, u8> {
     Ok(length)
 }
 
-fn effect(case: &mut Case, instruction: &Instruction) -> Result<(), u8> {
+fn effect(case: &mut Case, instruction: &Instruction) -> Result<(), Refusal> {
     let on = lanes_on(case, instruction);
     match instruction.opcode {
         SHL => shl(case, instruction, &on),

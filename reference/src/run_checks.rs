@@ -1,39 +1,41 @@
 //! What a run asks of a decoded instruction before it touches data: "A run then tests 8; predicate 5;
-//! surface 5; each operand in order 5, 4 (type), 6, 7; 9".
+//! surface 5; each operand in order 5, 4 (type), 6, 7; 9", 6 being 20 to 25.
 
 use crate::case::Case;
 use crate::element_type::{DWORD_TYPES, SHL_TYPES, UD, UQ};
-use crate::fields::Place;
+use crate::fields::Role::{Destination, Source};
 use crate::instruction::{Instruction, GATHER, RAW_SEND, SHL};
 use crate::number;
 use crate::operands;
+use crate::refusal::Refusal;
 
-pub fn check(case: &Case, instruction: &Instruction) -> Result<(), u8> {
+/// Operands stand with their places in field order, from 1.
+pub fn check(case: &Case, instruction: &Instruction) -> Result<(), Refusal> {
     let exec_size = instruction.exec_size();
 
     // 8: "offset + ExecSize over 32"
     if instruction.mask_offset() + exec_size > 32 {
-        return Err(number::OVER_32);
+        return Err(number::OVER_32.into());
     }
     // "predicate 5"
     if instruction.has_predicate() && instruction.predicate_id() >= case.predicates.len() {
-        return Err(number::NOT_IN_TABLE);
+        return Err(number::NOT_IN_TABLE.into());
     }
     // "surface 5"
     if instruction.opcode == GATHER && usize::from(instruction.surface) >= case.surfaces.len() {
-        return Err(number::NOT_IN_TABLE);
+        return Err(number::NOT_IN_TABLE.into());
     }
 
     match instruction.opcode {
         SHL => {
             let types = &SHL_TYPES;
-            operands::vector(case, &instruction.dst, Place::Destination, exec_size, types)?;
-            operands::vector(case, &instruction.src0, Place::Source, exec_size, types)?;
-            operands::vector(case, &instruction.src1, Place::Source, exec_size, types)
+            operands::vector(case, &instruction.dst, 1, Destination, exec_size, types)?;
+            operands::vector(case, &instruction.src0, 2, Source, exec_size, types)?;
+            operands::vector(case, &instruction.src1, 3, Source, exec_size, types)
         }
         GATHER => {
-            // "Offset and Element_offset are UD; Dst is UD, D or F."
-            operands::scalar(case, &instruction.scalar, UD)?;
+            // "Offset and Element_offset are UD; Dst is UD, D or F." "surfaces not counted"
+            operands::scalar(case, &instruction.scalar, 1, UD)?;
             operands::raw(
                 case,
                 &instruction.element_offset,
@@ -49,7 +51,7 @@ pub fn check(case: &Case, instruction: &Instruction) -> Result<(), u8> {
         }
         RAW_SEND => {
             // 002: Desc "Must have type UD".
-            operands::scalar(case, &instruction.scalar, UD)?;
+            operands::scalar(case, &instruction.scalar, 1, UD)?;
             // "RAW_SEND needs 32 bytes per register counted"
             operands::raw(
                 case,
@@ -64,11 +66,11 @@ pub fn check(case: &Case, instruction: &Instruction) -> Result<(), u8> {
                 32 * u64::from(instruction.num_dst),
             )?;
             // 9: "RAW_SEND, otherwise good"
-            Err(number::RAW_SEND)
+            Err(number::RAW_SEND.into())
         }
         _ => {
             // "Address and Element_offset are UQ; Src is UD, D or F."
-            operands::scalar(case, &instruction.scalar, UQ)?;
+            operands::scalar(case, &instruction.scalar, 1, UQ)?;
             operands::raw(
                 case,
                 &instruction.element_offset,

@@ -6,16 +6,30 @@ use crate::case::Case;
 use crate::element;
 use crate::instruction::Instruction;
 use crate::number::{NOT_IN_WINDOW, TAINTED_ADDRESS, UNALIGNED};
+use crate::refusal::{Detail, Refusal};
 
 /// One enabled channel-and-lane pair.
 struct Pair {
+    channel: u64,
+    lane: u64,
     /// "address + element offset + 4c modulo 2^64"
     address: u64,
     /// The dword of Src that goes there.
     dword: u64,
 }
 
-pub fn scatter(case: &mut Case, instruction: &Instruction, on: &[bool]) -> Result<(), u8> {
+impl Pair {
+    /// "11 and 12 now carry channel and lane of the first offending pair".
+    fn refused_by(&self, number: u8) -> Refusal {
+        let detail = Detail::Pair {
+            channel: self.channel,
+            lane: self.lane,
+        };
+        Refusal { number, detail }
+    }
+}
+
+pub fn scatter(case: &mut Case, instruction: &Instruction, on: &[bool]) -> Result<(), Refusal> {
     let exec_size = instruction.exec_size();
     let address = element::scalar(case, &instruction.scalar);
 
@@ -25,7 +39,7 @@ pub fn scatter(case: &mut Case, instruction: &Instruction, on: &[bool]) -> Resul
         if on[lane as usize] {
             let element_offset = element::raw(case, &instruction.element_offset, lane);
             if address.tainted || element_offset.tainted {
-                return Err(TAINTED_ADDRESS);
+                return Err(TAINTED_ADDRESS.into());
             }
         }
     }
@@ -46,6 +60,8 @@ pub fn scatter(case: &mut Case, instruction: &Instruction, on: &[bool]) -> Resul
                 + u128::from(element_offset.bits)
                 + 4 * u128::from(channel);
             pairs.push(Pair {
+                channel,
+                lane,
                 address: (sum % (1u128 << 64)) as u64,
                 // "Its data are dword p·max(ExecSize, 8)+i of Src"
                 dword: enabled_below * exec_size.max(8) + lane,
@@ -57,14 +73,14 @@ pub fn scatter(case: &mut Case, instruction: &Instruction, on: &[bool]) -> Resul
     // "11 over all": "scatter address not a multiple of 4"
     for pair in &pairs {
         if pair.address % 4 != 0 {
-            return Err(UNALIGNED);
+            return Err(pair.refused_by(UNALIGNED));
         }
     }
     // "12 over all": "its four bytes not all in the window"
     let window_end = u128::from(case.base) + case.memory.len() as u128;
     for pair in &pairs {
         if pair.address < case.base || u128::from(pair.address) + 4 > window_end {
-            return Err(NOT_IN_WINDOW);
+            return Err(pair.refused_by(NOT_IN_WINDOW));
         }
     }
 

@@ -191,7 +191,7 @@ fn hand_made_case_files() {
     let mut count = 0;
     for entry in std::fs::read_dir(&folder).unwrap() {
         let path = entry.unwrap().path();
-        if !path.is_file() {
+        if path.extension().is_none_or(|end| end != "case") {
             continue;
         }
         let case = std::fs::read(&path).unwrap();

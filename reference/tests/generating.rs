@@ -1,7 +1,7 @@
 //! The case generator: deterministic, its cases give the numbers that it means, and they cover what they
 //! are to cover.
 
-use reference::bench::bench;
+use reference::bench::answer;
 use reference::case::Case;
 use reference::case_file::read_case;
 use reference::decode::decode;
@@ -38,14 +38,14 @@ fn faults_answer_as_intended() {
             let mut report = Report::default();
             for index in 0..2500 {
                 let case = generator.case(index);
-                report.add(&case, &bench(&case.file));
+                report.add(&case, &answer(&case.file));
             }
             assert_eq!(report.unintended, Vec::<String>::new());
         }
     }
 }
 
-/// One round of the near misses has every number from 0 to 13.
+/// One round of the near misses has every number of a run but 14.
 #[test]
 fn near_misses_have_every_number() {
     let generator = Generator::new(5, Some(Mode::NearMiss));
@@ -57,10 +57,11 @@ fn near_misses_have_every_number() {
         numbers.insert(case.intended.unwrap());
         names.insert(case.name);
     }
-    assert_eq!(numbers, (0..=13).collect());
-    // Cuts may share a name, a scatter's faulty addresses come three times each, and each last byte of the
-    // largest kernel four times.
-    assert!(names.len() as u64 > ways - 60, "{} of {ways}", names.len());
+    // 6 is given no more.
+    assert_eq!(numbers, (0..=5).chain(7..=13).chain(20..=25).collect());
+    // Cuts may share a name, a scatter's faulty addresses come three times each, each last byte of the largest kernel five
+    // times, and a pair may be the first one several times.
+    assert!(names.len() as u64 > ways - 90, "{} of {ways}", names.len());
 }
 
 /// At least 40 % of the valid cases run all their instructions.
@@ -70,7 +71,7 @@ fn valid_cases_mostly_run_to_their_end() {
     let mut report = Report::default();
     for index in 0..2000 {
         let case = generator.case(index);
-        report.add(&case, &bench(&case.file));
+        report.add(&case, &answer(&case.file));
     }
     assert_eq!(report.valid, 2000);
     assert!(report.valid_complete >= 800, "{}", report.valid_complete);

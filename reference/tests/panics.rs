@@ -11,6 +11,7 @@ use std::path::Path;
 use std::process::{Command, Output, Stdio};
 
 const REFERENCE: &str = env!("CARGO_BIN_EXE_reference");
+const VERDICT: &str = env!("CARGO_BIN_EXE_verdict");
 /// One case of twenty has a bad line, so there are some among these.
 const COUNT: u64 = 60;
 
@@ -60,6 +61,7 @@ fn compare_names_the_case_of_a_panic() {
     let batch = format!("{REFERENCE} --batch");
     for arguments in [
         vec!["--command", REFERENCE, "--count", &count],
+        vec!["--verdicts", "--command", VERDICT, "--count", &count],
         vec!["--command", &batch, "--batch", "--count", &count],
     ] {
         let output = panicking("compare", &arguments);

@@ -1,34 +1,33 @@
 //! The report's rare places: each is seen where a case reaches it and not seen beside it, and the fixed seed
-//! reaches all of them.
+//! reaches all of them. It names every operand that a number can name, has every pair of faults in one operand, hands
+//! back every channel and lane, and shows every mistake.
 
 mod common;
 
 use common::*;
 use reference::assemble::*;
-use reference::bench::bench;
+use reference::bench::answer as answer_to;
 use reference::case::{Case, Variable};
+use reference::case_file::read_case;
 use reference::case_writer::write_case;
-use reference::generate::reach::{reached, Place};
-use reference::generate::report::{answer_of, Report};
+use reference::decode::decode;
+use reference::generate::mistakes::{Mistake, Refused};
+use reference::generate::reach::{completed, reached, Place};
+use reference::generate::report::Report;
 use reference::generate::Generator;
+use reference::instruction::Instruction;
+use reference::refusal::Detail;
+use reference::region::RULES;
+use reference::run::Answer;
+use std::collections::BTreeSet;
 
 fn places_of_file(file: &[u8]) -> Vec<Place> {
-    reached(file, &answer_of(&bench(file)))
+    reached(file, &answer_to(file))
 }
 
 fn places(case: &mut Case, drafts: &[Draft]) -> Vec<Place> {
     case.kernel = kernel(drafts);
     places_of_file(&write_case(case))
-}
-
-/// "40 (number ub, completed uw, position ud)", little-endian.
-#[test]
-fn answers_are_read_from_the_first_line() {
-    assert_eq!(
-        answer_of(b"400702030405060708\n01"),
-        answer(7, 0x0302, 0x0706_0504)
-    );
-    assert_eq!(answer_of(b"4000010018000000\n01\n"), answer(0, 1, 24));
 }
 
 /// A stage with the largest register file, and its number of a variable that is all of it, in dwords.
@@ -191,16 +190,126 @@ fn the_last_byte_of_the_largest_kernel() {
     assert_eq!(places_of_file(&write_case(&case)), []);
 }
 
-/// Each in one case of a hundred; row 127 in several.
+/// What the fixed seed has besides what its report counts.
+#[derive(Default)]
+struct Seen {
+    /// The opcodes of instructions refused with 25.
+    scalars: BTreeSet<u8>,
+    /// The place of a refused operand, and two rules that its region breaks.
+    pairs_of_faults: BTreeSet<(usize, u8, u8)>,
+    /// Whether Src0 was taken or named by 20 to 24, its width's code, the code of ExecSize.
+    widths: BTreeSet<(bool, u16, u8)>,
+    /// 11 or 12 with its channel, and with its lane.
+    channels: BTreeSet<(u8, u64)>,
+    lanes: BTreeSet<(u8, u64)>,
+}
+
+impl Seen {
+    fn add(&mut self, file: &[u8], answer: &Answer) {
+        let Ok(case) = read_case(file) else {
+            return;
+        };
+        for it in completed(&case.kernel, answer.position) {
+            if it.opcode == 0x24 && !it.src0.is_immediate() {
+                self.width(true, &it);
+            }
+        }
+        match answer.detail {
+            Detail::None => {}
+            Detail::Pair { channel, lane } => {
+                self.channels.insert((answer.number, channel));
+                self.lanes.insert((answer.number, lane));
+            }
+            Detail::Operand(_) if answer.number == 25 => {
+                self.scalars.insert(case.kernel[answer.position]);
+            }
+            Detail::Operand(place) => {
+                if place == 2 {
+                    self.width(false, &decode(&case.kernel, answer.position).instruction);
+                }
+                let regions = Refused::of(file, answer).unwrap().regions();
+                let (_, region) = regions.iter().find(|(p, _)| *p == place).unwrap();
+                let broken = |number: &u8| {
+                    let rule = RULES.iter().find(|rule| rule.0 == *number);
+                    (rule.unwrap().1)(region)
+                };
+                for first in (20..=24).filter(broken) {
+                    for second in (first + 1..=24).filter(broken) {
+                        self.pairs_of_faults.insert((place, first, second));
+                    }
+                }
+            }
+        }
+    }
+
+    fn width(&mut self, taken: bool, it: &Instruction) {
+        let width = (it.src0.region >> 4) & 15;
+        self.widths.insert((taken, width, it.exec & 7));
+    }
+}
+
+/// Each place in one case of a hundred; row 127 in several.
 #[test]
 fn the_fixed_seed_reaches_the_rare_places() {
     let generator = Generator::new(1, None);
     let mut report = Report::default();
+    let mut seen = Seen::default();
     for index in 0..20_000 {
         let case = generator.case(index);
-        report.add(&case, &bench(&case.file));
+        let answer = answer_to(&case.file);
+        report.add(&case, &answer);
+        seen.add(&case.file, &answer);
     }
     assert_eq!(report.unintended, Vec::<String>::new());
+    assert!(!report.answered.contains_key(&6));
+    for mistake in Mistake::ALL {
+        let count = report.shown_by(mistake);
+        assert!(count >= 15, "{}: {count}", mistake.name());
+    }
+
+    let named: Vec<_> = report.named.keys().copied().collect();
+    let of_operands = [
+        (20, [2, 3].to_vec()),
+        (21, [1, 2, 3].to_vec()),
+        (22, [2, 3].to_vec()),
+        (23, [1].to_vec()),
+        (24, [1, 2, 3].to_vec()),
+        (25, [1].to_vec()),
+    ];
+    let expected: Vec<_> = of_operands
+        .iter()
+        .flat_map(|(number, places)| places.iter().map(|place| (*number, *place)))
+        .collect();
+    assert_eq!(named, expected);
+    assert!(report.named.values().all(|count| *count >= 20));
+    // Gather, scatter and RAW_SEND.
+    assert_eq!(seen.scalars, [0x4e, 0x5d, 0x78].into());
+
+    let of_destination = [(21, 24), (23, 24)].map(|(a, b)| (1, a, b));
+    let of_source = [(20, 21), (20, 22), (20, 24), (21, 22), (21, 24), (22, 24)];
+    let mut pairs_of_faults = BTreeSet::from(of_destination);
+    for place in [2, 3] {
+        pairs_of_faults.extend(of_source.map(|(a, b)| (place, a, b)));
+    }
+    assert_eq!(seen.pairs_of_faults, pairs_of_faults);
+
+    // Every width up to ExecSize is taken, and every other one is refused.
+    for exec_code in 0..6 {
+        for width in 0..8 {
+            let right = (2..=u16::from(exec_code) + 2).contains(&width) && width <= 6;
+            let there = (right, width, exec_code);
+            assert!(seen.widths.contains(&there), "{there:?}");
+        }
+    }
+    for number in [11, 12] {
+        for channel in 0..4 {
+            assert!(seen.channels.contains(&(number, channel)));
+        }
+        for lane in 0..16 {
+            assert!(seen.lanes.contains(&(number, lane)));
+        }
+    }
+
     for place in [
         Place::RowOver127Outside,
         Place::LineOver255,

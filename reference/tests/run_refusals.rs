@@ -1,4 +1,4 @@
-//! The numbers of a run's own tests, 4 to 9, each in several ways, at its limit and one past.
+//! The numbers of a run's own tests, 4 to 9 and 20 to 25, each in several ways, at its limit and one past.
 
 mod common;
 
@@ -176,38 +176,38 @@ fn surfaces_not_in_the_table() {
     assert_eq!(run_on(&mut case, &[draft]).number, 5);
 }
 
-/// 6: a source's region, each of its three codes at every value.
+/// 20, 21, 22 and 24: a source's region, each of its three codes at every value.
 #[test]
 fn source_regions() {
     // ExecSize 8 on bytes at stride 0 or 1: nothing here leaves the variable or two registers unless
-    // the code asks for a long stride, so the number is 6 exactly where a code is not allowed.
+    // the code asks for a long stride, so the number is 0 exactly where a code is allowed.
     let number = |region: u16| shl_of(3, &good_dst(), &general(UB, 0, 0, region), &one());
     for code in 0..8u16 {
         // Width: 1, 2, 4, 8 or 16 (codes 2 to 6) and at most ExecSize 8 (code 5).
-        let expected = if (2..=5).contains(&code) { 0 } else { 6 };
+        let expected = [24, 20, 0, 0, 0, 0, 22, 20][usize::from(code)];
         assert_eq!(number(0x0201 | code << 4), expected, "width code {code}");
         // Vertical: every value but Null. With width 8 there is one row, so no stride is too long.
-        let expected = if code == 0 { 6 } else { 0 };
+        let expected = if code == 0 { 24 } else { 0 };
         assert_eq!(number(0x0250 | code), expected, "vertical code {code}");
         // Horizontal: 0, 1, 2 or 4 (codes 1 to 4).
-        let expected = if (1..=4).contains(&code) { 0 } else { 6 };
+        let expected = [24, 0, 0, 0, 0, 21, 21, 21][usize::from(code)];
         assert_eq!(
             number(0x0051 | code << 8),
             expected,
             "horizontal code {code}"
         );
     }
-    // Width 16 with ExecSize 16 is good, with 8 it is 6; 32 is never.
+    // Width 16 with ExecSize 16 is good, with 8 it is 22; 32 is never.
     let wide = general(UB, 0, 0, source_region(16, 16, 1));
     assert_eq!(shl_of(4, &good_dst(), &wide, &one()), 0);
-    assert_eq!(shl_of(3, &good_dst(), &wide, &one()), 6);
+    assert_eq!(shl_of(3, &good_dst(), &wide, &one()), 22);
     let wider = general(UB, 0, 0, source_region(32, 32, 1));
-    assert_eq!(shl_of(5, &good_dst(), &wider, &one()), 6);
+    assert_eq!(shl_of(5, &good_dst(), &wider, &one()), 20);
     // src1 is asked the same.
-    assert_eq!(shl_of(3, &good_dst(), &one(), &wide), 6);
+    assert_eq!(shl_of(3, &good_dst(), &one(), &wide), 22);
 }
 
-/// 6: a destination's region is <H> with H 1, 2 or 4 and both others Null.
+/// 21, 23 and 24: a destination's region is <H> with H 1, 2 or 4 and both others Null.
 #[test]
 fn destination_regions() {
     for word in 0..0x1000u16 {
@@ -215,10 +215,11 @@ fn destination_regions() {
             continue;
         }
         let dst = general(UB, 0, 0, word);
-        let expected = if [0x0200, 0x0300, 0x0400].contains(&word) {
-            0
-        } else {
-            6
+        let expected = match word {
+            0x0200 | 0x0300 | 0x0400 => 0,
+            0x0500.. => 21,
+            0x0100..0x0200 => 23,
+            _ => 24,
         };
         assert_eq!(
             shl_of(0, &dst, &one(), &one()),
@@ -228,19 +229,19 @@ fn destination_regions() {
     }
 }
 
-/// 6: "General with region <0;1,0>", after 5 and 4 and before 7.
+/// 25: "General with region <0;1,0>", after 5 and 4 and before 7.
 #[test]
 fn scalar_regions() {
     for word in [0x0000, 0x0120, 0x0101, 0x0021, 0x0122, 0x0221, 0x0131] {
         let offset = general(UD, 0, 0, word);
-        assert_eq!(gather_of(&offset, &raw(UD, 0), &raw(F, 0)), 6);
+        assert_eq!(gather_of(&offset, &raw(UD, 0), &raw(F, 0)), 25);
         let address = general(UQ, 0, 0, word);
-        assert_eq!(scatter_of(&address, &raw(UQ, 0), &raw(F, 0)), 6);
+        assert_eq!(scatter_of(&address, &raw(UQ, 0), &raw(F, 0)), 25);
         let desc = general(UD, 0, 0, word);
-        assert_eq!(send_of(1, 1, &desc, &raw(UD, 0), &raw(UD, 0)), 6);
-        // Outside too, and still 6; of a wrong type too, and then 4.
+        assert_eq!(send_of(1, 1, &desc, &raw(UD, 0), &raw(UD, 0)), 25);
+        // Outside too, and still 25; of a wrong type too, and then 4.
         let outside = general(UD, 255, 0, word);
-        assert_eq!(gather_of(&outside, &raw(UD, 0), &raw(F, 0)), 6);
+        assert_eq!(gather_of(&outside, &raw(UD, 0), &raw(F, 0)), 25);
         let wrong = general(UW, 255, 0, word);
         assert_eq!(gather_of(&wrong, &raw(UD, 0), &raw(F, 0)), 4);
     }
@@ -458,11 +459,11 @@ fn number_9_ends_the_run() {
     assert_eq!(run_on(&mut case, &kernel), answer(9, 1, 23));
 }
 
-/// "A run then tests 8; predicate 5; surface 5; each operand in order 5, 4 (type), 6, 7": each fault
+/// "A run then tests 8; predicate 5; surface 5; each operand in order 5, 4 (type), 6, 7", 6 being 25 here: each fault
 /// is repaired in turn and the next one shows.
 #[test]
 fn the_order_of_a_runs_tests() {
-    // Gather: 8, then pred, surface, offset 5, 4, 6, 7, element offset 5, 4, 7, dst 5, 4, 7.
+    // Gather: 8, then pred, surface, offset 5, 4, 25, 7, element offset 5, 4, 7, dst 5, 4, 7.
     let mut draft = gather(
         0x15,
         0x0777,
@@ -482,7 +483,7 @@ fn the_order_of_a_runs_tests() {
     draft.set_operand(0, &general(UQ, 255, 0, 0));
     assert_eq!(number_of(&draft), 4);
     draft.set_operand(0, &general(UD, 255, 0, 0));
-    assert_eq!(number_of(&draft), 6);
+    assert_eq!(number_of(&draft), 25);
     draft.set_operand(0, &general(UD, 255, 0, SCALAR_REGION));
     assert_eq!(number_of(&draft), 7);
     draft.set_operand(0, &general(UD, 7, 7, SCALAR_REGION));

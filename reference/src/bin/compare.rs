@@ -2,8 +2,9 @@
 
 use reference::bench::bench;
 use reference::programs::compare::main as program;
+use reference::verdict::verdict;
 use std::process::ExitCode;
 
 fn main() -> ExitCode {
-    program(std::env::args().skip(1), bench)
+    program(std::env::args().skip(1), bench, verdict)
 }

@@ -1,9 +1,9 @@
-//! The program `reference`; `src/programs/reference.rs` says what it does.
+//! The program `reference`; `src/programs/by_case.rs` says what it does.
 
 use reference::bench::bench;
-use reference::programs::reference::main as program;
+use reference::programs::by_case::main as program;
 use std::process::ExitCode;
 
 fn main() -> ExitCode {
-    program(std::env::args().skip(1), bench)
+    program("reference", std::env::args().skip(1), bench)
 }

@@ -136,7 +136,7 @@ pub fn scatter_addresses(faults: &mut Faults) {
 }
 
 /// The Address of a good scatter: the immediate, or the element of the guarded area.
-fn address_of(scene: &Scene, draft: &Draft) -> u64 {
+pub fn address_of(scene: &Scene, draft: &Draft) -> u64 {
     let guarded = scene.guarded.unwrap();
     match draft.get(Slot::Operand(0, Part::Column)) {
         Some(column) => {

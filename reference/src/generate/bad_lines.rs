@@ -4,6 +4,7 @@ use super::lines::lines_of;
 use super::near_misses::{base_scene, prefix};
 use super::random::Random;
 use super::{Generated, Mode};
+use crate::refusal::Detail;
 
 /// How many ways `bad_line` knows.
 pub const BAD_LINE_WAYS: u64 = 24;
@@ -29,6 +30,7 @@ pub fn bad_lines(random: &mut Random, number: u64) -> Generated {
         mode: Mode::BadLines,
         name,
         intended: Some(14),
+        carried: Some(Detail::None),
         file,
     }
 }

@@ -4,15 +4,29 @@
 use super::random::Random;
 use super::scene::Scene;
 use crate::assemble::{Draft, Part, Slot};
+use crate::refusal::Detail;
 
 /// What a fault changes: two faults that change the same cannot be combined.
 #[derive(Clone, Copy, Debug, PartialEq, Eq)]
 pub enum Touch {
     Slot(Slot),
+    /// One field of an operand's region word, by its lowest bit.
+    RegionField(usize, u16),
     Taint,
     /// An element offset of a lane with an odd or even number.
     OddLane,
     EvenLane,
+}
+
+impl Touch {
+    /// Whether two faults would change the same.
+    pub fn meets(self, other: Touch) -> bool {
+        let is_word_of = |word: Touch, field: Touch| match field {
+            Touch::RegionField(n, _) => word == Touch::Slot(Slot::Operand(n, Part::Region)),
+            _ => false,
+        };
+        self == other || is_word_of(self, other) || is_word_of(other, self)
+    }
 }
 
 /// The form that a vector source must have for a fault.
@@ -33,6 +47,17 @@ pub struct Fault {
     pub needs: Option<(usize, Form)>,
     pub touches: Vec<Touch>,
     pub apply: Apply,
+}
+
+impl Fault {
+    /// What its answer carries; of 11 and 12 the pair is not said.
+    pub fn detail(&self) -> Option<Detail> {
+        match self.number {
+            11 | 12 => None,
+            20..=25 => Some(Detail::Operand((self.rank - RANK_OPERANDS) / 10 + 1)),
+            _ => Some(Detail::None),
+        }
+    }
 }
 
 /// The place of a field in the order of fields.
@@ -65,7 +90,8 @@ pub fn field_rank(slot: Slot) -> usize {
 }
 
 /// "A run then tests 8; predicate 5; surface 5; each operand in order 5, 4 (type), 6, 7; 9; 10 over all
-/// lanes; 11 over all; 12 over all."
+/// lanes; 11 over all; 12 over all." "6 becomes 20 to 24 ..., tested in that order within an operand; a scalar's
+/// region is judged by 25 alone, in the same place."
 pub const RANK_8: usize = 100;
 pub const RANK_PREDICATE: usize = 101;
 pub const RANK_SURFACE: usize = 102;
@@ -80,8 +106,9 @@ pub fn operand_rank(operand: usize, number: u8) -> usize {
     let within = match number {
         5 => 0,
         4 => 1,
-        6 => 2,
-        _ => 3,
+        20..=24 => 2 + usize::from(number - 20),
+        25 => 2,
+        _ => 7,
     };
     RANK_OPERANDS + 10 * operand + within
 }

@@ -4,7 +4,7 @@
 use super::accepted::Kind;
 use super::address_faults::scatter_addresses;
 use super::fault::*;
-use super::operand_faults::{operands, raw_operand, vector_operand, Place};
+use super::operand_faults::{operands, raw_operand, vector_operand, Role};
 use super::random::Random;
 use super::scene::Scene;
 use crate::assemble::{Draft, Slot};
@@ -13,11 +13,11 @@ use crate::assemble::{Draft, Slot};
 pub fn faults_of(kind: Kind) -> Vec<Fault> {
     let mut faults = Faults { list: Vec::new() };
     first_fields(&mut faults, kind);
-    for (operand, (name, place, types)) in operands(kind).into_iter().enumerate() {
-        if place == Place::Raw {
+    for (operand, (name, role, types)) in operands(kind).into_iter().enumerate() {
+        if role == Role::Raw {
             raw_operand(&mut faults, kind, operand, name, types);
         } else {
-            vector_operand(&mut faults, operand, name, place, types);
+            vector_operand(&mut faults, operand, name, role, types);
         }
     }
     if kind == Kind::Scatter {

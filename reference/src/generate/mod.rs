@@ -7,17 +7,20 @@ pub mod bad_lines;
 pub mod far_rows;
 pub mod fault;
 pub mod faults;
+pub mod first_pairs;
 pub mod instructions;
 pub mod kernel_lines;
 pub mod largest_kernel;
 pub mod limits;
 pub mod line_cases;
 pub mod lines;
+pub mod mistakes;
 pub mod near_misses;
 pub mod operand_faults;
 pub mod random;
 pub mod random_bytes;
 pub mod reach;
+pub mod region_words;
 pub mod report;
 pub mod scene;
 pub mod slip_one;
@@ -26,6 +29,7 @@ pub mod texts;
 pub mod two_faults;
 pub mod valid;
 
+use crate::refusal::Detail;
 use near_misses::Ways;
 use random::Random;
 
@@ -70,6 +74,8 @@ pub struct Generated {
     pub name: String,
     /// The number that the generator means it to give, if it means one.
     pub intended: Option<u8>,
+    /// What the answer is meant to carry, if the generator says it.
+    pub carried: Option<Detail>,
     /// The case file.
     pub file: Vec<u8>,
 }

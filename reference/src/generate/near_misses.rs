@@ -3,22 +3,28 @@
 use super::accepted::Kind;
 use super::fault::{Fault, Form};
 use super::faults::faults_of;
+use super::first_pairs::one_lane;
 use super::largest_kernel::{self, refused_at_its_end};
 use super::limits::{limits, Limit};
 use super::lines::{file_of, lines_of};
 use super::random::Random;
+use super::region_words::{self, one_field};
 use super::scene::{scene, Scene, Size};
 use super::table_faults::{table_faults, TableFault};
 use super::{Generated, Mode};
 use crate::assemble::{general, immediate, immediate_uq, Draft, Part, Slot, SCALAR_REGION};
+use crate::refusal::Detail;
 
 pub const KINDS: [Kind; 4] = [Kind::Shl, Kind::Gather, Kind::Scatter, Kind::Send];
 
 /// Cutting an instruction short counts as forty ways, ten for each kind.
 const CUTS: usize = 40;
 
-/// Refusing the largest kernel at its last byte counts as twenty ways, so that one case of a hundred does it.
-const LAST_BYTES: usize = 4 * largest_kernel::WAYS;
+/// Refusing the largest kernel at its last byte counts as twenty-five ways, so that one case of a hundred does it.
+const LAST_BYTES: usize = 5 * largest_kernel::WAYS;
+
+/// One offending lane of a scatter counts as thirty ways.
+const ONE_LANE: usize = 30;
 
 /// Every way of being wrong by one thing.
 pub struct Ways {
@@ -40,11 +46,13 @@ impl Ways {
     /// How many ways there are.
     pub fn count(&self) -> usize {
         let faults: usize = self.faults.iter().map(Vec::len).sum();
-        faults + CUTS + LAST_BYTES + self.tables.len() + self.limits.len()
+        let others = CUTS + LAST_BYTES + ONE_LANE + region_words::WAYS;
+        faults + others + self.tables.len() + self.limits.len()
     }
 
     /// The near miss of a running number; all ways come in turn.
     pub fn near_miss(&self, random: &mut Random, number: u64) -> Generated {
+        let round = number / self.count() as u64;
         let mut way = (number % self.count() as u64) as usize;
         for (kind, faults) in KINDS.iter().zip(&self.faults) {
             if way < faults.len() {
@@ -58,29 +66,48 @@ impl Ways {
         way -= CUTS;
         if way < LAST_BYTES {
             let (scene, name, number) = refused_at_its_end(random, way % largest_kernel::WAYS);
-            return near(random, &scene, &name, number);
+            return near(random, &scene, &name, number, Some(Detail::None));
         }
         way -= LAST_BYTES;
+        if way < ONE_LANE {
+            let (scene, name, number, detail) = one_lane(random);
+            return near(random, &scene, &name, number, Some(detail));
+        }
+        way -= ONE_LANE;
+        if way < region_words::WAYS {
+            let (scene, name, number, detail) = one_field(random, way, round);
+            return near(random, &scene, &name, number, Some(detail));
+        }
+        way -= region_words::WAYS;
         if way < self.tables.len() {
             let fault = &self.tables[way];
             let mut scene = base_scene(random);
             scene.case.kernel = prefix(random, &scene);
             (fault.apply)(random, &mut scene.case);
-            return near(random, &scene, fault.name, fault.number);
+            return near(random, &scene, fault.name, fault.number, Some(Detail::None));
         }
         way -= self.tables.len();
         let limit = &self.limits[way];
         let scene = (limit.make)(random);
-        near(random, &scene, limit.name, limit.number)
+        // Of 11 the pair is not said.
+        let detail = (limit.number != 11).then_some(Detail::None);
+        near(random, &scene, limit.name, limit.number, detail)
     }
 }
 
-fn near(random: &mut Random, scene: &Scene, name: &str, number: u8) -> Generated {
+fn near(
+    random: &mut Random,
+    scene: &Scene,
+    name: &str,
+    number: u8,
+    detail: Option<Detail>,
+) -> Generated {
     let lines = lines_of(random, &scene.case);
     Generated {
         mode: Mode::NearMiss,
         name: name.to_string(),
         intended: Some(number),
+        carried: detail,
         file: file_of(random, &lines),
     }
 }
@@ -174,7 +201,7 @@ fn one_fault(random: &mut Random, kind: Kind, fault: &Fault) -> Generated {
     kernel.extend(suffix(random, &scene));
     scene.case.kernel = kernel;
     let name = format!("{kind:?}: {}", fault.name);
-    near(random, &scene, &name, fault.number)
+    near(random, &scene, &name, fault.number, fault.detail())
 }
 
 /// 1: an instruction without its last bytes.
@@ -186,5 +213,5 @@ fn cut_short(random: &mut Random, kind: Kind) -> Generated {
     kernel.extend(&bytes[..length]);
     scene.case.kernel = kernel;
     let name = format!("{kind:?}: cut after {length} bytes");
-    near(random, &scene, &name, 1)
+    near(random, &scene, &name, 1, Some(Detail::None))
 }

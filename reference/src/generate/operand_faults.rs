@@ -1,13 +1,14 @@
-//! Faults of one operand: its tag, type and region while decoding, and the run's 5, 4, 6 and 7.
+//! Faults of one operand: its tag, type and region while decoding, and the run's 5, 4, 20 to 25 and 7.
 
 use super::accepted::{row_and_column, size_of, Kind};
 use super::fault::*;
+use super::random::Random;
 use super::scene::Scene;
-use crate::assemble::{immediate, immediate_uq, source_region, Draft, Part, Slot};
+use crate::assemble::{immediate, immediate_uq, source_region, Draft, Part, Slot, SCALAR_REGION};
 
 /// What stands at an operand.
 #[derive(Clone, Copy, PartialEq, Eq)]
-pub enum Place {
+pub enum Role {
     Destination,
     Source,
     Scalar,
@@ -19,27 +20,27 @@ pub const DWORDS: &[u8] = &[0, 1, 7];
 pub const ALL: &[u8] = &[0, 1, 2, 3, 4, 5, 7, 11];
 
 /// The operands of a kind: their names, what stands there, and the types allowed there.
-pub fn operands(kind: Kind) -> [(&'static str, Place, &'static [u8]); 3] {
+pub fn operands(kind: Kind) -> [(&'static str, Role, &'static [u8]); 3] {
     match kind {
         Kind::Shl => [
-            ("dst", Place::Destination, INTEGERS),
-            ("src0", Place::Source, INTEGERS),
-            ("src1", Place::Source, INTEGERS),
+            ("dst", Role::Destination, INTEGERS),
+            ("src0", Role::Source, INTEGERS),
+            ("src1", Role::Source, INTEGERS),
         ],
         Kind::Gather => [
-            ("offset", Place::Scalar, &[0]),
-            ("element_offset", Place::Raw, &[0]),
-            ("dst", Place::Raw, DWORDS),
+            ("offset", Role::Scalar, &[0]),
+            ("element_offset", Role::Raw, &[0]),
+            ("dst", Role::Raw, DWORDS),
         ],
         Kind::Scatter => [
-            ("address", Place::Scalar, &[11]),
-            ("element_offset", Place::Raw, &[11]),
-            ("src", Place::Raw, DWORDS),
+            ("address", Role::Scalar, &[11]),
+            ("element_offset", Role::Raw, &[11]),
+            ("src", Role::Raw, DWORDS),
         ],
         Kind::Send => [
-            ("desc", Place::Scalar, &[0]),
-            ("src", Place::Raw, ALL),
-            ("dst", Place::Raw, ALL),
+            ("desc", Role::Scalar, &[0]),
+            ("src", Role::Raw, ALL),
+            ("dst", Role::Raw, ALL),
         ],
     }
 }
@@ -168,10 +169,10 @@ pub fn vector_operand(
     faults: &mut Faults,
     operand: usize,
     name: &str,
-    place: Place,
+    role: Role,
     types: &'static [u8],
 ) {
-    let is_source = place != Place::Destination;
+    let is_source = role != Role::Destination;
     let general = is_source.then_some((operand, Form::General));
     let at = |part| Slot::Operand(operand, part);
     let named = |what: &str| format!("{name} {what}");
@@ -253,60 +254,121 @@ pub fn vector_operand(
         }
     }
 
-    // The run: 5, 4, 6, 7.
+    // The run: 5, 4, 20 to 25, 7.
     no_variable(faults, operand, name, general);
     wrong_variable(faults, operand, name, types, general);
-    wrong_regions(faults, operand, name, place, general);
-    outside(faults, operand, name, place, general);
+    wrong_regions(faults, operand, name, role, general);
+    outside(faults, operand, name, role, general);
 }
 
-/// 6: region words of listed codes that are not right there.
+/// 20 to 25: region words of listed codes, one field wrong.
 fn wrong_regions(
     faults: &mut Faults,
     operand: usize,
     name: &str,
-    place: Place,
+    role: Role,
     general: Option<(usize, Form)>,
 ) {
     let slot = Slot::Operand(operand, Part::Region);
-    let rank = operand_rank(operand, 6);
-    let touches = || vec![Touch::Slot(slot)];
-    let mut set_code = |what: &str, shift: u16, codes: &'static [u16]| {
-        for code in codes {
-            let name = format!("{name} region {what} code {code}");
-            faults.run(&name, 6, rank, general, touches(), move |_, _, draft| {
-                let old = word_of(draft.get(slot).unwrap());
-                draft.set(slot, &word(old & !(15 << shift) | code << shift));
-            });
-        }
+    let mut set_code = |what: &str, number: u8, shift: u16, codes: &'static [u16]| {
+        let name = format!("{name} region {what}");
+        let rank = operand_rank(operand, number);
+        let touches = vec![Touch::RegionField(operand, shift)];
+        let apply = move |random: &mut Random, _: &mut Scene, draft: &mut Draft| {
+            let old = word_of(draft.get(slot).unwrap());
+            let code = random.pick(codes);
+            draft.set(slot, &word(old & !(15 << shift) | code << shift));
+        };
+        faults.run(&name, number, rank, general, touches, apply);
     };
-    match place {
-        Place::Source => {
-            set_code("vertical", 0, &[0]);
-            set_code("width", 4, &[0, 1, 7]);
-            set_code("horizontal", 8, &[0, 5, 6, 7]);
-            let over = format!("{name} region width over ExecSize");
-            faults.run(&over, 6, rank, general, touches(), move |_, _, draft| {
-                let exec_code = u16::from(draft.get(Slot::Exec).unwrap()[0] & 7);
-                // Width code 2 is 1 element, so ExecSize of code e is width code e + 2. Twice ExecSize
-                // is too wide; 32 is too wide for every ExecSize.
-                let code = (exec_code + 3).min(7);
-                let old = word_of(draft.get(slot).unwrap());
-                draft.set(slot, &word(old & !0x00f0 | code << 4));
-            });
+    match role {
+        Role::Source => {
+            set_code("width 0", 20, 4, &[1]);
+            set_code("width 32", 20, 4, &[7]);
+            set_code("horizontal stride 8", 21, 8, &[5]);
+            set_code("horizontal stride over 4", 21, 8, &[5, 6, 7]);
+            set_code("vertical stride Null", 24, 0, &[0]);
+            set_code("width Null", 24, 4, &[0]);
+            set_code("horizontal stride Null", 24, 8, &[0]);
+            width_over_exec_size(faults, operand, name, general);
         }
-        Place::Destination => {
-            set_code("vertical", 0, &[1, 2, 7]);
-            set_code("width", 4, &[1, 2, 7]);
-            set_code("horizontal", 8, &[0, 1, 5, 6, 7]);
+        Role::Destination => {
+            set_code("stride 8", 21, 8, &[5]);
+            set_code("stride over 4", 21, 8, &[5, 6, 7]);
+            set_code("stride 0", 23, 8, &[1]);
+            set_code("stride Null", 24, 8, &[0]);
+            set_code("vertical stride not Null", 24, 0, &[1, 2, 3, 4, 5, 6, 7]);
+            set_code("width not Null", 24, 4, &[1, 2, 3, 4, 5, 6, 7]);
         }
         _ => {
             // Right is code 1, 2, 1.
-            set_code("vertical", 0, &[0, 2, 7]);
-            set_code("width", 4, &[0, 1, 3]);
-            set_code("horizontal", 8, &[0, 2, 7]);
+            set_code("vertical stride not 0", 25, 0, &[0, 2, 3, 4, 5, 6, 7]);
+            set_code("width not 1", 25, 4, &[0, 1, 3, 4, 5, 6, 7]);
+            set_code("horizontal stride not 0", 25, 8, &[0, 2, 3, 4, 5, 6, 7]);
+            any_wrong_scalar(faults, operand, name, general);
         }
     }
+}
+
+/// 22 of a source. ExecSize is 8 at most, and the other source has one element for all lanes where it is made so.
+fn width_over_exec_size(
+    faults: &mut Faults,
+    operand: usize,
+    name: &str,
+    general: Option<(usize, Form)>,
+) {
+    let slot = Slot::Operand(operand, Part::Region);
+    let other = Slot::Operand(3 - operand, Part::Region);
+    let touches = vec![
+        Touch::Slot(Slot::Exec),
+        Touch::RegionField(operand, 4),
+        Touch::Slot(other),
+    ];
+    let over = format!("{name} region width over ExecSize");
+    let rank = operand_rank(operand, 22);
+    let apply = move |random: &mut Random, _: &mut Scene, draft: &mut Draft| {
+        let exec = draft.get(Slot::Exec).unwrap()[0];
+        let exec_code = match exec & 7 {
+            code if code <= 3 => code,
+            _ => {
+                if draft.get(other).is_some() {
+                    draft.set(other, &word(SCALAR_REGION));
+                }
+                random.below(4) as u8
+            }
+        };
+        draft.set(Slot::Exec, &[exec & 0xf8 | exec_code]);
+        // Width code 2 is 1 element, so ExecSize of code e is width code e + 2, and code 6 is 16.
+        let code = random.range(u64::from(exec_code) + 3, 6) as u16;
+        let old = word_of(draft.get(slot).unwrap());
+        draft.set(slot, &word(old & !0x00f0 | code << 4));
+    };
+    faults.run(&over, 22, rank, general, touches, apply);
+}
+
+/// 25 of a scalar, whatever is wrong: a region that SHL would take, or any other.
+fn any_wrong_scalar(
+    faults: &mut Faults,
+    operand: usize,
+    name: &str,
+    general: Option<(usize, Form)>,
+) {
+    let slot = Slot::Operand(operand, Part::Region);
+    let rank = operand_rank(operand, 25);
+    let touches = vec![Touch::Slot(slot)];
+    let any = format!("{name} region wrong");
+    let apply = move |random: &mut Random, _: &mut Scene, draft: &mut Draft| {
+        let region = loop {
+            let codes = [(); 3].map(|_| random.below(8) as u16);
+            let any = codes[0] | codes[1] << 4 | codes[2] << 8;
+            let region = random.pick(&[0x0255, 0x0200, 0x0122, 0x0000, any]);
+            if region != SCALAR_REGION {
+                break region;
+            }
+        };
+        draft.set(slot, &word(region));
+    };
+    faults.run(&any, 25, rank, general, touches, apply);
 }
 
 /// 7: elements outside the variable or over two registers.
@@ -314,7 +376,7 @@ fn outside(
     faults: &mut Faults,
     operand: usize,
     name: &str,
-    place: Place,
+    role: Role,
     general: Option<(usize, Form)>,
 ) {
     let at = move |part| Slot::Operand(operand, part);
@@ -357,7 +419,9 @@ fn outside(
             draft.set(at(Part::Column), &[column as u8]);
         },
     );
-    let everything = touch(&[Part::Index, Part::Row, Part::Column, Part::Region]);
+    let mut everything = touch(&[Part::Index, Part::Row, Part::Column, Part::Region]);
+    // Where the last element lies depends on ExecSize.
+    everything.push(Touch::Slot(Slot::Exec));
     let past = format!("{name} last element one past");
     let moved = everything.clone();
     faults.run(
@@ -374,9 +438,9 @@ fn outside(
                 0 | 1 => 0u64,
                 code => 1 << (code - 2),
             };
-            let span = match place {
-                Place::Destination => (exec_size - 1) * stride(8),
-                Place::Source => {
+            let span = match role {
+                Role::Destination => (exec_size - 1) * stride(8),
+                Role::Source => {
                     let width = stride(4).max(1);
                     let rows = (exec_size / width).max(1);
                     (rows - 1) * stride(0) + (width - 1) * stride(8)
@@ -391,9 +455,9 @@ fn outside(
         },
     );
     let over = format!("{name} over two registers");
-    match place {
-        Place::Scalar | Place::Raw => {}
-        Place::Source => {
+    match role {
+        Role::Scalar | Role::Raw => {}
+        Role::Source => {
             faults.run(
                 &over,
                 7,
@@ -412,7 +476,7 @@ fn outside(
                 },
             );
         }
-        Place::Destination => {
+        Role::Destination => {
             faults.run(
                 &over,
                 7,

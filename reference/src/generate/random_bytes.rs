@@ -20,6 +20,7 @@ pub fn random_bytes(random: &mut Random) -> Generated {
         mode: Mode::RandomBytes,
         name: name.to_string(),
         intended: None,
+        carried: None,
         file,
     }
 }

@@ -95,7 +95,7 @@ pub fn reached(file: &[u8], answer: &Answer) -> Vec<Place> {
 }
 
 /// The instructions before a position.
-fn completed(kernel: &[u8], end: usize) -> impl Iterator<Item = Instruction> + '_ {
+pub fn completed(kernel: &[u8], end: usize) -> impl Iterator<Item = Instruction> + '_ {
     let mut position = 0;
     std::iter::from_fn(move || {
         if position >= end {

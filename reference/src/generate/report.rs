@@ -1,8 +1,11 @@
 //! The generator's report: how many cases of each mode and intended number, how many valid cases ran all
-//! their instructions, the numbers that are answered, and the rare places that are reached.
+//! their instructions, the numbers that are answered, the operands that they name, the rare places that are reached, and
+//! the mistakes that show.
 
+use super::mistakes::{Mistake, Refused};
 use super::reach::{reached, Place};
 use super::{Generated, Mode};
+use crate::refusal::Detail;
 use crate::run::Answer;
 use std::collections::BTreeMap;
 use std::fmt::{self, Display};
@@ -13,8 +16,12 @@ pub struct Report {
     pub intended: BTreeMap<(Mode, Option<u8>), u64>,
     /// Cases by the number answered.
     pub answered: BTreeMap<u8, u64>,
+    /// Cases by the number answered and the place of the operand that it names.
+    pub named: BTreeMap<(u8, usize), u64>,
     /// Cases that reach a rare place; one case may reach several.
     pub reached: BTreeMap<Place, u64>,
+    /// Cases on which a program with a mistake answers wrongly.
+    pub shown: BTreeMap<Mistake, u64>,
     pub valid: u64,
     /// Valid cases that answer 0: all their instructions were completed.
     pub valid_complete: u64,
@@ -26,22 +33,30 @@ pub struct Report {
 }
 
 impl Report {
-    /// Count a case and the output that it gives.
-    pub fn add(&mut self, case: &Generated, output: &[u8]) {
-        let answer = answer_of(output);
+    /// Count a case and the answer to it.
+    pub fn add(&mut self, case: &Generated, answer: &Answer) {
         let number = answer.number;
         *self.intended.entry((case.mode, case.intended)).or_default() += 1;
         *self.answered.entry(number).or_default() += 1;
-        for place in reached(&case.file, &answer) {
+        if let Detail::Operand(place) = answer.detail {
+            *self.named.entry((number, place)).or_default() += 1;
+        }
+        for place in reached(&case.file, answer) {
             *self.reached.entry(place).or_default() += 1;
+        }
+        for mistake in Refused::of(&case.file, answer).map_or(vec![], |it| it.mistakes()) {
+            *self.shown.entry(mistake).or_default() += 1;
         }
         self.completed += answer.completed as u64;
         self.bytes += case.file.len() as u64;
         if case.mode == Mode::Valid {
             self.valid += 1;
             self.valid_complete += u64::from(number == 0);
-        } else if case.intended.is_some_and(|intended| intended != number) {
-            let name = format!("{} meant {:?}, answered {number}", case.name, case.intended);
+        } else if case.intended.is_some_and(|intended| intended != number)
+            || case.carried.is_some_and(|carried| carried != answer.detail)
+        {
+            let meant = (case.intended, case.carried);
+            let name = format!("{} meant {meant:?}, answered {answer:?}", case.name);
             self.unintended.push(name);
         }
     }
@@ -50,23 +65,10 @@ impl Report {
     pub fn count_of(&self, place: Place) -> u64 {
         self.reached.get(&place).copied().unwrap_or_default()
     }
-}
 
-/// The answer on an output's first line: "40 (number ub, completed uw, position ud)". Bytes that are not
-/// there count as 255.
-pub fn answer_of(output: &[u8]) -> Answer {
-    let text = String::from_utf8_lossy(&output[..16.min(output.len())]).into_owned();
-    let number = |from: usize, bytes: usize| {
-        let byte = |k: usize| {
-            let digits = text.get(2 * k..2 * k + 2)?;
-            usize::from_str_radix(digits, 16).ok()
-        };
-        (0..bytes).rfold(0, |number, k| 256 * number + byte(from + k).unwrap_or(255))
-    };
-    Answer {
-        number: number(1, 1) as u8,
-        completed: number(2, 2),
-        position: number(4, 4),
+    /// On how many cases a mistake shows.
+    pub fn shown_by(&self, mistake: Mistake) -> u64 {
+        self.shown.get(&mistake).copied().unwrap_or_default()
     }
 }
 
@@ -94,9 +96,18 @@ impl Display for Report {
             write!(to, "  {number}: {count}")?;
         }
         writeln!(to)?;
+        writeln!(to, "operands named, by number and place:")?;
+        for ((number, place), count) in &self.named {
+            writeln!(to, "  {number}, operand {place:<22}{count:>6}")?;
+        }
         writeln!(to, "rare places reached:")?;
         for place in Place::ALL {
             writeln!(to, "  {:<34}{:>6}", place.name(), self.count_of(place))?;
+        }
+        writeln!(to, "mistakes that show:")?;
+        for mistake in Mistake::ALL {
+            let count = self.shown_by(mistake);
+            writeln!(to, "  {:<34}{count:>6}", mistake.name())?;
         }
         let percent = 100 * self.valid_complete / self.valid.max(1);
         writeln!(

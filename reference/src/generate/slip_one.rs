@@ -110,7 +110,7 @@ pub fn unaligned_and_tainted(random: &mut Random) -> (Scene, String, u8) {
 
 /// Turn each lane on or off as it is wanted, by EM or by a predicate; lanes for which nothing is wanted are on
 /// or off at random. Gives the lanes as bits.
-fn turn_lanes_on(
+pub fn turn_lanes_on(
     random: &mut Random,
     scene: &mut Scene,
     draft: &mut Draft,
@@ -148,7 +148,7 @@ fn address_start(scene: &Scene, draft: &Draft) -> usize {
 }
 
 /// The register byte where the element offset of lane 0 starts.
-fn offsets_start(scene: &Scene, draft: &Draft) -> usize {
+pub fn offsets_start(scene: &Scene, draft: &Draft) -> usize {
     let offset = word_of(draft.get(Slot::Operand(1, Part::Offset)).unwrap());
     scene.guarded.unwrap().offsets_start + usize::from(offset)
 }

@@ -2,14 +2,17 @@
 
 use super::accepted::Kind;
 use super::bad_lines::{bad_line, BAD_LINE_WAYS};
-use super::fault::{field_rank, Fault, RANK_10, RANK_8, RANK_OPERANDS};
+use super::fault::{field_rank, Fault, Touch, RANK_10, RANK_8, RANK_OPERANDS};
+use super::first_pairs::several_lanes;
 use super::lines::{file_of, lines_of};
 use super::near_misses::{base_instruction, base_scene, give_form, prefix, suffix, Ways, KINDS};
 use super::random::Random;
+use super::region_words::several;
 use super::scene::Scene;
 use super::slip_one::unaligned_and_tainted;
 use super::{Generated, Mode};
 use crate::assemble::{Draft, Slot};
+use crate::refusal::Detail;
 
 /// How near two faults of one instruction stand in the order of tests.
 #[derive(Clone, Copy)]
@@ -53,16 +56,25 @@ impl Ways {
         if number % 3 == 0 {
             return self.cut_at_the_fault(random, number / 3);
         }
-        match random.below(23) {
-            0..=10 => self.in_one_instruction(random),
-            11 | 12 => self.with_a_cut(random),
-            13 | 14 => self.in_two_instructions(random),
-            15 => self.with_the_tables(random),
-            16..=18 => self.line_and_tables(random),
-            19 => two_lines(random),
-            _ => {
+        match random.below(36) {
+            0..=11 => self.in_one_instruction(random),
+            12 | 13 => self.with_a_cut(random),
+            14 | 15 => self.in_two_instructions(random),
+            16 => self.with_the_tables(random),
+            17..=19 => self.line_and_tables(random),
+            20 => two_lines(random),
+            21..=25 => {
                 let (scene, name, number) = unaligned_and_tainted(random);
-                two(random, &scene, name, number)
+                let detail = (number == 10).then_some(Detail::None);
+                two(random, &scene, name, number, detail)
+            }
+            26..=30 => {
+                let (scene, name, number, detail) = several(random);
+                two(random, &scene, name, number, Some(detail))
+            }
+            _ => {
+                let (scene, name, number, detail) = several_lanes(random);
+                two(random, &scene, name, number, Some(detail))
             }
         }
     }
@@ -86,7 +98,8 @@ impl Ways {
                 (Some((m, f)), Some((n, g))) => m == n && f != g,
                 _ => false,
             };
-            let same = a.touches.iter().any(|touch| b.touches.contains(touch));
+            let meets = |touch: &Touch| b.touches.iter().any(|other| touch.meets(*other));
+            let same = a.touches.iter().any(meets);
             if a.name != b.name && !same && !forms_differ {
                 break (a, b);
             }
@@ -98,9 +111,9 @@ impl Ways {
         kernel.extend(draft.bytes());
         kernel.extend(suffix(random, &scene));
         scene.case.kernel = kernel;
-        let number = if a.rank <= b.rank { a.number } else { b.number };
+        let first = if a.rank <= b.rank { a } else { b };
         let name = format!("{:?}: {} and {}", KINDS[kind], a.name, b.name);
-        two(random, &scene, name, number)
+        two(random, &scene, name, first.number, first.detail())
     }
 
     /// A faulty field, and the kernel's end inside it or right after it.
@@ -160,7 +173,7 @@ impl Ways {
             _ => 1,
         };
         let name = format!("{:?}: {} and cut in field {field}", KINDS[kind], fault.name);
-        two(random, &scene, name, number)
+        two(random, &scene, name, number, Some(Detail::None))
     }
 
     /// Two refused instructions: the first one ends the run.
@@ -185,7 +198,7 @@ impl Ways {
         kernel.extend(draft.bytes());
         scene.case.kernel = kernel;
         let name = format!("{} before {}", first.name, second.name);
-        two(random, &scene, name, first.number)
+        two(random, &scene, name, first.number, first.detail())
     }
 
     /// A fault of the tables stands before every fault of an instruction.
@@ -198,7 +211,7 @@ impl Ways {
         scene.case.kernel = draft.bytes();
         let table_name = self.break_tables(random, &mut scene);
         let name = format!("{table_name} and {}", fault.name);
-        two(random, &scene, name, 13)
+        two(random, &scene, name, 13, Some(Detail::None))
     }
 
     fn break_tables(&self, random: &mut Random, scene: &mut Scene) -> &'static str {
@@ -233,6 +246,7 @@ impl Ways {
             mode: Mode::TwoFaults,
             name: format!("{table_name} and {line_name}"),
             intended: Some(14),
+            carried: Some(Detail::None),
             file,
         }
     }
@@ -255,6 +269,7 @@ fn two_lines(random: &mut Random) -> Generated {
         mode: Mode::TwoFaults,
         name: format!("{} and {}", once.name, twice.name),
         intended: Some(14),
+        carried: Some(Detail::None),
         file: twice.file,
     }
 }
@@ -269,12 +284,19 @@ fn apply(random: &mut Random, scene: &mut Scene, draft: &mut Draft, kind: Kind, 
     }
 }
 
-fn two(random: &mut Random, scene: &Scene, name: String, number: u8) -> Generated {
+fn two(
+    random: &mut Random,
+    scene: &Scene,
+    name: String,
+    number: u8,
+    detail: Option<Detail>,
+) -> Generated {
     let lines = lines_of(random, &scene.case);
     Generated {
         mode: Mode::TwoFaults,
         name,
         intended: Some(number),
+        carried: detail,
         file: file_of(random, &lines),
     }
 }

@@ -5,6 +5,7 @@ use super::random::Random;
 use super::scene::{scene, Scene, Size};
 use super::{Generated, Mode};
 use crate::assemble::Draft;
+use crate::refusal::Detail;
 
 pub fn valid(random: &mut Random) -> Generated {
     if random.chance(1) {
@@ -45,6 +46,7 @@ pub fn valid(random: &mut Random) -> Generated {
         mode: Mode::Valid,
         name: format!("{size:?} scene, {length} instructions"),
         intended: Some(intended),
+        carried: Some(Detail::None),
         file: file_of(random, &lines),
     }
 }
@@ -60,6 +62,7 @@ fn without_registers(random: &mut Random) -> Generated {
         mode: Mode::Valid,
         name: "no registers".to_string(),
         intended: Some(0),
+        carried: Some(Detail::None),
         file: file_of(random, &lines),
     }
 }

@@ -1,6 +1,6 @@
 //! The program `cases`: makes case files from a seed and reports what it made.
 
-use super::Interpreter;
+use super::Answering;
 use crate::batch::write_entry;
 use crate::generate::report::Report;
 use crate::generate::{Generated, Generator, Mode};
@@ -31,8 +31,8 @@ struct Options {
     output: Output,
 }
 
-pub fn main(arguments: impl Iterator<Item = String>, interpreter: Interpreter) -> ExitCode {
-    match make(options(arguments), interpreter) {
+pub fn main(arguments: impl Iterator<Item = String>, answering: Answering) -> ExitCode {
+    match make(options(arguments), answering) {
         Ok(0) => ExitCode::SUCCESS,
         Ok(_) => ExitCode::FAILURE,
         Err(error) => {
@@ -43,7 +43,7 @@ pub fn main(arguments: impl Iterator<Item = String>, interpreter: Interpreter) -
 }
 
 /// Make the cases, write them and the report; gives the number of panics, each named on standard error.
-fn make(options: Options, interpreter: Interpreter) -> io::Result<u64> {
+fn make(options: Options, answering: Answering) -> io::Result<u64> {
     let generator = Generator::new(options.seed, options.only);
     let mut report = Report::default();
     let mut stdout = BufWriter::new(io::stdout().lock());
@@ -62,7 +62,7 @@ fn make(options: Options, interpreter: Interpreter) -> io::Result<u64> {
             }
         };
         write_out(&mut stdout, &options.output, index, &case)?;
-        if let Err(message) = caught(|| report.add(&case, &interpreter(&case.file))) {
+        if let Err(message) = caught(|| report.add(&case, &answering(&case.file))) {
             eprintln!("cases: panic at {place}: {}: {message}", case.name);
             panics += 1;
         }

@@ -2,17 +2,19 @@
 
 use super::Interpreter;
 use crate::command::words;
-use crate::comparison::Comparison;
+use crate::comparison::{Compared, Comparison};
 use crate::generate::{Generator, Mode};
 use crate::source::Source;
 use std::path::Path;
 use std::process::ExitCode;
 use std::time::Duration;
 
-const USAGE: &str = "usage: compare --command CMD [--batch] [--folder DIR | [--seed S] [--count N] [--first I] [--mode MODE]]
+const USAGE: &str = "usage: compare --command CMD [--verdicts] [--batch]
+               [--folder DIR | [--seed S] [--count N] [--first I] [--mode MODE]]
                [--jobs N] [--show N] [--whole] [--timeout SECONDS]
   --command  the program to compare and its arguments, split at white space; it gets one case file on
              standard input
+  --verdicts what comes back is the verdict, as the program `verdict` writes it, and not the bench's output
   --batch    the command takes many cases in one process, in the batch framing
   --folder   take the case files of a folder, those that end in .case, in the order of their names, instead
              of generated ones
@@ -22,8 +24,13 @@ const USAGE: &str = "usage: compare --command CMD [--batch] [--folder DIR | [--s
   --whole    show long lines whole
   --timeout  seconds that one process may take (20)";
 
-pub fn main(arguments: impl Iterator<Item = String>, interpreter: Interpreter) -> ExitCode {
-    let options = options(arguments, interpreter);
+/// The interpreters give the bench's output and the verdict.
+pub fn main(
+    arguments: impl Iterator<Item = String>,
+    bench: Interpreter,
+    verdict: Interpreter,
+) -> ExitCode {
+    let options = options(arguments, bench, verdict);
     let comparison = &options.comparison;
     let failures = if options.batch {
         comparison.batch()
@@ -53,8 +60,13 @@ struct Options {
     show: usize,
 }
 
-fn options(mut arguments: impl Iterator<Item = String>, interpreter: Interpreter) -> Options {
+fn options(
+    mut arguments: impl Iterator<Item = String>,
+    bench: Interpreter,
+    verdict: Interpreter,
+) -> Options {
     let mut command = None;
+    let (mut compared, mut interpreter) = (Compared::Outputs, bench);
     let mut batch = false;
     let mut folder = None;
     let (mut seed, mut count, mut first, mut only) = (1, 1000, 0, None);
@@ -67,6 +79,7 @@ fn options(mut arguments: impl Iterator<Item = String>, interpreter: Interpreter
         };
         match argument.as_str() {
             "--command" => command = Some(words(&value())),
+            "--verdicts" => (compared, interpreter) = (Compared::Verdicts, verdict),
             "--batch" => batch = true,
             "--folder" => folder = Some(value()),
             "--seed" => seed = number(&value()),
@@ -101,6 +114,7 @@ fn options(mut arguments: impl Iterator<Item = String>, interpreter: Interpreter
         comparison: Comparison {
             source,
             command,
+            compared,
             interpreter,
             jobs,
             patience: Duration::from_secs(timeout),

@@ -1,17 +1,22 @@
 //! The programs, each a function of its arguments and of the interpreter or line program that it asks.
 //!
-//! The interpreter of `src/bin` is always `bench::bench`, its line programs are `listed::listed` and
-//! `assembled::assembled`; tests put wrong ones in their place.
+//! The interpreters of `src/bin` are always `bench::bench`, `verdict::verdict` and `bench::answer`, its line programs
+//! `listed::listed` and `assembled::assembled`; tests put wrong ones in their place.
 
+use crate::run::Answer;
+
+pub mod by_case;
 pub mod by_line;
 pub mod cases;
 pub mod compare;
 pub mod compare_lines;
 pub mod lines;
-pub mod reference;
 
-/// A case file in, the bench program's output out.
+/// A case file in, the bench program's output or the verdict out.
 pub type Interpreter = fn(&[u8]) -> Vec<u8>;
+
+/// A case file in, its answer out.
+pub type Answering = fn(&[u8]) -> Answer;
 
 /// A line in, the lines out that the program `listing` or `assembler` writes for it, all without their 0x0a.
 pub type LineProgram = fn(&[u8]) -> Vec<String>;

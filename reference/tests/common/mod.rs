@@ -3,6 +3,7 @@
 
 use reference::assemble::Draft;
 use reference::case::{Case, Variable};
+use reference::refusal::Detail;
 use reference::run::{run, Answer};
 
 /// Numbers of the stage's variables.
@@ -95,11 +96,12 @@ pub fn number_of_bytes(bytes: &[u8]) -> u8 {
     run(&mut case).number
 }
 
-/// An answer, shortly.
+/// An answer that carries nothing, shortly.
 pub fn answer(number: u8, completed: usize, position: usize) -> Answer {
     Answer {
         number,
         completed,
         position,
+        detail: Detail::None,
     }
 }

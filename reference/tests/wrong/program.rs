@@ -1,14 +1,14 @@
 //! A program of the tests: one of the programs with an interpreter or a line program that is wrong on purpose.
 //!
 //! `wrong WAY PROGRAM ARGUMENTS`, the way being one of `number`, `completed`, `taint`, `end`, `silent` and
-//! `panic`, or for a line program one of those in `lines`.
+//! `panic`, for a verdict one of those in `verdicts`, and for a line program one of those in `lines`.
 
 mod lines;
+mod verdicts;
 
-use reference::bench::bench;
-use reference::programs::{
-    by_line, cases, compare, compare_lines, reference as answer, Interpreter,
-};
+use reference::bench::{answer, bench};
+use reference::programs::{by_case, by_line, cases, compare, compare_lines, Interpreter};
+use reference::run::Answer;
 use std::process::ExitCode;
 
 fn main() -> ExitCode {
@@ -22,6 +22,8 @@ fn main() -> ExitCode {
             let (listing, assembler) = (lines::listing(&way), lines::assembler(&way));
             return compare_lines::main(arguments, listing, assembler);
         }
+        "verdict" => return by_case::main("verdict", arguments, verdicts::verdict(&way)),
+        "cases" if way == "panic" => return cases::main(arguments, answer_panics_at_14),
         _ => {}
     }
     let interpreter: Interpreter = match way.as_str() {
@@ -34,9 +36,8 @@ fn main() -> ExitCode {
         other => panic!("no way {other:?} of being wrong"),
     };
     match program.as_str() {
-        "reference" => answer::main(arguments, interpreter),
-        "cases" => cases::main(arguments, interpreter),
-        "compare" => compare::main(arguments, interpreter),
+        "reference" => by_case::main("reference", arguments, interpreter),
+        "compare" => compare::main(arguments, interpreter, verdicts::panics_at_14),
         other => panic!("no program {other:?}"),
     }
 }
@@ -78,4 +79,10 @@ fn panics_at_14(case: &[u8]) -> Vec<u8> {
     let output = bench(case);
     assert!(!output.starts_with(b"400e"), "wrong on purpose");
     output
+}
+
+fn answer_panics_at_14(case: &[u8]) -> Answer {
+    let answer = answer(case);
+    assert!(answer.number != 14, "wrong on purpose");
+    answer
 }

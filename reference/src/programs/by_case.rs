@@ -1,5 +1,5 @@
-//! The program `reference`: a case file on standard input, the bench program's output on standard
-//! output. With `--batch`, many of both, in the framing of the module `batch`.
+//! The programs `reference` and `verdict`: a case file on standard input, the bench program's output or the verdict on
+//! standard output. With `--batch`, many of both, in the framing of the module `batch`.
 
 use super::Interpreter;
 use crate::batch::{read_entry, write_entry};
@@ -7,20 +7,24 @@ use crate::panics::caught;
 use std::io::{self, BufWriter, Read, Write};
 use std::process::ExitCode;
 
-pub fn main(arguments: impl Iterator<Item = String>, interpreter: Interpreter) -> ExitCode {
+pub fn main(
+    name: &str,
+    arguments: impl Iterator<Item = String>,
+    interpreter: Interpreter,
+) -> ExitCode {
     let arguments: Vec<String> = arguments.collect();
     let answered = match arguments.iter().map(String::as_str).collect::<Vec<_>>()[..] {
         [] => one_case(interpreter),
         ["--batch"] => many_cases(interpreter),
         _ => {
-            eprintln!("usage: reference [--batch]");
+            eprintln!("usage: {name} [--batch]");
             return ExitCode::from(2);
         }
     };
     match answered {
         Ok(()) => ExitCode::SUCCESS,
         Err(error) => {
-            eprintln!("reference: {error}");
+            eprintln!("{name}: {error}");
             ExitCode::FAILURE
         }
     }

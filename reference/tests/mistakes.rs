@@ -1,0 +1,174 @@
+//! The mistakes that the report counts: each shows where it answers wrongly and not beside it.
+
+mod common;
+
+use common::*;
+use reference::assemble::*;
+use reference::bench::answer as answer_to;
+use reference::case::Case;
+use reference::case_writer::write_case;
+use reference::generate::mistakes::{Mistake, Mistake::*, Refused};
+use reference::refusal::Detail;
+
+/// The mistakes that show on a case, apart from two that show wherever an operand is named.
+fn shown(case: &mut Case, draft: Draft) -> Vec<Mistake> {
+    case.kernel = draft.bytes();
+    let file = write_case(case);
+    let answer = answer_to(&file);
+    let mut mistakes = Refused::of(&file, &answer).map_or(vec![], |it| it.mistakes());
+    let names_operand = matches!(answer.detail, Detail::Operand(_));
+    let everywhere = [PlaceFrom0, PlaceOverFields];
+    for mistake in everywhere {
+        assert_eq!(mistakes.contains(&mistake), names_operand);
+    }
+    mistakes.retain(|it| !everywhere.contains(it));
+    mistakes
+}
+
+/// Of a SHL with these region words; a source without one is an immediate.
+fn of_shl(exec_code: u8, dst: u16, src0: Option<u16>, src1: Option<u16>) -> Vec<Mistake> {
+    let source = |word: Option<u16>| match word {
+        Some(word) => general(UB, 0, 0, word),
+        None => immediate(0, 1),
+    };
+    let dst = general(UB, 0, 0, dst);
+    let draft = shl(exec_code, 0, &dst, &source(src0), &source(src1));
+    shown(&mut stage(), draft)
+}
+
+/// A word with Nulls, by its codes.
+fn codes(vertical: u16, width: u16, horizontal: u16) -> u16 {
+    vertical | width << 4 | horizontal << 8
+}
+
+#[test]
+fn mistakes_of_a_source() {
+    let of = |word| of_shl(3, 0x0200, Some(word), None);
+    let nothing: [Mistake; 0] = [];
+    assert_eq!(of(source_region(8, 8, 1)), nothing);
+    assert_eq!(of(source_region(8, 0, 1)), nothing);
+    assert_eq!(of(source_region(8, 8, 8)), nothing);
+    assert_eq!(of(source_region(8, 16, 1)), nothing);
+    assert_eq!(of(source_region(8, 16, 8)), [WidthBeforeStride]);
+    assert_eq!(of(source_region(8, 32, 1)), [Width32Over]);
+    assert_eq!(of(source_region(8, 32, 8)), [Width32Over]);
+    // <n;16,1>, <n;32,1>, <8;n,8>
+    assert_eq!(of(codes(0, 6, 2)), [NullsFirst]);
+    assert_eq!(of(codes(0, 7, 2)), [NullsFirst, Width32Over]);
+    assert_eq!(of(codes(5, 0, 5)), [NullsFirst, NullIs0]);
+    // <8;n,1>, <n;8,1>
+    assert_eq!(of(codes(5, 0, 2)), [NullIs0]);
+    assert_eq!(of(codes(0, 5, 2)), nothing);
+    // Width 32 is not over an ExecSize of 32.
+    let of_32 = of_shl(5, 0x0200, Some(source_region(8, 32, 1)), None);
+    assert_eq!(of_32, nothing);
+}
+
+#[test]
+fn mistakes_of_a_destination() {
+    let of = |word| of_shl(3, word, None, None);
+    let nothing: [Mistake; 0] = [];
+    // <8>, <0>, <n;n,n>
+    assert_eq!(of(0x0500), nothing);
+    assert_eq!(of(0x0100), nothing);
+    assert_eq!(of(0x0000), [NullIs0]);
+    // <n;8,1>, <n;0,1>, <n;16,1>, <n;32,1>
+    assert_eq!(of(codes(0, 5, 2)), nothing);
+    assert_eq!(of(codes(0, 1, 2)), [DestinationWidthBy20]);
+    assert_eq!(of(codes(0, 6, 2)), [DestinationWidthBy22]);
+    assert_eq!(
+        of(codes(0, 7, 2)),
+        [DestinationWidthBy20, DestinationWidthBy22]
+    );
+    // <n;16,8> is 21 before 22, <n;16,0> is 22 before 23, <8;n,0> is 23 before 24.
+    assert_eq!(of(codes(0, 6, 5)), [NullsFirst]);
+    assert_eq!(of(codes(0, 6, 1)), [NullsFirst, DestinationWidthBy22]);
+    assert_eq!(of(codes(5, 0, 1)), [NullsFirst]);
+}
+
+#[test]
+fn mistakes_of_two_operands() {
+    let of = |dst, src0, src1| of_shl(3, dst, Some(src0), Some(src1));
+    let good = source_region(8, 8, 1);
+    let width_0 = source_region(8, 0, 1);
+    let stride_8 = source_region(8, 8, 8);
+    let nothing: [Mistake; 0] = [];
+    assert_eq!(of(0x0500, good, good), nothing);
+    assert_eq!(of(0x0500, width_0, good), [RuleByRule, LastOperand]);
+    assert_eq!(of(0x0200, width_0, stride_8), [LastOperand]);
+    assert_eq!(of(0x0200, stride_8, stride_8), [LastOperand]);
+    assert_eq!(of(0x0100, stride_8, width_0), [RuleByRule, LastOperand]);
+}
+
+#[test]
+fn mistakes_of_a_scalar() {
+    let of = |word: u16| {
+        let offset = general(UD, 0, 0, word);
+        let address = general(UQ, 0, 0, word);
+        let gathered = gather(3, 0, 2, 0, &offset, &raw(UD, 0), &raw(F, 0));
+        let scattered = scatter(3, 0, 1, &address, &raw(UQ, 0), &raw(F, 0));
+        let sent = raw_send(3, 0, 1, 1, &offset, &raw(UD, 0), &raw(F, 0));
+        [gathered, scattered, sent].map(|draft| shown(&mut stage(), draft))
+    };
+    // A region that SHL takes, and one that it does not.
+    assert_eq!(
+        of(source_region(8, 8, 1)),
+        [vec![SurfaceCounted], vec![], vec![]]
+    );
+    let by_rules = vec![ScalarByShlRules];
+    let both = vec![ScalarByShlRules, SurfaceCounted];
+    assert_eq!(of(0x0200), [both, by_rules.clone(), by_rules]);
+}
+
+/// Of a scatter of eight lanes with these element offsets; the window has 64 bytes.
+fn of_scatter(exec: u8, mask: u32, channels: u8, offsets: &[u64]) -> Vec<Mistake> {
+    let mut case = stage();
+    case.execution_mask = mask;
+    put_uq(&mut case, start(UQ), offsets);
+    let address = immediate_uq(case.base);
+    let draft = scatter(exec, 0, channels, &address, &raw(UQ, 0), &raw(UD, 0));
+    shown(&mut case, draft)
+}
+
+#[test]
+fn mistakes_of_pairs() {
+    let of = |channels, offsets: &[u64]| of_scatter(0x03, 0xff, channels, offsets);
+    let nothing: [Mistake; 0] = [];
+    assert_eq!(of(1, &[]), nothing);
+    // One pair alone offends, and lane 1 goes out by both channels.
+    assert_eq!(of(1, &[0, 64]), nothing);
+    assert_eq!(of(3, &[0, 60]), nothing);
+    assert_eq!(of(3, &[0, 64]), [LastPair]);
+    assert_eq!(of(1, &[64, 0, 64]), [LastPair]);
+    // Lane 0 by channel 1, lane 2 by channel 0 and 1.
+    assert_eq!(of(3, &[60, 0, 64]), [LaneOutside, LastPair]);
+    // Channel 3 is the second of two, and the first of one.
+    assert_eq!(of(0b1001, &[0, 52]), [ChannelRank]);
+    assert_eq!(of(0b1000, &[0, 52]), [ChannelRank]);
+    // 11 behind 12, and 12 behind 11.
+    assert_eq!(of(1, &[64, 1]), [PairByPair]);
+    assert_eq!(of(1, &[1, 64]), nothing);
+    // M3, and a lane off before lane 1.
+    let m3 = of_scatter(0x23, 0xff00, 1, &[0, 64]);
+    assert_eq!(m3, [LanePlusOffset]);
+    assert_eq!(of_scatter(0x03, 0xfe, 1, &[0, 64]), [LaneRank]);
+    let both = of_scatter(0x23, 0xfe00, 1, &[0, 1]);
+    assert_eq!(both, [LanePlusOffset, LaneRank]);
+}
+
+#[test]
+fn mistakes_of_other_numbers() {
+    let nothing: [Mistake; 0] = [];
+    let dst = |index, row| general(index, row, 0, 0x0200);
+    let one = immediate(0, 1);
+    let of = |exec, dst: &Operand| shown(&mut stage(), shl(exec, 0, dst, &one, &one));
+    assert_eq!(of(3, &dst(F, 0)), [OthersCarry]);
+    assert_eq!(of(3, &dst(NO_VARIABLE, 0)), [OthersCarry]);
+    assert_eq!(of(3, &dst(UB, 255)), [OthersCarry]);
+    assert_eq!(of(0x15, &dst(UB, 0)), nothing);
+    let mut case = stage();
+    case.register_taint[start(UQ)] = 1;
+    let address = immediate_uq(case.base);
+    let draft = scatter(3, 0, 1, &address, &raw(UQ, 0), &raw(UD, 0));
+    assert_eq!(shown(&mut case, draft), [OthersCarry]);
+}
