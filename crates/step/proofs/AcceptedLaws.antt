@@ -10,8 +10,8 @@ use Rattle.cells.proofs.EffectLaws.{unless-refused, unless-passed}
 use Rattle.plan.specs.declared.Plan.{Plan}
 
 module _ (p : Plan) (x : Effect) where
-  pub plan-refuses : 0 < p .number → unless (not (eqb (p .number) 0)) (p .number) x ≡ refused (p .number)
-  plan-refuses h = unless-refused (not (eqb (p .number) 0)) (p .number) x (ap not (ne-eqb (p .number) 0 (omega (arith, h))))
+  pub plan-refuses : 0 < p .number → unless (not (eqb (p .number) 0)) (p .number) (p .detail) x ≡ refused (p .number) (p .detail)
+  plan-refuses h = unless-refused (not (eqb (p .number) 0)) (p .number) (p .detail) x (ap not (ne-eqb (p .number) 0 (omega (arith, h))))
 
-  pub plan-passes : p .number ≡ 0 → unless (not (eqb (p .number) 0)) (p .number) x ≡ x
-  plan-passes zero = unless-passed (not (eqb (p .number) 0)) (p .number) x (ap not (eq-eqb (p .number) 0 zero))
+  pub plan-passes : p .number ≡ 0 → unless (not (eqb (p .number) 0)) (p .number) (p .detail) x ≡ x
+  plan-passes zero = unless-passed (not (eqb (p .number) 0)) (p .number) (p .detail) x (ap not (eq-eqb (p .number) 0 zero))

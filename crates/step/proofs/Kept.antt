@@ -5,6 +5,7 @@ use mathlib.Core.Bool.{not}
 use Prim.Native.Nat.{ℕ}
 use lib.ListN.{length}
 use lib.Dec.{eqb}
+use Rattle.details.specs.declared.Detail.the-variants as detail
 use Rattle.cells.specs.Effect.{Effect}
 use Rattle.cells.proofs.WriteLaws.{bytes-kept, taint-kept}
 use Rattle.cells.proofs.RefusalLaws.{WritesOnlyWhenDone, refused-writes, unless-writes}
@@ -46,14 +47,14 @@ module _ (x : Setup) (s : State) where
   acted-writes operation.Shl p = shl-writes p _ (s .registers)
   acted-writes operation.Gather p = gather-writes p _ (s .registers) (s .surfaces)
   acted-writes operation.Scatter p = scatter-writes _ p _ (s .registers)
-  acted-writes operation.Refused p = refused-writes 9
+  acted-writes operation.Refused p = refused-writes 9 detail.None
 
   plan-writes : (p : Plan) → WritesOnlyWhenDone (planEffect (x .constants) p s)
   unfolding planEffect
-  plan-writes p = unless-writes (not (eqb (p .number) 0)) (p .number) _ (acted-writes (p .operation) p)
+  plan-writes p = unless-writes (not (eqb (p .number) 0)) (p .number) (p .detail) _ (acted-writes (p .operation) p)
 
   decoded-writes : (at : ℕ) (d : Reply (Read Instruction)) → WritesOnlyWhenDone (stepOf x (λ (p : Plan). planEffect (x .constants) p s) at d .effect)
-  decoded-writes at (reply.refused n) = refused-writes n
+  decoded-writes at (reply.refused n) = refused-writes n detail.None
   decoded-writes at (reply.done i) = plan-writes (checked (x .tables) (i .value))
 
   -- every step whose number is not 0 writes nothing

@@ -38,11 +38,11 @@ module _ (x : Setup) (s u : State) (r : PlainStates s u) where
   acted-plain operation.Shl p sure = shl-plain p (lanesOn (x .constants .mask) p) (s .registers) (u .registers) (r .registers)
   acted-plain operation.Gather p sure = gather-plain (s .registers) (u .registers) (s .surfaces) (u .surfaces) (r .registers) (r .surfaces) p (lanesOn (x .constants .mask) p)
   acted-plain operation.Scatter p sure = scattered p (length (s .memory .bytes)) (length (u .memory .bytes)) (r .memory .bytes′) sure
-  acted-plain operation.Refused p sure = record { number = refl; registers = none; memory = none }
+  acted-plain operation.Refused p sure = record { number = refl; detail = refl; registers = none; memory = none }
 
   plan-plain : (p : Plan) → planEffect (x .constants) p s .number ≢ 10 → PlainEffects (planEffect (x .constants) p s) (planEffect (x .constants) p u)
   unfolding planEffect
-  plan-plain p sure = plain-unless (not (eqb (p .number) 0)) (p .number) 10 _ _ (acted-plain (p .operation) p) sure
+  plan-plain p sure = plain-unless (not (eqb (p .number) 0)) (p .number) 10 (p .detail) _ _ (acted-plain (p .operation) p) sure
 
   abbrev stepped : State → ℕ → Reply (Read Instruction) → Stepped
   stepped v at = stepOf x (λ (p : Plan). planEffect (x .constants) p v) at

@@ -1,6 +1,7 @@
--- Two steps that go the same way: the same number and next position, and related states after them.
+-- Two steps that go the same way: the same number, which tells the same, and next position, and related states after them.
 use mathlib.Core.Path.{_≡_, refl}
 use Prim.Native.Nat.{ℕ}
+use Rattle.details.specs.declared.Detail.the-variants as detail
 use Rattle.cells.specs.Effect.{Effect, refused}
 use Rattle.cells.proofs.Related.{Related, none, EffectsAlike, related-after}
 use Rattle.step.specs.State.{State}
@@ -9,6 +10,7 @@ use Rattle.step.specs.Step.{Stepped, after}
 pub record SameStep (S : State → State → Type 0) (t u : Stepped) (s v : State) : Type 0 where
   pub next : t .next ≡ u .next
   pub number : t .effect .number ≡ u .effect .number
+  pub detail : t .effect .detail ≡ u .effect .detail
   pub state : S (after (t .effect) s) (after (u .effect) v)
 
 -- by a relation of cells: states that are related buffer by buffer, and steps of alike effects
@@ -24,6 +26,7 @@ module _ (R : ℕ → ℕ → ℕ → ℕ → ℕ → Type 0) where
         record {
           next = refl;
           number = a .number;
+          detail = a .detail;
           state = record {
             registers = related-after R (a .registers) _ _ (r .registers);
             surfaces = r .surfaces;
@@ -31,5 +34,5 @@ module _ (R : ℕ → ℕ → ℕ → ℕ → ℕ → Type 0) where
           };
         }
 
-    pub refused-steps : (at n : ℕ) → SameStep RelatedStates (record { next = at; effect = refused n }) (record { next = at; effect = refused n }) s u
-    refused-steps at n = alike-steps at (refused n) (refused n) (record { number = refl; registers = none; memory = none })
+    pub refused-steps : (at n : ℕ) → SameStep RelatedStates (record { next = at; effect = refused n detail.None }) (record { next = at; effect = refused n detail.None }) s u
+    refused-steps at n = alike-steps at (refused n detail.None) (refused n detail.None) (record { number = refl; detail = refl; registers = none; memory = none })

@@ -36,11 +36,11 @@ module _ (x : Setup) (s u : State) (r : AgreeingStates s u) where
   acted-alike operation.Shl p = shl-alike p (lanesOn (x .constants .mask) p) (s .registers) (u .registers) (r .registers)
   acted-alike operation.Gather p = gather-alike (s .registers) (u .registers) (s .surfaces) (u .surfaces) (r .registers) (r .surfaces) p (lanesOn (x .constants .mask) p)
   acted-alike operation.Scatter p = scattered p (length (s .memory .bytes)) (length (u .memory .bytes)) (r .memory .bytes′)
-  acted-alike operation.Refused p = record { number = refl; registers = none; memory = none }
+  acted-alike operation.Refused p = record { number = refl; detail = refl; registers = none; memory = none }
 
   plan-alike : (p : Plan) → AlikeEffects (planEffect (x .constants) p s) (planEffect (x .constants) p u)
   unfolding planEffect
-  plan-alike p = unless-alike (not (eqb (p .number) 0)) _ (p .number) _ _ refl (λ _. acted-alike (p .operation) p)
+  plan-alike p = unless-alike (not (eqb (p .number) 0)) _ (p .number) _ _ _ _ refl refl (λ _. acted-alike (p .operation) p)
 
   abbrev stepped : State → ℕ → Reply (Read Instruction) → Stepped
   stepped v at = stepOf x (λ (p : Plan). planEffect (x .constants) p v) at

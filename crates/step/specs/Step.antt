@@ -3,6 +3,7 @@ use Prim.Native.Nat.{ℕ}
 use mathlib.Core.Bool.{not}
 use lib.ListN.{length}
 use lib.Dec.{eqb}
+use Rattle.details.specs.declared.Detail.the-variants as detail
 use Rattle.cells.specs.Writes.{writtenAll}
 use Rattle.cells.specs.Effect.{Effect, refused, unless}
 use Rattle.reader.specs.Reply.{onReply}
@@ -24,11 +25,11 @@ acted c operation.Shl p s = shlEffect p (lanesOn (c .mask) p) (s .registers)
 acted c operation.Gather p s = gatherEffect p (lanesOn (c .mask) p) (s .registers) (s .surfaces)
 acted c operation.Scatter p s =
     scatterEffect (record { base = c .base; length = length (s .memory .bytes) }) p (lanesOn (c .mask) p) (s .registers)
-acted c operation.Refused p s = refused 9
+acted c operation.Refused p s = refused 9 detail.None
 
--- the tests that look at no data come first
+-- the tests that look at no data come first, with what they tell
 unfoldable pub planEffect : Constants → Plan → State → Effect
-planEffect c p s = unless (not (eqb (p .number) 0)) (p .number) (acted c (p .operation) p s)
+planEffect c p s = unless (not (eqb (p .number) 0)) (p .number) (p .detail) (acted c (p .operation) p s)
 
 -- the effect of the instruction at a position, and where the next one begins
 pub record Stepped : Type 0 where
@@ -38,7 +39,7 @@ pub record Stepped : Type 0 where
 unfoldable pub stepAt : Setup → ℕ → State → Stepped
 stepAt x at s =
     onReply (instructionAt (x .kernel) at)
-    (λ n. record { next = at; effect = refused n })
+    (λ n. record { next = at; effect = refused n detail.None })
     (λ i. record { next = i .next; effect = planEffect (x .constants) (checked (x .tables) (i .value)) s })
 
 -- the state after an effect; surfaces are never written

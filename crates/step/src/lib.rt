@@ -1,5 +1,7 @@
 // One step of a run: what an instruction does, and the instruction at a position, over the caller's buffers.
 use decoder::Decoded;
+use details::Detail;
+use details::Status;
 use plan::Operation;
 use plan::Plan;
 ghost use mathlib.Core.Path.{_≡_};
@@ -16,13 +18,14 @@ pub struct Constants {
     pub mask: u32,
 }
 
-// What one instruction gave: its number, and where the next one begins.
+// What one instruction gave: its number with what it tells, and where the next one begins.
 pub struct Progress {
     pub number: u8,
+    pub detail: Detail,
     pub next: usize,
 }
 
-// Does what a plan says: its refusal's number with nothing written, or the instruction's own number. The executors ask again what every plan
+// Does what a plan says: its refusal with nothing written, or what the instruction itself gives. The executors ask again what every plan
 // of a decoded and checked instruction has; no such plan is refused there.
 fn perform(
     plan: Plan,
@@ -33,27 +36,37 @@ fn perform(
     register_taint: &mut [u8],
     memory: &mut [u8],
     memory_taint: &mut [u8],
-) -> u8
+) -> Status
     requires { ⌜ Fits plan ⌝ }
     ensures { λ r.
         let s = lent registers «register_taint» surfaces «surface_taint» memory «memory_taint» in
         let e = planEffect constants plan (s .entry) in
-        ⌜ (r ≡ e .number) × (s .exit ≡ after e (s .entry)) ⌝ }
+        ⌜ (r .number ≡ e .number) × (r .detail ≡ e .detail) × (s .exit ≡ after e (s .entry)) ⌝ }
 {
     if 0 < plan.number {
-        return plan.number;
+        let detail = plan.detail;
+        return Status {
+            number: plan.number,
+            detail,
+        };
     }
     let operation = plan.operation;
     match operation {
-        Operation::Shl => shl::shl(plan, constants.mask, registers, register_taint),
-        Operation::Gather => gather::gather(
-            plan,
-            constants.mask,
-            registers,
-            register_taint,
-            surfaces,
-            surface_taint,
-        ),
+        Operation::Shl => Status {
+            number: shl::shl(plan, constants.mask, registers, register_taint),
+            detail: Detail::None,
+        },
+        Operation::Gather => Status {
+            number: gather::gather(
+                plan,
+                constants.mask,
+                registers,
+                register_taint,
+                surfaces,
+                surface_taint,
+            ),
+            detail: Detail::None,
+        },
         Operation::Scatter => scatter::scatter(
             plan,
             constants.mask,
@@ -63,7 +76,10 @@ fn perform(
             memory,
             memory_taint,
         ),
-        Operation::Refused => 9,
+        Operation::Refused => Status {
+            number: 9,
+            detail: Detail::None,
+        },
     }
 }
 
@@ -88,7 +104,7 @@ pub fn step(
         let x = setup (now (kernel .entry)) (tables (variableTable types starts counts) (predicateTable predicates) (surfaceTable «surface_lengths»)) constants in
         let s = lent registers «register_taint» surfaces «surface_taint» memory «memory_taint» in
         let t = stepAt x at (s .entry) in
-        ⌜ (r .number ≡ t .effect .number) × (r .next ≡ t .next) × (s .exit ≡ after (t .effect) (s .entry)) ⌝ }
+        ⌜ (r .number ≡ t .effect .number) × (r .detail ≡ t .effect .detail) × (r .next ≡ t .next) × (s .exit ≡ after (t .effect) (s .entry)) ⌝ }
 {
     match decoder::decode(kernel, at) {
         Decoded::Accepted(instruction, cursor) => {
@@ -100,7 +116,7 @@ pub fn step(
                 surface_lengths,
                 instruction,
             );
-            let number = perform(
+            let status = perform(
                 plan,
                 constants,
                 surfaces,
@@ -110,11 +126,17 @@ pub fn step(
                 memory,
                 memory_taint,
             );
+            let detail = status.detail;
             Progress {
-                number,
+                number: status.number,
+                detail,
                 next: cursor.at,
             }
         }
-        Decoded::Refused(number) => Progress { number, next: at },
+        Decoded::Refused(number) => Progress {
+            number,
+            detail: Detail::None,
+            next: at,
+        },
     }
 }
