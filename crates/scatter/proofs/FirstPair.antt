@@ -3,10 +3,14 @@ use Prim.Native.Nat.{ℕ, _<_}
 use mathlib.Core.Path.{_≡_, sym, _∙_}
 use mathlib.Core.Logic.{⊎-elim}
 use mathlib.Core.Bool.{Bool, true, false}
-use mathlib.Core.List.{List}
+use mathlib.Core.List.{List, []}
 use native.Mathlib.Omega.{arith}
 use Rattle.details.specs.declared.Detail.{Detail}
-use Rattle.cells.specs.Over.{among, firstPair}
+use Rattle.details.specs.declared.Detail.the-variants as detail
+use Rattle.details.specs.Details.{tells}
+use Rattle.cells.specs.Buffer.{Buffer}
+use Rattle.cells.specs.Over.{among, each, some, firstPair}
+use Rattle.cells.specs.Effect.{Effect, unless, unlessFound, writing}
 use Rattle.cells.proofs.FirstFound.{FoundPair, NoPair, pairs-found}
 use Rattle.channels.specs.Bits.{bit}
 use Rattle.channels.specs.Exec.{execSize}
@@ -15,10 +19,11 @@ use Rattle.channels.proofs.LaneLaws.{on-below-size}
 use Rattle.plan.specs.declared.Plan.{Plan}
 use Rattle.staging.specs.Lanes.{lanesOn}
 use Rattle.staging.specs.Results.{Enabled}
+use Rattle.staging.specs.Sources.{eitherTainted}
 use Rattle.staging.proofs.LanesOnLaws.{lanes-on-are}
-use Rattle.scatter.specs.Scatter.{channelsOn, target, firstOffending}
+use Rattle.scatter.specs.Scatter.{Window, channelsOn, target, misaligned, outside, scatterPair, firstOffending, scatterEffect}
 use Rattle.scatter.specs.Results.{EnabledPair, Later}
-use Rattle.scatter.specs.Offending.{IsFirst, Searched, found, clear}
+use Rattle.scatter.specs.Offending.{IsFirst, Searched, found, clear, ScatterTells, done, doubtful, misalignedPair, outsidePair}
 
 module _ (mask : ℕ) (p : Plan) (offends : ℕ → ℕ → Bool) where
   abbrev on : ℕ → Bool
@@ -52,3 +57,27 @@ module _ (mask : ℕ) (p : Plan) (offends : ℕ → ℕ → Bool) where
 pub offending-first : (fails : ℕ → Bool) (mask : ℕ) (p : Plan) (bytes : List ℕ) → Searched mask p (λ c i. fails (target bytes p c i)) (firstOffending fails p (lanesOn mask p) bytes)
 unfolding firstOffending channelsOn
 offending-first fails mask p bytes = rw (lanes-on-are mask p) (pairs-searched mask p (λ c i. fails (target bytes p c i)))
+
+-- a search that refuses tells the first pair, and one that does not leaves what follows
+module _ (offends : ℕ → ℕ → Bool) (mask : ℕ) (p : Plan) where
+  search-tells : (P : ℕ → Detail → Type 0) (n : ℕ) (d : Detail) (e : Effect) → Searched mask p offends d → ((c lane : ℕ) → IsFirst mask p offends c lane → P n (detail.Pair c lane)) → P (e .number) (e .detail)
+      → P (unlessFound n d e .number) (unlessFound n d e .detail)
+  unfolding unless tells
+  search-tells P n d e (found {c} {lane} first) named later = named c lane first
+  search-tells P n d e (clear none) named later = later
+
+pub scatter-tells : (w : Window) (mask : ℕ) (p : Plan) (b : Buffer) → ScatterTells w mask p (b .bytes) (scatterEffect w p (lanesOn mask p) b .number) (scatterEffect w p (lanesOn mask p) b .detail)
+unfolding scatterEffect unless
+scatter-tells w mask p b = told (some (λ i. eitherTainted (b .taint) (p .left) (p .right) i) (lanesOn mask p))
+  where
+    rest : Effect
+    rest =
+        unlessFound 11 (firstOffending misaligned p (lanesOn mask p) (b .bytes))
+        (unlessFound 12 (firstOffending (outside w) p (lanesOn mask p) (b .bytes))
+        (writing [] (each (λ c. each (λ i. scatterPair w b p c i) (lanesOn mask p)) (channelsOn p))))
+
+    told : (q : Bool) → ScatterTells w mask p (b .bytes) (unless q 10 detail.None rest .number) (unless q 10 detail.None rest .detail)
+    told true = doubtful
+    told false =
+        search-tells (λ d i. misaligned (target (b .bytes) p d i)) mask p (ScatterTells w mask p (b .bytes)) 11 _ _ (offending-first misaligned mask p (b .bytes)) (λ c lane first. misalignedPair first)
+        (search-tells (λ d i. outside w (target (b .bytes) p d i)) mask p (ScatterTells w mask p (b .bytes)) 12 _ _ (offending-first (outside w) mask p (b .bytes)) (λ c lane first. outsidePair first) done)

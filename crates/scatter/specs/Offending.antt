@@ -3,9 +3,11 @@
 use Prim.Native.Nat.{ℕ}
 use mathlib.Core.Path.{_≡_}
 use mathlib.Core.Bool.{Bool, true, false}
+use mathlib.Core.List.{List}
 use Rattle.details.specs.declared.Detail.{Detail}
 use Rattle.details.specs.declared.Detail.the-variants as detail
 use Rattle.plan.specs.declared.Plan.{Plan}
+use Rattle.scatter.specs.Scatter.{Window, target, misaligned, outside}
 use Rattle.scatter.specs.Results.{EnabledPair, Later}
 
 module _ (mask : ℕ) (p : Plan) (offends : ℕ → ℕ → Bool) where
@@ -19,3 +21,11 @@ module _ (mask : ℕ) (p : Plan) (offends : ℕ → ℕ → Bool) where
   pub data Searched : Detail → Type 0 where
     found : {c lane : ℕ} → IsFirst c lane → Searched (detail.Pair c lane)
     clear : ((c lane : ℕ) → EnabledPair mask p c lane → offends c lane ≡ false) → Searched detail.None
+
+-- what the numbers of a scatter that is performed tell
+module _ (w : Window) (mask : ℕ) (p : Plan) (bytes : List ℕ) where
+  pub data ScatterTells : ℕ → Detail → Type 0 where
+    done : ScatterTells 0 detail.None
+    doubtful : ScatterTells 10 detail.None
+    misalignedPair : {c lane : ℕ} → IsFirst mask p (λ d i. misaligned (target bytes p d i)) c lane → ScatterTells 11 (detail.Pair c lane)
+    outsidePair : {c lane : ℕ} → IsFirst mask p (λ d i. outside w (target bytes p d i)) c lane → ScatterTells 12 (detail.Pair c lane)

@@ -7,6 +7,7 @@ pub mod StepLaws
 pub mod Forward
 pub mod Kept
 pub mod FirstFailing
+pub mod StepTells
 pub mod Results
 pub mod SameStep
 pub mod Untainted

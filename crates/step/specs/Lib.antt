@@ -4,4 +4,5 @@ pub mod Borrowed
 pub mod mirror
 pub mod Leaves
 pub mod FirstFailing
+pub mod Tells
 pub mod Completes
