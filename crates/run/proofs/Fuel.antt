@@ -70,9 +70,9 @@ module _ (step : ℕ → State → Stepped) (end : ℕ) where
   done-at-end (went h e rest) z = done-at-end rest z
 
   -- a refusal is that of the instruction at the answer's position, with the state that the ones before it left
-  pub refused-inside : {c at : ℕ} {s : State} {r : Outcome} → Ran step end c at s r → r .answer .number ≢ 0 → (r .answer .position < end) × (step (r .answer .position) (r .state) .effect .number ≡ r .answer .number)
+  pub refused-inside : {c at : ℕ} {s : State} {r : Outcome} → Ran step end c at s r → r .answer .number ≢ 0 → (r .answer .position < end) × (step (r .answer .position) (r .state) .effect .number ≡ r .answer .number) × (step (r .answer .position) (r .state) .effect .detail ≡ r .answer .detail)
   refused-inside ended h = absurd (h refl)
-  refused-inside (refusedAt h e) z = (h, e)
+  refused-inside (refusedAt h e) z = (h, e, refl)
   refused-inside (went h e rest) z = refused-inside rest z
 
   -- completed counts the instructions that went
@@ -86,7 +86,7 @@ module _ (x : Setup) (s : State) (b : Bytes (x .kernel)) (good : tablesGood (len
   pub run-done-at-end : whole.run x s .answer .number ≡ 0 → whole.run x s .answer .position ≡ length (x .kernel)
   run-done-at-end = done-at-end (stepAt x) (length (x .kernel)) (run-ran x s b good)
 
-  pub run-refused-inside : whole.run x s .answer .number ≢ 0 → (whole.run x s .answer .position < length (x .kernel)) × (stepAt x (whole.run x s .answer .position) (whole.run x s .state) .effect .number ≡ whole.run x s .answer .number)
+  pub run-refused-inside : whole.run x s .answer .number ≢ 0 → (whole.run x s .answer .position < length (x .kernel)) × (stepAt x (whole.run x s .answer .position) (whole.run x s .state) .effect .number ≡ whole.run x s .answer .number) × (stepAt x (whole.run x s .answer .position) (whole.run x s .state) .effect .detail ≡ whole.run x s .answer .detail)
   run-refused-inside = refused-inside (stepAt x) (length (x .kernel)) (run-ran x s b good)
 
   pub run-completed : whole.run x s .answer .completed ≡ wentCount (stepAt x) (length (x .kernel)) (run-ran x s b good)

@@ -8,6 +8,7 @@ use lib.ListN.{length, take, replicate, length-replicate}
 use lib.Seq.{length-take-le}
 use lib.Dec.{ltb}
 use borrow.Author.Tests.{ltb-false, le-ltb}
+use Rattle.details.specs.declared.Detail.the-variants as detail
 use Rattle.tables.specs.declared.Lengths.{Lengths}
 use Rattle.tables.specs.Tables.{Tables, tablesGood}
 use Rattle.tables.proofs.Laws.{limited, surfaces-small}
@@ -60,7 +61,7 @@ module _ (x : Setup) (registers surfaces memory : List ℕ) where
   abbrev start : State
   start = state registers (replicate (length registers) 0) surfaces (replicate (length surfaces) 0) memory (replicate (length memory) 0)
 
-  pub too-long-answers : tooLong (length registers) (length surfaces) (length memory) ≡ true → plainOutcome (record { number = 13; completed = 0; position = 0 }) registers memory ≡ withoutMarks (plainRun x registers surfaces memory)
+  pub too-long-answers : tooLong (length registers) (length surfaces) (length memory) ≡ true → plainOutcome (record { number = 13; completed = 0; position = 0; detail = detail.None }) registers memory ≡ withoutMarks (plainRun x registers surfaces memory)
   too-long-answers long = ap withoutMarks (sym (plain-run-is x registers surfaces memory ∙ tables-refused x start (told (tablesGood (lengthsOf x start) (x .tables)) refl)))
     where
       told : (q : Bool) → tablesGood (lengthsOf x start) (x .tables) ≡ q → q ≡ false

@@ -6,13 +6,14 @@ use native.Mathlib.Numerals.{add-one}
 use lib.ListN.{length}
 use borrow.Author.Tests.{lt-ltb, le-ltb}
 use Rattle.little_endian.specs.LittleEndian.{Bytes}
+use Rattle.details.specs.declared.Detail.{Detail}
 use Rattle.step.specs.declared.Progress.{Progress}
 use Rattle.step.specs.State.{Setup, State, lengthsOf}
 use Rattle.step.specs.Step.{stepAt}
 use Rattle.step.proofs.StepLaws.{Takes}
 use Rattle.step.proofs.Forward.{Forward, step-forward}
 use Rattle.step.proofs.Kept.{after-lengths, refused-step-keeps}
-use Rattle.run.specs.Run.{stopped, runFrom, runThrough}
+use Rattle.run.specs.Run.{refusedWith, stopped, runFrom, runThrough}
 use Rattle.run.proofs.Kept.{refused-stops}
 
 -- after so many instructions the rest of the run, from here and this state, comes to what the whole run comes to
@@ -49,33 +50,35 @@ module _ (x : Setup) (start : State) where
 
     module _ (before : at < length (x .kernel)) (p : Progress) (u : State) (told : Takes s (stepAt x at s) p u) where
       pub keeps : lengthsOf x u ≡ lengthsOf x start
-      keeps = ap (lengthsOf x) (told .2) ∙ (after-lengths x (stepAt x at s .effect) s ∙ r .lengths)
+      keeps = ap (lengthsOf x) (told .3) ∙ (after-lengths x (stepAt x at s .effect) s ∙ r .lengths)
 
       -- a refusal ends the run, with the state as it was
-      pub stops : 0 < p .number → stopped (p .number) completed at u ≡ runThrough x start
+      pub stops : 0 < p .number → refusedWith (p .number) (p .detail) completed at u ≡ runThrough x start
       stops h = ended (r .fuel) (r .enough) (r .same)
         where
-          number : (n : ℕ) → p .number ≡ n → 0 < n → (fuel : ℕ) → runFrom (stepAt x) (length (x .kernel)) (suc fuel) completed at s ≡ runThrough x start → stopped n completed at s ≡ runThrough x start
+          number : (n : ℕ) → p .number ≡ n → 0 < n → (fuel : ℕ) → runFrom (stepAt x) (length (x .kernel)) (suc fuel) completed at s ≡ runThrough x start → refusedWith n (p .detail) completed at s ≡ runThrough x start
           number zero e h fuel same = absurd (omega (arith, h))
-          number (suc n) e h fuel same = sym (refused-stops (stepAt x) (length (x .kernel)) fuel completed at n s before (sym (told .0) ∙ e)) ∙ same
+          number (suc n) e h fuel same =
+              ap (λ (d : Detail). refusedWith (suc n) d completed at s) (told .1)
+              ∙ (sym (refused-stops (stepAt x) (length (x .kernel)) fuel completed at n s before (sym (told .0) ∙ e)) ∙ same)
 
           kept : u ≡ s
-          kept = told .2 ∙ refused-step-keeps x at s (λ z. absurd (omega (arith, told .0, z, h)))
+          kept = told .3 ∙ refused-step-keeps x at s (λ z. absurd (omega (arith, told .0, z, h)))
 
-          ended : (fuel : ℕ) → length (x .kernel) ≤ fuel + at → runFrom (stepAt x) (length (x .kernel)) fuel completed at s ≡ runThrough x start → stopped (p .number) completed at u ≡ runThrough x start
+          ended : (fuel : ℕ) → length (x .kernel) ≤ fuel + at → runFrom (stepAt x) (length (x .kernel)) fuel completed at s ≡ runThrough x start → refusedWith (p .number) (p .detail) completed at u ≡ runThrough x start
           ended zero enough same = absurd (omega (arith, before, enough))
-          ended (suc fuel) enough same = ap (λ (v : State). stopped (p .number) completed at v) kept ∙ number (p .number) refl h fuel same
+          ended (suc fuel) enough same = ap (λ (v : State). refusedWith (p .number) (p .detail) completed at v) kept ∙ number (p .number) refl h fuel same
 
       module _ (left : p .number ≤ 0) where
         done : stepAt x at s .effect .number ≡ 0
         done = omega (arith, told .0, left)
 
         pub onward : Forward (length (x .kernel)) at (p .next)
-        onward = let f = step-forward x (r .bytes) at s done in (omega (arith, f .0, told .1), omega (arith, f .1, told .1))
+        onward = let f = step-forward x (r .bytes) at s done in (omega (arith, f .0, told .2), omega (arith, f .1, told .2))
 
         turn : (fuel : ℕ) → runFrom (stepAt x) (length (x .kernel)) (suc fuel) completed at s ≡ runFrom (stepAt x) (length (x .kernel)) fuel (completed + 1) (p .next) u
         unfolding runFrom
-        turn fuel = rw (lt-ltb at (length (x .kernel)) before, done, add-one completed, told .1, told .2)
+        turn fuel = rw (lt-ltb at (length (x .kernel)) before, done, add-one completed, told .2, told .3)
 
         pub goes : Reached x start (completed + 1) (p .next) u
         goes = gone (r .fuel) (r .enough) (r .same)

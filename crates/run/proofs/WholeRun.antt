@@ -10,7 +10,9 @@ use Rattle.tables.specs.Tables.{tablesGood}
 use Rattle.step.specs.State.{Setup, State, lengthsOf}
 use Rattle.step.specs.Step.{stepAt, after}
 use Rattle.step.specs.Completes.{Completes}
+use Rattle.step.specs.Tells.{Tells}
 use Rattle.step.proofs.FirstFailing.{step-number}
+use Rattle.step.proofs.StepTells.{step-tells}
 use Rattle.step.proofs.Kept.{after-lengths}
 use Rattle.step.proofs.Results.{step-completes}
 use Rattle.run.specs.Run.{Outcome, run}
@@ -32,7 +34,7 @@ module _ (x : Setup) (b : Bytes (x .kernel)) where
   Good s = tablesGood (lengthsOf x s) (x .tables) ≡ true
 
   -- no instruction is completed from here on
-  stopped-told : (at : ℕ) (s : State) (r : Outcome) → at ≡ r .answer .position → s ≡ r .state → Stops x (r .answer .position) (r .state) (r .answer .number) → Told x 0 at s r
+  stopped-told : (at : ℕ) (s : State) (r : Outcome) → at ≡ r .answer .position → s ≡ r .state → Stops x (r .answer .position) (r .state) (r .answer .number) (r .answer .detail) → Told x 0 at s r
   stopped-told at s r position state stops =
       record {
         positions = λ _. at;
@@ -67,7 +69,7 @@ module _ (x : Setup) (b : Bytes (x .kernel)) where
   ran-told : {completed at : ℕ} {s : State} {r : Outcome} → Good s → (p : Ran (stepAt x) end completed at s r) → Told x (wentCount (stepAt x) end p) at s r
   unfolding wentCount
   ran-told {completed} {at} {s} {r} good ended = stopped-told at s r refl refl (atEnd refl)
-  ran-told {completed} {at} {s} {r} good (refusedAt h e) = stopped-told at s r refl refl (refusedBy h (sym (step-number x s at) ∙ e))
+  ran-told {completed} {at} {s} {r} good (refusedAt h e) = stopped-told at s r refl refl (refusedBy h (sym (step-number x s at) ∙ e) (subst (λ (n : ℕ). Tells x at s n (stepAt x at s .effect .detail)) e (step-tells x s at)))
   ran-told {completed} {at} {s} {r} good (went h e rest) =
       went-told _ at s r good e (ran-told (ap (λ (l : Lengths). tablesGood l (x .tables)) (after-lengths x (stepAt x at s .effect) s) ∙ good) rest)
 

@@ -1,9 +1,11 @@
 -- A run. Document 01, "The numbers given back": "A run answers number, instructions completed and byte position of the refused instruction
--- (or the end). 13 answers 0 and 0. Earlier instructions stand."
+-- (or the end). 13 answers 0 and 0. Earlier instructions stand." With the number goes what it tells (document 02, request 2).
 use Prim.Native.Nat.{ℕ, zero, suc}
 use mathlib.Core.Bool.{cond}
 use lib.ListN.{length}
 use lib.Dec.{ltb}
+use Rattle.details.specs.declared.Detail.{Detail}
+use Rattle.details.specs.declared.Detail.the-variants as detail
 use Rattle.tables.specs.Tables.{tablesGood}
 use Rattle.step.specs.State.{Setup, State, lengthsOf}
 use Rattle.step.specs.Step.{Stepped, stepAt, after}
@@ -16,13 +18,17 @@ pub record Outcome : Type 0 where
 abbrev pub outcome : Answer → State → Outcome
 outcome answer s = record { answer = answer; state = s }
 
+abbrev pub refusedWith : ℕ → Detail → ℕ → ℕ → State → Outcome
+refusedWith number detail completed position s = record { answer = record { number = number; completed = completed; position = position; detail = detail }; state = s }
+
+-- with a number that tells nothing
 abbrev pub stopped : ℕ → ℕ → ℕ → State → Outcome
-stopped number completed position s = record { answer = record { number = number; completed = completed; position = position }; state = s }
+stopped number completed position s = refusedWith number detail.None completed position s
 
 -- a step's number decides: 0, and the rest of the run follows the effect; else the run stops with the state as it was
 abbrev pub settled : (ℕ → ℕ → State → Outcome) → ℕ → ℕ → Stepped → State → ℕ → Outcome
 settled rest completed at t s zero = rest (suc completed) (t .next) (after (t .effect) s)
-settled rest completed at t s (suc n) = stopped (suc n) completed at s
+settled rest completed at t s (suc n) = refusedWith (suc n) (t .effect .detail) completed at s
 
 -- Of any steps, through a kernel of this length. The fuel bounds the recursion; it is never the reason to stop (`proofs/Fuel.antt`).
 unfoldable pub runFrom : (ℕ → State → Stepped) → ℕ → ℕ → ℕ → ℕ → State → Outcome

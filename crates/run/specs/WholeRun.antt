@@ -4,17 +4,20 @@ use mathlib.Core.Path.{_≡_}
 use mathlib.Core.Bool.{true, false}
 use Prim.Native.Nat.{ℕ, suc, _<_}
 use lib.ListN.{length}
+use Rattle.details.specs.declared.Detail.{Detail}
+use Rattle.details.specs.declared.Detail.the-variants as detail
 use Rattle.tables.specs.Tables.{tablesGood}
 use Rattle.step.specs.State.{Setup, State, lengthsOf}
 use Rattle.step.specs.FirstFailing.{firstFailing}
+use Rattle.step.specs.Tells.{Tells}
 use Rattle.step.specs.Completes.{Completes}
 use Rattle.run.specs.Run.{Outcome, stopped}
 
 module _ (x : Setup) where
-  -- where a run stops, and by which number: at the kernel's end, or at an instruction that fails a test
-  pub data Stops (at : ℕ) (s : State) : ℕ → Type 0 where
-    atEnd : at ≡ length (x .kernel) → Stops at s 0
-    refusedBy : {n : ℕ} → at < length (x .kernel) → firstFailing x at s ≡ suc n → Stops at s (suc n)
+  -- where a run stops, by which number, and what that tells: at the kernel's end, or at an instruction that fails a test
+  pub data Stops (at : ℕ) (s : State) : ℕ → Detail → Type 0 where
+    atEnd : at ≡ length (x .kernel) → Stops at s 0 detail.None
+    refusedBy : {n : ℕ} {d : Detail} → at < length (x .kernel) → firstFailing x at s ≡ suc n → Tells x at s (suc n) d → Stops at s (suc n) d
 
   -- so many instructions one after the other, from a position and a state: the k-th meets what the ones before it left, and the last left
   -- what the run gives back
@@ -26,7 +29,7 @@ module _ (x : Setup) where
     pub each : (k : ℕ) → k < count → Completes x (positions k) (states k) (positions (suc k)) (states (suc k))
     pub last-position : positions count ≡ r .answer .position
     pub last-state : states count ≡ r .state
-    pub stops : Stops (r .answer .position) (r .state) (r .answer .number)
+    pub stops : Stops (r .answer .position) (r .state) (r .answer .number) (r .answer .detail)
 
   -- "13 comes first"; else the completed instructions, from the kernel's start and what was lent
   pub data WholeRun (s : State) : Outcome → Type 0 where

@@ -1,4 +1,5 @@
 // The run: instruction by instruction through the kernel, over the caller's buffers.
+use details::Detail;
 use step::Constants;
 use tables::Lengths;
 use tables::TaintLengths;
@@ -11,11 +12,13 @@ ghost use Rattle.run.specs.Run.{outcome, runThrough, run};
 ghost use Rattle.run.specs.PlainRun.{plainRun, plainOutcome, withoutMarks};
 ghost use Rattle.run.specs.mirror.TooLong.{tooLong};
 
-// What a run gives back: the number, how many instructions were completed, and the byte position of the refused one or of the end.
+// What a run gives back: the number, how many instructions were completed, the byte position of the refused one or of the end, and what the
+// number tells.
 pub struct Answer {
     pub number: u8,
     pub completed: usize,
     pub position: usize,
+    pub detail: Detail,
 }
 
 // The instructions in kernel order, up to the end or the first refusal; earlier instructions stand.
@@ -59,10 +62,12 @@ fn run_kernel(
             memory_taint,
         );
         if 0 < progress.number {
+            let detail = progress.detail;
             return Answer {
                 number: progress.number,
                 completed,
                 position: at,
+                detail,
             };
         }
         completed += 1;
@@ -72,6 +77,7 @@ fn run_kernel(
         number: 0,
         completed,
         position: at,
+        detail: Detail::None,
     }
 }
 
@@ -130,6 +136,7 @@ pub fn run(
             number: 13,
             completed: 0,
             position: 0,
+            detail: Detail::None,
         }
     }
 }
@@ -165,6 +172,7 @@ pub fn plain_run(
             number: 13,
             completed: 0,
             position: 0,
+            detail: Detail::None,
         };
     }
     let mut register_taint = [0u8; 4096];
