@@ -64,7 +64,7 @@ module _ (t : Tables) (bits : ℕ) where
   checked-names (instruction.RawSend i) = operands-name 1 (operandsOf t (instruction.RawSend i)) _ (plain-names 1 9 [] refl)
 
 -- 8, 5 or no refusal
-control-unnamed : (t : Predicates) (c : Control) → namesOperand (controlRefusal t c) ≡ false
+pub control-unnamed : (t : Predicates) (c : Control) → namesOperand (controlRefusal t c) ≡ false
 unfolding controlRefusal namesOperand
 control-unnamed t c =
     let P : ℕ → Type 0 = λ n. (leb 20 n && leb n 25) ≡ false in

@@ -36,7 +36,7 @@ module _ (x : Setup) (s : State) where
   acts-as : (i : Instruction) (o : Operation) → planned i .operation ≡ o → Own i (acted (x .constants) o (planned i) s) → Own i (acted (x .constants) (planned i .operation) (planned i) s)
   acts-as i o is = subst (λ (q : Operation). Own i (acted (x .constants) q (planned i) s)) (sym is)
 
-  own-tells : (i : Instruction) → planned i .number ≡ 0 → Own i (acted (x .constants) (planned i .operation) (planned i) s)
+  pub own-tells : (i : Instruction) → planned i .number ≡ 0 → Own i (acted (x .constants) (planned i .operation) (planned i) s)
   unfolding acted shlEffect gatherEffect
   own-tells (instruction.Shl i) z = acts-as (instruction.Shl i) _ (plan-keeps (x .tables) (instruction.Shl i) z .operation) done
   own-tells (instruction.Gather i) z = acts-as (instruction.Gather i) _ (plan-keeps (x .tables) (instruction.Gather i) z .operation) done

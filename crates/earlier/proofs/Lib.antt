@@ -1,0 +1,2 @@
+pub mod OneRegionRule
+pub mod OneRegionRun

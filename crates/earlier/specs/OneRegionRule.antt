@@ -1,0 +1,88 @@
+-- The number of the first failing test before data, by document 01 alone: its one rule of regions gives 6. Document 01, "The numbers given back":
+-- "A run then tests 8; predicate 5; surface 5; each operand in order 5, 4 (type), 6, 7; 9".
+use Prim.Native.Nat.{ℕ, zero, suc}
+use mathlib.Core.Bool.{cond, not}
+use mathlib.Core.List.{List, [], _∷_}
+use lib.Dec.{ltb}
+use lib.ListN.{length}
+use Rattle.details.specs.declared.Detail.{Detail}
+use Rattle.details.specs.declared.Detail.the-variants as detail
+use Rattle.element_types.specs.Types.{sizeOf}
+use Rattle.channels.specs.Exec.{execSize}
+use Rattle.field_groups.specs.declared.General.{General}
+use Rattle.field_groups.specs.declared.Operand.{Operand}
+use Rattle.field_groups.specs.declared.Operand.the-variants as operand
+use Rattle.tables.specs.Tables.{Tables}
+use Rattle.tables.specs.Variables.{Variables}
+use Rattle.decoder.specs.declared.Instruction.{Instruction}
+use Rattle.decoder.specs.declared.Instruction.the-variants as instruction
+use Rattle.regions.specs.declared.Role.{Role}
+use Rattle.regions.specs.declared.Role.the-variants as role
+use Rattle.regions.specs.declared.Variable.{Variable}
+use Rattle.regions.specs.Regions.{regionAllowed, elementOf}
+use Rattle.regions.specs.Reach.{elementsGood}
+use Rattle.operands.specs.declared.TypeRule.{TypeRule}
+use Rattle.operands.specs.declared.TypeRule.the-variants as rule
+use Rattle.operands.specs.Allowed.{typeAllowed}
+use Rattle.operands.specs.Variables.{inTable, variableAt}
+use Rattle.operands.specs.Operands.{locatedImmediate}
+use Rattle.plan.specs.Control.{controlOf, controlRefusal}
+use Rattle.plan.specs.Checked.{gatherElementOffset, gatherDst, scatterElementOffset, scatterSrc, sendSrc, sendDst}
+
+-- "4 (type), 6, 7": 6 where document 01's rule of the region's parameters (`regionAllowed`) does not hold
+unfoldable pub generalNumber : Role → TypeRule → ℕ → General → Variable → ℕ
+generalNumber role rule lanes g v =
+    cond (not (typeAllowed rule (v .code))) 4
+    (cond (not (regionAllowed role (g .region) lanes)) 6
+    (cond (not (elementsGood v (elementOf role g (sizeOf (v .code))) lanes)) 7 0))
+
+-- a vector operand or a scalar
+unfoldable pub vectorNumber : Variables → Role → TypeRule → ℕ → Operand → ℕ
+vectorNumber t role rule exec (operand.General g) =
+    cond (not (inTable t (g .index))) 5 (generalNumber role rule (execSize exec) g (variableAt t (g .index)))
+vectorNumber t role rule exec (operand.Immediate i) = locatedImmediate role rule i .number
+
+-- the first of these numbers that is not 0, else the last one
+abbrev pub firstNumber : List ℕ → ℕ → ℕ
+firstNumber [] last = last
+firstNumber (zero ∷ ns) last = firstNumber ns last
+firstNumber (suc n ∷ ns) last = suc n
+
+-- "each operand in order"; raw operands have no region
+unfoldable pub operandNumbers : Variables → Instruction → List ℕ
+operandNumbers t (instruction.Shl i) =
+    vectorNumber t role.Destination rule.Shift (i .control .exec) (i .destination)
+    ∷ vectorNumber t role.Source rule.Shift (i .control .exec) (i .source)
+    ∷ vectorNumber t role.Source rule.Shift (i .control .exec) (i .count)
+    ∷ []
+operandNumbers t (instruction.Gather i) =
+    vectorNumber t role.Scalar rule.Offset (i .control .exec) (i .offset) ∷ gatherElementOffset t i .number ∷ gatherDst t i .number ∷ []
+operandNumbers t (instruction.Scatter i) =
+    vectorNumber t role.Scalar rule.Address (i .control .exec) (i .address) ∷ scatterElementOffset t i .number ∷ scatterSrc t i .number ∷ []
+operandNumbers t (instruction.RawSend i) =
+    vectorNumber t role.Scalar rule.Offset (i .control .exec) (i .descriptor) ∷ sendSrc t i .number ∷ sendDst t i .number ∷ []
+
+-- "surface 5", of a gather
+unfoldable pub surfaceNumber : Tables → Instruction → ℕ
+surfaceNumber t (instruction.Gather i) = cond (not (ltb (i .access .surface) (length (t .surfaces .lengths)))) 5 0
+surfaceNumber t (instruction.Shl i) = 0
+surfaceNumber t (instruction.Scatter i) = 0
+surfaceNumber t (instruction.RawSend i) = 0
+
+-- "9", of a RAW_SEND
+unfoldable pub lastNumber : Instruction → ℕ
+lastNumber (instruction.RawSend i) = 9
+lastNumber (instruction.Shl i) = 0
+lastNumber (instruction.Gather i) = 0
+lastNumber (instruction.Scatter i) = 0
+
+unfoldable pub numberBefore : Tables → Instruction → ℕ
+numberBefore t i =
+    firstNumber (controlRefusal (t .predicates) (controlOf i) ∷ surfaceNumber t i ∷ operandNumbers (t .variables) i) (lastNumber i)
+
+-- "6 becomes 20 to 24 .. 25": the number of before is 6 where the refused operand is named, and else the same
+abbrev pub asBefore : ℕ → Detail → ℕ
+asBefore zero d = 0
+asBefore (suc n) detail.None = suc n
+asBefore (suc n) (detail.Operand place) = 6
+asBefore (suc n) (detail.Pair channel lane) = suc n
