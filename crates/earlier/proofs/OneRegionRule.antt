@@ -213,7 +213,7 @@ checked-six t i =
 named-six : (n : ℕ) (place : ℕ) → namesOperand n ≡ true → asBefore n (detail.Operand place) ≡ asSix n
 unfolding asSix namesOperand
 named-six zero place e = cc
-named-six (suc n) place e = rw e
+named-six (suc n) place e = sym (ap (λ (q : Bool). cond q 6 (suc n)) e)
 
 unnamed-stays : (n : ℕ) → namesOperand n ≡ false → asBefore n detail.None ≡ asSix n
 unnamed-stays zero e = sym (stays 0 e)
