@@ -51,7 +51,7 @@ fn answer_ended(
     )
 }
 
-// The answer to standard input, to the output buffer's start, and how many bytes it has; what does not fit is lost, of 32,813 bytes nothing.
+// The answer to standard input, to the output buffer's start, and how many bytes it has. What does not fit is lost; 32,813 bytes hold all of it.
 pub fn answer_input(form: Form, out: &mut [u8]) -> usize
     ensures { λ r. ⌜ PutsAnswer (caseFileText form) (now (out .entry)) (now (out .exit)) r ⌝ }
 {

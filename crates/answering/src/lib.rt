@@ -172,13 +172,16 @@ fn run_and_write(
             register_taint,
             memory_taint,
         ),
-        Form::Verdict => verdict_line::put_verdict(
-            out,
-            answer.number,
-            answer.completed,
-            answer.position,
-            Detail::None, // MERGE: answer.detail
-        ),
+        Form::Verdict => {
+            let detail = Detail::None; // MERGE: answer.detail
+            verdict_line::put_verdict(
+                out,
+                answer.number,
+                answer.completed,
+                answer.position,
+                detail,
+            )
+        }
     }
 }
 

@@ -4,3 +4,4 @@ pub mod Case
 pub mod Output
 pub mod Verdict
 pub mod Forms
+pub mod SameAnswer
