@@ -20,7 +20,7 @@ use Rattle.feeding.specs.mirror.Feeding.{finished}
 use Rattle.feeding.proofs.FeedingLaws.{blocksFed}
 use Rattle.step.specs.State.{Setup, State}
 use Rattle.output.specs.Output.{answerLine, outputBytes}
-use Rattle.run.specs.Run.{stopped, run}
+use Rattle.run.specs.Run.{run}
 use Rattle.run.proofs.Whole.{tables-refused}
 use Rattle.run.proofs.PlainRunLaws.{equal-taken}
 use Rattle.answering.specs.mirror.Setting as loader
@@ -89,16 +89,14 @@ module _ (z : Contents) (t : Tables) (frames : List (List ℕ)) (n : ℕ) where
   kept-output f few = ap₂ (λ (x : Setup) (s : State). outcomeText f (baseOf (firstOf (g 5))) (run x s)) setup-same (state-same few)
 
 -- a run that answers 13 is written as a case that is not run
-refused-alike : (f : Form) (base : ℕ) (s : State) → refusalText f 13 0 ≡ outcomeText f base (stopped 13 0 0 s)
-unfolding refusalText outcomeText outcomeOutput outputBytes answerVerdict
-refused-alike form.Lines base s = sym (append-nil (answerLine 13 0 0))
-refused-alike form.Verdict base s = refl
-
 broken-output : (f : Form) (frames : List (List ℕ)) (r : Reading) → r .case .bad ≡ 0 → r .case .full ≡ true → Broken (kindsOf frames) → caseOutput f r ≡ framesText f frames
-unfolding caseOutput framesText verdictOf
-broken-output f frames r b full k =
+unfolding caseOutput framesText verdictOf refusalText outcomeText outcomeOutput outputBytes answerVerdict
+broken-output form.Lines frames r b full k =
     let none : ltb 0 (r .case .bad) ≡ false = rw b refl in
-    rw (none, full, tables-refused (caseSetup frames) (caseState frames) (broken-bad frames k)) (refused-alike f _ _)
+    rw (none, full, tables-refused (caseSetup frames) (caseState frames) (broken-bad frames k)) (sym (append-nil (answerLine 13 0 0)))
+broken-output form.Verdict frames r b full k =
+    let none : ltb 0 (r .case .bad) ≡ false = rw b refl in
+    rw (none, full, tables-refused (caseSetup frames) (caseState frames) (broken-bad frames k)) refl
 
 bad-output : (f : Form) (r : Reading) (n : ℕ) → r .case .bad ≡ positionOf (suc n) → caseOutput f r ≡ refusalText f 14 (positionOf (suc n))
 unfolding caseOutput verdictOf
