@@ -11,7 +11,8 @@ use Rattle.case_file.specs.BadLine.{firstBad}
 use Rattle.case_file.specs.Case.{caseSetup, caseState}
 use Rattle.case_file.specs.Output.{positionOf}
 
--- 14 and the number of the first bad line; if there is none, the answer of the case's run, which answers 13 itself where sizes are broken
+-- Document 01: "14, at the first such line and before any 13: .. completed 0, line number from 1 as position"; otherwise the answer of the case's
+-- run, which where sizes are broken is itself 13, "0 and 0"
 unfoldable pub judged : ℕ → List (List ℕ) → List ℕ
 judged zero frames = answerVerdict (run (caseSetup frames) (caseState frames) .answer)
 judged (suc n) frames = verdictLine 14 0 (positionOf (suc n)) detail.None
