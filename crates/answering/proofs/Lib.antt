@@ -1,4 +1,6 @@
 pub mod CutLaws
-pub mod WrittenLaws
 pub mod SizeLaws
+pub mod SamePage
+pub mod WrittenLaws
+pub mod PutsLaws
 pub mod BenchLaws

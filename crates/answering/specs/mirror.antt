@@ -1,2 +1,4 @@
 pub mod Setting
+pub mod Forms
+pub mod Puts
 pub mod Bench

@@ -1,4 +1,5 @@
-// Answers a case that was read: judges it, runs it, and writes the output's lines.
+// Answers a case that was read: judges it, runs it, and writes the output's lines or the verdict's.
+use details::Detail;
 use frames::Case;
 use run::Answer;
 use step::Constants;
@@ -13,8 +14,15 @@ ghost use Rattle.output.specs.Output.{bufferLines, outputBytes};
 ghost use Rattle.step.specs.Borrowed.{lent};
 ghost use Rattle.run.specs.Run.{outcome, run};
 ghost use Rattle.answering.specs.mirror.Setting.{taintOf, setupOf};
-ghost use Rattle.answering.specs.Outcome.{outcomeOutput};
+ghost use Rattle.answering.specs.mirror.Forms.{outcomeText, refusalText};
+ghost use Rattle.answering.specs.mirror.Puts.{Puts};
 ghost use Rattle.answering.specs.mirror.Bench.{goodOutput, caseOutput};
+
+// What is written of an answer: the 40 line and the buffers, or the verdict line.
+pub enum Form {
+    Lines,
+    Verdict,
+}
 
 // As many bytes as a frame of this kind has, and no more than a buffer of 4,096.
 fn content_length(kind: u8, case: Case) -> usize
@@ -93,7 +101,8 @@ fn run_case(
     )
 }
 
-fn write_outcome(
+// The 40 line and the buffers.
+fn write_lines(
     out: &mut [u8],
     answer: Answer,
     base: u64,
@@ -118,7 +127,7 @@ fn write_outcome(
     )
 }
 
-// The run, and the lines of its outcome, over buffers that are cut to what was read.
+// The run, and what is written of it, over buffers that are cut to what was read.
 fn run_and_write(
     case: Case,
     kernel: &[u8],
@@ -133,9 +142,10 @@ fn run_and_write(
     register_taint: &mut [u8],
     memory: &mut [u8],
     memory_taint: &mut [u8],
+    form: Form,
     out: &mut [u8],
 ) -> usize
-    ensures { λ r. let t = lentTables types starts counts «predicate_values» surfaces «surface_lengths» in let s = lent registers «register_taint» surfaces «surface_taint» memory «memory_taint» in ⌜ page (now (out .exit)) r ≡ written (outcomeOutput (case .settings .base) (run (setupOf case (now (kernel .entry)) (t .entry)) (s .entry))) (page (now (out .entry)) 0) ⌝ }
+    ensures { λ r. let t = lentTables types starts counts «predicate_values» surfaces «surface_lengths» in let s = lent registers «register_taint» surfaces «surface_taint» memory «memory_taint» in ⌜ Puts (outcomeText form (case .settings .base) (run (setupOf case (now (kernel .entry)) (t .entry)) (s .entry))) (now (out .entry)) (now (out .exit)) r ⌝ }
 {
     let answer = run_case(
         case,
@@ -152,15 +162,37 @@ fn run_and_write(
         memory,
         memory_taint,
     );
-    write_outcome(
-        out,
-        answer,
-        case.settings.base,
-        registers,
-        memory,
-        register_taint,
-        memory_taint,
-    )
+    match form {
+        Form::Lines => write_lines(
+            out,
+            answer,
+            case.settings.base,
+            registers,
+            memory,
+            register_taint,
+            memory_taint,
+        ),
+        Form::Verdict => {
+            let detail = answer.detail;
+            verdict_line::put_verdict(
+                out,
+                answer.number,
+                answer.completed,
+                answer.position,
+                detail,
+            )
+        }
+    }
+}
+
+// A case that is not run: 14 or 13, and a position.
+fn write_refusal(number: u8, position: u32, form: Form, out: &mut [u8]) -> usize
+    ensures { λ r. ⌜ Puts (refusalText form number position) (now (out .entry)) (now (out .exit)) r ⌝ }
+{
+    match form {
+        Form::Lines => output::put_answer(out, 0, number, 0, position),
+        Form::Verdict => verdict_line::put_verdict(out, number, 0, position as usize, Detail::None),
+    }
 }
 
 // A case without a bad line, whose contents fit.
@@ -178,9 +210,10 @@ fn answer_good(
     predicate_values: &[u32],
     surface_bytes: &[u8],
     surface_lengths: &[u16],
+    form: Form,
     out: &mut [u8],
 ) -> usize
-    ensures { λ r. let t = lentTables types starts counts «predicate_values» «surface_bytes» «surface_lengths» in ⌜ page (now (out .exit)) r ≡ written (goodOutput (reading case (contents registers memory (now (kernel .entry)) «register_taint» «surface_taint» «memory_taint») (t .entry))) (page (now (out .entry)) 0) ⌝ }
+    ensures { λ r. let t = lentTables types starts counts «predicate_values» «surface_bytes» «surface_lengths» in ⌜ Puts (goodOutput form (reading case (contents registers memory (now (kernel .entry)) «register_taint» «surface_taint» «memory_taint») (t .entry))) (now (out .entry)) (now (out .exit)) r ⌝ }
 {
     let file = content_length(1, case);
     let window = content_length(5, case);
@@ -203,6 +236,7 @@ fn answer_good(
         &mut of_registers[..file_taint],
         &mut memory[..window],
         &mut of_memory[..window_taint],
+        form,
         out,
     )
 }
@@ -222,13 +256,14 @@ pub fn answer(
     predicate_values: &[u32],
     surface_bytes: &[u8],
     surface_lengths: &[u16],
+    form: Form,
     out: &mut [u8],
 ) -> usize
-    ensures { λ r. let t = lentTables types starts counts «predicate_values» «surface_bytes» «surface_lengths» in ⌜ page (now (out .exit)) r ≡ written (caseOutput (reading case (contents registers memory (now (kernel .entry)) «register_taint» «surface_taint» «memory_taint») (t .entry))) (page (now (out .entry)) 0) ⌝ }
+    ensures { λ r. let t = lentTables types starts counts «predicate_values» «surface_bytes» «surface_lengths» in ⌜ Puts (caseOutput form (reading case (contents registers memory (now (kernel .entry)) «register_taint» «surface_taint» «memory_taint») (t .entry))) (now (out .entry)) (now (out .exit)) r ⌝ }
 {
     let verdict = frames::judge(case);
     if 0 < verdict.number {
-        return output::put_answer(out, 0, verdict.number, 0, verdict.position);
+        return write_refusal(verdict.number, verdict.position, form, out);
     }
     answer_good(
         case,
@@ -244,6 +279,7 @@ pub fn answer(
         predicate_values,
         surface_bytes,
         surface_lengths,
+        form,
         out,
     )
 }

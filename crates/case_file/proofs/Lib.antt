@@ -10,3 +10,4 @@ pub mod Counted
 pub mod Bad
 pub mod Lines
 pub mod Whole
+pub mod Same

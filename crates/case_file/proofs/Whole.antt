@@ -1,4 +1,4 @@
--- For every input the bench's output, through the loader's buffers, is that of the case file.
+-- For every input what is written through the loader's buffers, in either form, is that of the case file.
 use mathlib.Core.Path.{_≡_, refl, sym, ap, ap₂, _∙_}
 use mathlib.Core.Bool.{true, false, cond}
 use mathlib.Core.Logic.{inl, ⊎-elim}
@@ -20,19 +20,24 @@ use Rattle.feeding.specs.mirror.Feeding.{finished}
 use Rattle.feeding.proofs.FeedingLaws.{blocksFed}
 use Rattle.step.specs.State.{Setup, State}
 use Rattle.output.specs.Output.{answerLine, outputBytes}
-use Rattle.output.specs.mirror.Page.{page, written}
 use Rattle.run.specs.Run.{run}
 use Rattle.run.proofs.Whole.{tables-refused}
 use Rattle.run.proofs.PlainRunLaws.{equal-taken}
 use Rattle.answering.specs.mirror.Setting as loader
 use Rattle.answering.specs.mirror.Setting.{taintOf}
 use Rattle.answering.proofs.BenchLaws.{begun, blocks-answered}
-use Rattle.answering.specs.Outcome.{outcomeOutput}
+use Rattle.answering.specs.declared.Form.{Form}
+use Rattle.answering.specs.declared.Form.the-variants as form
+use Rattle.answering.specs.Outcome.{outcomeOutput, answerVerdict}
+use Rattle.answering.specs.mirror.Forms.{outcomeText, refusalText}
+use Rattle.answering.specs.mirror.Puts.{Puts}
 use Rattle.answering.specs.mirror.Bench.{goodOutput, caseOutput, unread, benchOutput}
 use Rattle.case_file.specs.Frames.{ofKind, firstOf}
 use Rattle.case_file.specs.BadLine.{firstBad}
 use Rattle.case_file.specs.Case.{typeOf, startOf, countOf, dwordOf, baseOf, memoryOf, marksOf, caseSetup, caseState}
 use Rattle.case_file.specs.Output.{framesOutput, positionOf, answered, caseFileOutput}
+use Rattle.case_file.specs.Verdict.{judged, caseFileVerdict}
+use Rattle.case_file.specs.Forms.{caseFileText}
 use Rattle.case_file.proofs.Padded.{padded, padded-none, take-padded, take-table}
 use Rattle.case_file.proofs.ByKind.{Kinds, kindsOf}
 use Rattle.case_file.proofs.Plain as plain
@@ -47,6 +52,14 @@ marks-taken : (size : ℕ) (cs : List (List ℕ)) (z bytes : List ℕ) → lengt
 unfolding firstOf marksOf
 marks-taken size [] z bytes h = equal-taken 0 (length bytes) size h
 marks-taken size (c ∷ cs) z bytes h = rw (lt-ltb 0 (suc (length cs)) (omega arith)) (take-padded z c)
+
+-- what is written in a form for frames, and for a line number: 0 if no line is bad
+unfoldable framesText : Form → List (List ℕ) → List ℕ
+framesText f frames = outcomeText f (caseSetup frames .constants .base) (run (caseSetup frames) (caseState frames))
+
+unfoldable judgedText : Form → ℕ → List (List ℕ) → List ℕ
+judgedText f zero frames = framesText f frames
+judgedText f (suc n) frames = refusalText f 14 (positionOf (suc n))
 
 -- what the loader holds, cut to what was read, is the case
 module _ (z : Contents) (t : Tables) (frames : List (List ℕ)) (n : ℕ) where
@@ -71,24 +84,28 @@ module _ (z : Contents) (t : Tables) (frames : List (List ℕ)) (n : ℕ) where
         marks-taken 4096 (g 10) (z .memoryTaint) (memoryOf (firstOf (g 5))) (f .memory-small),
       ) refl
 
-  kept-output : Few g → caseOutput (readingAt z t g n) ≡ framesOutput frames
-  unfolding caseOutput goodOutput framesOutput verdictOf caseSetup
-  kept-output f = ap₂ (λ (x : Setup) (s : State). outcomeOutput (baseOf (firstOf (g 5))) (run x s)) setup-same (state-same f)
+  kept-output : (f : Form) → Few g → caseOutput f (readingAt z t g n) ≡ framesText f frames
+  unfolding caseOutput goodOutput framesText verdictOf caseSetup
+  kept-output f few = ap₂ (λ (x : Setup) (s : State). outcomeText f (baseOf (firstOf (g 5))) (run x s)) setup-same (state-same few)
 
-broken-output : (frames : List (List ℕ)) (r : Reading) → r .case .bad ≡ 0 → r .case .full ≡ true → Broken (kindsOf frames) → caseOutput r ≡ framesOutput frames
-unfolding caseOutput framesOutput verdictOf outcomeOutput outputBytes
-broken-output frames r b f k =
+-- a run that answers 13 is written as a case that is not run
+broken-output : (f : Form) (frames : List (List ℕ)) (r : Reading) → r .case .bad ≡ 0 → r .case .full ≡ true → Broken (kindsOf frames) → caseOutput f r ≡ framesText f frames
+unfolding caseOutput framesText verdictOf refusalText outcomeText outcomeOutput outputBytes answerVerdict
+broken-output form.Lines frames r b full k =
     let none : ltb 0 (r .case .bad) ≡ false = rw b refl in
-    rw (none, f, tables-refused (caseSetup frames) (caseState frames) (broken-bad frames k)) (sym (append-nil (answerLine 13 0 0)))
+    rw (none, full, tables-refused (caseSetup frames) (caseState frames) (broken-bad frames k)) (sym (append-nil (answerLine 13 0 0)))
+broken-output form.Verdict frames r b full k =
+    let none : ltb 0 (r .case .bad) ≡ false = rw b refl in
+    rw (none, full, tables-refused (caseSetup frames) (caseState frames) (broken-bad frames k)) refl
 
-bad-output : (r : Reading) (n : ℕ) → r .case .bad ≡ positionOf (suc n) → caseOutput r ≡ answerLine 14 0 (positionOf (suc n))
+bad-output : (f : Form) (r : Reading) (n : ℕ) → r .case .bad ≡ positionOf (suc n) → caseOutput f r ≡ refusalText f 14 (positionOf (suc n))
 unfolding caseOutput verdictOf
-bad-output r n e = let some : ltb 0 (r .case .bad) ≡ true = ap (ltb 0) e ∙ lt-ltb 0 (positionOf (suc n)) (position-positive n) in rw some (ap (answerLine 14 0) e)
+bad-output f r n e = let some : ltb 0 (r .case .bad) ≡ true = ap (ltb 0) e ∙ lt-ltb 0 (positionOf (suc n)) (position-positive n) in rw some (ap (refusalText f 14) e)
 
-module _ (z : Contents) (t : Tables) (s : Sizes z t) where
-  held-output : (frames : List (List ℕ)) (r : Reading) → r .case .bad ≡ 0 → Held z t (kindsOf frames) r → caseOutput r ≡ framesOutput frames
+module _ (f : Form) (z : Contents) (t : Tables) (s : Sizes z t) where
+  held-output : (frames : List (List ℕ)) (r : Reading) → r .case .bad ≡ 0 → Held z t (kindsOf frames) r → caseOutput f r ≡ framesText f frames
   held-output frames r b held =
-      ⊎-elim (λ k. ap caseOutput (k .same) ∙ kept-output z t frames (k .lines) (k .few)) (λ w. broken-output frames r b (w .0) (w .1)) held
+      ⊎-elim (λ k. ap (caseOutput f) (k .same) ∙ kept-output z t frames (k .lines) f (k .few)) (λ w. broken-output f frames r b (w .0) (w .1)) held
 
   abbrev start : Reading
   start = reading nothing z t
@@ -105,16 +122,16 @@ module _ (z : Contents) (t : Tables) (s : Sizes z t) where
         held = inl (record { lines = 0; same = sym (rw (padded-none (z .registers), padded-none (z .memory), padded-none (z .kernel), padded-none (z .registerTaint), padded-none (z .surfaceTaint), padded-none (z .memoryTaint), padded-none (t .types), padded-none (t .starts), padded-none (t .counts), padded-none (t .predicates), padded-none (t .surfaces), padded-none (t .lengths)) refl); few = record { registers-small = omega arith; memory-small = omega arith; variables-few = omega arith; predicates-few = omega arith; surfaces-few = omega arith; bytes-small = omega arith } });
       }
 
-  lines-output : (lines : List (List ℕ)) → caseOutput (linesRead 16386 lines start) ≡ answered (firstBad [] lines) (map hexBytes lines)
-  unfolding answered positionOf
+  lines-output : (lines : List (List ℕ)) → caseOutput f (linesRead 16386 lines start) ≡ judgedText f (firstBad [] lines) (map hexBytes lines)
+  unfolding judgedText positionOf
   lines-output lines = told (firstBad [] lines) refl
     where
       w : Told z t s [] lines start
       w = lines-told z t s lines [] start at-start
 
-      told : (n : ℕ) → firstBad [] lines ≡ n → caseOutput (linesRead 16386 lines start) ≡ answered n (map hexBytes lines)
+      told : (n : ℕ) → firstBad [] lines ≡ n → caseOutput f (linesRead 16386 lines start) ≡ judgedText f n (map hexBytes lines)
       told zero e = held-output (map hexBytes lines) (linesRead 16386 lines start) (w .bad ∙ ap positionOf e) (w .held e)
-      told (suc n) e = bad-output (linesRead 16386 lines start) n (w .bad ∙ ap positionOf e)
+      told (suc n) e = bad-output f (linesRead 16386 lines start) n (w .bad ∙ ap positionOf e)
 
 content-sizes : (k : ℕ) (p : Plain k) → length (bufferOf k p (unread .contents)) ≡ sizeOf k p
 content-sizes k plain.registers = length-replicate {A = ℕ} 4096 0
@@ -136,12 +153,26 @@ sizes =
       lengths = length-replicate {A = ℕ} 8 0;
     }
 
+-- each form by itself, as the case file tells it
+each-form : (f : Form) (input : List ℕ) → judgedText f (firstBad [] (linesOf input)) (map hexBytes (linesOf input)) ≡ caseFileText f input
+unfolding caseFileOutput caseFileVerdict judgedText framesText outcomeText refusalText framesOutput answered judged
+each-form form.Lines input = told (firstBad [] (linesOf input)) (map hexBytes (linesOf input))
+  where
+    told : (n : ℕ) (frames : List (List ℕ)) → judgedText form.Lines n frames ≡ answered n frames
+    told zero frames = refl
+    told (suc n) frames = refl
+each-form form.Verdict input = told (firstBad [] (linesOf input)) (map hexBytes (linesOf input))
+  where
+    told : (n : ℕ) (frames : List (List ℕ)) → judgedText form.Verdict n frames ≡ judged n frames
+    told zero frames = refl
+    told (suc n) frames = refl
+
 -- what has no room in the loader's buffers breaks a size, so the run of the case answers 13 itself
-pub case-file-output : (input : List ℕ) → benchOutput input ≡ caseFileOutput input
-unfolding caseFileOutput benchOutput textRead
-case-file-output input = lines-output (unread .contents) (unread .tables) sizes (linesOf input)
+pub case-file-output : (f : Form) (input : List ℕ) → benchOutput f input ≡ caseFileText f input
+unfolding benchOutput textRead
+case-file-output f input = lines-output f (unread .contents) (unread .tables) sizes (linesOf input) ∙ each-form f input
 
 -- however the input is cut into blocks
-pub case-file-answered : (blocks : List (List ℕ)) (line out after : List ℕ) (used : ℕ) → length line ≡ 16386 → 32813 ≤ length out →
-    page after used ≡ written (caseOutput (finished (blocksFed blocks (begun line)) .reading)) (page out 0) → take used after ≡ caseFileOutput (flatten blocks)
-case-file-answered blocks line out after used h k e = blocks-answered blocks line out after used h k e ∙ case-file-output (flatten blocks)
+pub case-file-answered : (f : Form) (blocks : List (List ℕ)) (line out after : List ℕ) (used : ℕ) → length line ≡ 16386 → 32813 ≤ length out →
+    Puts (caseOutput f (finished (blocksFed blocks (begun line)) .reading)) out after used → take used after ≡ caseFileText f (flatten blocks)
+case-file-answered f blocks line out after used h k e = blocks-answered f blocks line out after used h k e ∙ case-file-output f (flatten blocks)

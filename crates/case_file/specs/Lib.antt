@@ -2,3 +2,6 @@ pub mod Frames
 pub mod BadLine
 pub mod Case
 pub mod Output
+pub mod Verdict
+pub mod Forms
+pub mod SameAnswer

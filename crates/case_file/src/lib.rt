@@ -1,1 +1,2 @@
-// The bench as document 01 tells it, over lists alone: definitions, and the proof that the bench is so; no code.
+// What is written of a case file, the bench's lines and the verdict's, over lists alone: definitions, and the proof that the code writes just that; no
+// code.

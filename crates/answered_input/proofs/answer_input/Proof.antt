@@ -1,11 +1,11 @@
--- `bench::answer_input` meets its contract.
+-- `answered_input::answer_input` meets its contract.
 use mathlib.Core.Path.{refl, sym}
 use Prim.Native.Nat.{ℕ}
 use borrow.Author.Needs.{needs}
 use lib.ListN.{length-replicate}
-use Rattle.bench.proofs.AnswersLaws.{input-answered}
-use Rattle.bench.proofs.answer_input.Statement.{statement}
-use Rattle.bench.proofs.answer_input.Tie as tie
+use Rattle.answered_input.proofs.AnswersLaws.{input-answered}
+use Rattle.answered_input.proofs.answer_input.Statement.{statement}
+use Rattle.answered_input.proofs.answer_input.Tie as tie
 
 -- where the input is finished, from where it is answered
 abbrev ends : tie.After-answer-ended → tie.After-finish
@@ -19,16 +19,12 @@ came c = search c
 abbrev reads : tie.After-types2 → tie.After-read-all
 reads c = search c
 
--- the function's start, from there
-abbrev start : tie.After-read-all → tie.Start
-start c = search c
-
 returns : tie.Need-returns
 returns c =
     let answered : tie.After-answer-ended = search c in
     let finished = ends answered in
     let read = reads (came finished) in
-    input-answered _ _ _ _ _ _ _ _ (length-replicate {A = ℕ} 16386 0) (start read .pre) (read .read-all .ensures) (finished .finish .ensures) (answered .answer-ended .ensures) refl
+    input-answered _ _ _ _ _ _ _ _ _ (length-replicate {A = ℕ} 16386 0) (read .read-all .ensures) (finished .finish .ensures) (answered .answer-ended .ensures) refl
 
 -- each buffer has the length of its array: as it was made, as it came back from `read_all`, and as it came back from `finish`
 pub answer-input-spec : {M : Type 1} → statement M

@@ -3,7 +3,8 @@ use mathlib.Core.Bool.{Bool, cond}
 use mathlib.Core.List.{List, []}
 use Prim.Native.Nat.{ℕ}
 use Rattle.frames.specs.mirror.Reading.{Reading}
+use Rattle.answering.specs.declared.Form.{Form}
 use Rattle.answering.specs.mirror.Bench.{caseOutput}
 
-unfoldable pub endedOutput : Bool → Reading → List ℕ
-endedOutput ended r = cond ended (caseOutput r) []
+unfoldable pub endedOutput : Bool → Form → Reading → List ℕ
+endedOutput ended f r = cond ended (caseOutput f r) []
