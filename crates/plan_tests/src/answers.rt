@@ -4,6 +4,7 @@ use crate::output;
 use channels::Lanes;
 use decoder::Decoded;
 use decoder::Instruction;
+use details::Detail;
 use operands::Elements;
 use plan::Plan;
 use tables::Lengths;
@@ -128,8 +129,26 @@ fn accepted(plan: Plan) {
     );
 }
 
+// The operand's place; a pair, which nothing tells before data are read, would be seen too.
+fn told(detail: Detail) {
+    match detail {
+        Detail::None => {}
+        Detail::Operand(place) => {
+            output::text(b" operand");
+            output::number(place as u64);
+        }
+        Detail::Pair(channel, lane) => {
+            output::text(b" pair");
+            output::number(channel as u64);
+            output::number(lane as u64);
+        }
+    }
+}
+
 fn planned(plan: Plan) {
     output::number(plan.number as u64);
+    let detail = plan.detail;
+    told(detail);
     if plan.number == 0 {
         accepted(plan);
     }
