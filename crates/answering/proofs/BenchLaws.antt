@@ -4,7 +4,6 @@ use mathlib.Core.Path.{_≡_, ap, _∙_}
 use mathlib.Core.List.{List, flatten}
 use Prim.Native.Nat.{ℕ, _≤_}
 use lib.ListN.{length, take}
-use Rattle.frames.specs.mirror.Reading.{Reading}
 use Rattle.feeding.specs.mirror.Feeding.{Machine, machine, fresh, fed, finished}
 use Rattle.feeding.specs.mirror.Text.{textRead}
 use Rattle.feeding.proofs.FeedingLaws.{blocksFed, blocks-fed}

@@ -1,5 +1,5 @@
 -- A run's outcome, and a case that is not run, written in either form.
-use mathlib.Core.Path.{_≡_, refl, sym, ap, _∙_}
+use mathlib.Core.Path.{_≡_, sym, ap, _∙_}
 use mathlib.Core.List.{List}
 use Prim.Native.Nat.{ℕ, _<_, _≤_}
 use native.Mathlib.Omega.{arith}
@@ -13,7 +13,7 @@ use Rattle.details.specs.declared.Detail.the-variants as detail
 use Rattle.formats.specs.Writing as formats
 use Rattle.formats.specs.Writing.{wrote}
 use Rattle.verdict_line.specs.VerdictLine.{verdictLine}
-use Rattle.output.specs.mirror.Page.{Page, page, written}
+use Rattle.output.specs.mirror.Page.{page, written}
 use Rattle.output.specs.Output.{answerLine, bufferLines, outputBytes}
 use Rattle.output.proofs.LengthLaws.{length-answer}
 use Rattle.step.specs.State.{Setup, State, state}

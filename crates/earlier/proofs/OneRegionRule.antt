@@ -1,18 +1,17 @@
 -- 20 to 25 turned back into 6 are document 01's numbers: of a region, of an operand, of all tests before data.
 use Prim.Native.Nat.{ℕ, zero, suc, _+_, _*_, _^_}
-use mathlib.Core.Path.{_≡_, refl, sym, ap, ap₂, _∙_}
+use mathlib.Core.Path.{_≡_, refl, sym, ap, _∙_}
 use mathlib.Core.Bool.{Bool, true, false, cond, not, _&&_}
 use mathlib.Core.List.{List, [], _∷_}
 use native.Mathlib.Omega.{arith}
-use lib.Dec.{ltb, leb, eqb}
+use lib.Dec.{ltb, leb}
 use lib.ListN.{length}
 use borrow.Author.Tests.{ltb-true, lt-ltb, ne-eqb}
 use Rattle.element_types.specs.Types.{sizeOf}
 use Rattle.details.specs.declared.Detail.{Detail}
 use Rattle.details.specs.declared.Detail.the-variants as detail
 use Rattle.details.specs.Details.{namesOperand, operandDetail}
-use Rattle.channels.specs.Exec.{execSize, execOffset}
-use Rattle.channels.specs.Predicate.{hasPredicate, predicateId}
+use Rattle.channels.specs.Exec.{execSize}
 use Rattle.field_groups.specs.declared.General.{General}
 use Rattle.field_groups.specs.declared.Immediate.{Immediate}
 use Rattle.field_groups.specs.declared.Raw.{Raw}
@@ -29,7 +28,6 @@ use Rattle.regions.specs.Regions.{regionAllowed, elementOf}
 use Rattle.regions.specs.RegionRules.{widthZeroOr32, strideOverFour, widthOverExecSize, destinationStrideZero, nullOutOfPlace, scalarRegionWrong, firstBroken, regionRefusal}
 use Rattle.regions.specs.Reach.{elementsGood}
 use Rattle.regions.specs.Positions.{elementByte}
-use Rattle.regions.proofs.ReachLaws.{cond-either}
 use Rattle.regions.proofs.SplitLaws.{split-refuses, unbroken-allowed}
 use Rattle.operands.specs.declared.TypeRule.{TypeRule}
 use Rattle.operands.specs.declared.Located.{Located}

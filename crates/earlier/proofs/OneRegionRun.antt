@@ -27,7 +27,7 @@ use Rattle.step.proofs.AcceptedLaws.{plan-refuses, plan-passes}
 use Rattle.run.specs.Run.{Outcome, refusedWith, stopped, settled, runFrom, runThrough, run}
 use Rattle.run.proofs.Whole.{run-is}
 use Rattle.earlier.specs.OneRegionRule.{numberBefore, asBefore}
-use Rattle.earlier.specs.OneRegionRun.{untold, effectBefore, stepBefore, runBefore, outcomeBefore}
+use Rattle.earlier.specs.OneRegionRun.{effectBefore, stepBefore, runBefore, outcomeBefore}
 use Rattle.earlier.proofs.OneRegionRule.{checked-before}
 
 -- a step in the numbers of before: the same next position and, where it is not refused, the same state

@@ -22,7 +22,7 @@ use Rattle.plan.specs.declared.Plan.{Plan}
 use Rattle.plan.specs.Control.{controlOf, controlRefusal, predicateBits}
 use Rattle.plan.specs.Plans.{refusedPlan, tested, testedFrom, shlPlan, gatherPlan, scatterPlan}
 use Rattle.plan.specs.Checked.{checkedShl, checkedGatherOperands, checkedGather, checkedScatter, checkedSend, checkedOperands, checked}
-use Rattle.plan.specs.Places.{operandsOf, RefusedAt, here, later, Names, nothing, operand}
+use Rattle.plan.specs.Places.{operandsOf, here, later, Names, nothing, operand}
 
 -- the refusal of the operand at a place
 refusal-names : (place : ℕ) (l : Located) (ls : List Located) → Names place (l ∷ ls) (refusedPlan (l .number) (operandDetail (l .number) place))

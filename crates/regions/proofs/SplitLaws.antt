@@ -1,6 +1,6 @@
 -- Document 02, request 2: "Nothing that was accepted is refused now." The rules 20 to 25 together refuse exactly the region words that document 01's
 -- rule refused by 6.
-use mathlib.Core.Path.{_≡_, refl, sym, ap, ap₂, _∙_}
+use mathlib.Core.Path.{_≡_, refl, sym, _∙_}
 use mathlib.Core.Bool.{Bool, true, false, cond, not, and-false, _&&_, _||_}
 use Prim.Native.Nat.{ℕ, _<_}
 use native.Mathlib.Omega.{arith}

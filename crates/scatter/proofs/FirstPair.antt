@@ -1,6 +1,5 @@
 -- A scatter's search tells the first offending pair of all enabled pairs.
 use Prim.Native.Nat.{ℕ, _<_}
-use mathlib.Core.Path.{_≡_, sym, _∙_}
 use mathlib.Core.Logic.{⊎-elim}
 use mathlib.Core.Bool.{Bool, true, false}
 use mathlib.Core.List.{List, []}
@@ -22,7 +21,6 @@ use Rattle.staging.specs.Results.{Enabled}
 use Rattle.staging.specs.Sources.{eitherTainted}
 use Rattle.staging.proofs.LanesOnLaws.{lanes-on-are}
 use Rattle.scatter.specs.Scatter.{Window, channelsOn, target, misaligned, outside, scatterPair, firstOffending, scatterEffect}
-use Rattle.scatter.specs.Results.{EnabledPair, Later}
 use Rattle.scatter.specs.Offending.{IsFirst, Searched, found, clear, ScatterTells, done, doubtful, misalignedPair, outsidePair}
 
 module _ (mask : ℕ) (p : Plan) (offends : ℕ → ℕ → Bool) where

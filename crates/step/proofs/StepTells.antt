@@ -1,11 +1,10 @@
 -- A step tells what its number has to tell.
-use mathlib.Core.Path.{_≡_, refl, sym, ap, subst, _∙_}
+use mathlib.Core.Path.{_≡_, refl, sym, subst}
 use Prim.Native.Nat.{ℕ, zero, suc}
 use native.Mathlib.Omega.{arith}
-use Rattle.details.specs.declared.Detail.{Detail}
 use Rattle.cells.specs.Effect.{Effect}
 use Rattle.reader.specs.Reply as reply
-use Rattle.reader.specs.Reply.{Reply, Read, onReply}
+use Rattle.reader.specs.Reply.{Reply, Read}
 use Rattle.decoder.specs.declared.Instruction.{Instruction}
 use Rattle.decoder.specs.declared.Instruction.the-variants as instruction
 use Rattle.decoder.specs.Decoding.{instructionAt}

@@ -1,7 +1,6 @@
 -- `regions::region_refusal` meets its contract: the rules of the operand's role.
 use borrow.Author.Needs.{needs}
 use borrow.Author.Tests.{eq-eqb, ne-eqb}
-use mathlib.Core.Path.{sym}
 use Rattle.regions.specs.Regions.{scalarRegionGood}
 use Rattle.regions.specs.RegionRules.{widthZeroOr32, strideOverFour, widthOverExecSize, destinationStrideZero, nullOutOfPlace, scalarRegionWrong, firstBroken, regionRefusal}
 use Rattle.regions.proofs.region_refusal.Statement.{statement}
