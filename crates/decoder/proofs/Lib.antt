@@ -3,3 +3,4 @@ pub mod EncodeDecode
 pub mod Laws
 pub mod FormatLaws
 pub mod ScatterLaws
+pub mod RefusalNumbers
