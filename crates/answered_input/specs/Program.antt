@@ -1,5 +1,5 @@
--- What a program hands on to be written that answers a case file on standard input. No contract can say which bytes a read gives, so each
--- statement is of some calls that read.
+-- What a program that answers a case file on standard input hands on to be written. No contract can say which bytes a read gives, so each statement
+-- is of some calls that read.
 use mathlib.Core.Path.{_≡_}
 use mathlib.Core.Bool.{cond}
 use mathlib.Core.List.{List, []}

@@ -6,24 +6,24 @@ use mathlib.Core.List.{List, [], _∷_}
 use native.Mathlib.Omega.{arith}
 use Rattle.details.specs.declared.Detail.{Detail}
 use Rattle.details.specs.declared.Detail.the-variants as detail
-use Rattle.details.specs.Details.{tells}
+use Rattle.details.specs.Details.{isSome}
 use Rattle.cells.specs.Over.{amongFrom, among, some, firstLane, firstPair}
 use Rattle.cells.proofs.AmongLaws.{among-begun, among-on, among-off, among-over}
 use Rattle.cells.proofs.Related.{or-left, or-right}
 
 -- ---- whether there is one
 
-lane-some : (p : ℕ → Bool) (c : ℕ) (is : List ℕ) (later : Detail) → tells (firstLane p c is later) ≡ (some p is || tells later)
-unfolding firstLane some tells
+lane-some : (p : ℕ → Bool) (c : ℕ) (is : List ℕ) (later : Detail) → isSome (firstLane p c is later) ≡ (some p is || isSome later)
+unfolding firstLane some isSome
 lane-some p c [] later = refl
 lane-some p c (i ∷ is) later = told (p i) (lane-some p c is later)
   where
-    told : (q : Bool) → tells (firstLane p c is later) ≡ (some p is || tells later) → tells (cond q (detail.Pair c i) (firstLane p c is later)) ≡ (q || some p is || tells later)
+    told : (q : Bool) → isSome (firstLane p c is later) ≡ (some p is || isSome later) → isSome (cond q (detail.Pair c i) (firstLane p c is later)) ≡ (q || some p is || isSome later)
     told true e = refl
     told false e = e
 
-pub found-some : (p : ℕ → ℕ → Bool) (cs is : List ℕ) → tells (firstPair p cs is) ≡ some (λ c. some (p c) is) cs
-unfolding firstPair some tells
+pub found-some : (p : ℕ → ℕ → Bool) (cs is : List ℕ) → isSome (firstPair p cs is) ≡ some (λ c. some (p c) is) cs
+unfolding firstPair some isSome
 found-some p [] is = refl
 found-some p (c ∷ cs) is = lane-some (p c) c is (firstPair p cs is) ∙ ap (λ (q : Bool). some (p c) is || q) (found-some p cs is)
 

@@ -13,10 +13,11 @@ valuesOf detail.None = []
 valuesOf (detail.Operand place) = place ∷ []
 valuesOf (detail.Pair channel lane) = channel ∷ lane ∷ []
 
-unfoldable pub tells : Detail → Bool
-tells detail.None = false
-tells (detail.Operand place) = true
-tells (detail.Pair channel lane) = true
+-- whether anything is told
+unfoldable pub isSome : Detail → Bool
+isSome detail.None = false
+isSome (detail.Operand place) = true
+isSome (detail.Pair channel lane) = true
 
 -- "6 becomes 20 to 24", and "25 alone"; the other numbers of an operand's tests, 4, 5 and 7, tell nothing
 unfoldable pub namesOperand : ℕ → Bool

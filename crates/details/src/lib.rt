@@ -1,6 +1,6 @@
 // What an answer tells beside its number: the operand that a region's refusal is about, or a scatter's first offending pair.
 ghost use mathlib.Core.Path.{_≡_};
-ghost use Rattle.details.specs.Details.{tells, operandDetail};
+ghost use Rattle.details.specs.Details.{isSome, operandDetail};
 
 // An operand by its place in field order, from 1; a pair by channel and lane.
 pub enum Detail {
@@ -15,8 +15,9 @@ pub struct Status {
     pub detail: Detail,
 }
 
-pub fn tells(detail: Detail) -> bool
-    ensures { λ r. ⌜ r ≡ tells detail ⌝ }
+// Whether anything is told.
+pub fn is_some(detail: Detail) -> bool
+    ensures { λ r. ⌜ r ≡ isSome detail ⌝ }
 {
     match detail {
         Detail::None => false,

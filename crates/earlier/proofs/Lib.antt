@@ -1,2 +1,3 @@
 pub mod OneRegionRule
+pub mod NoSix
 pub mod OneRegionRun

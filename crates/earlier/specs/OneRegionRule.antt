@@ -1,12 +1,11 @@
--- The number of the first failing test before data, by document 01 alone: its one rule of regions gives 6. Document 01, "The numbers given back":
+-- The number of the first failing test before data, with document 01's one rule of regions, 6, in the place of 20 to 25. Document 01, "The numbers given back":
 -- "A run then tests 8; predicate 5; surface 5; each operand in order 5, 4 (type), 6, 7; 9".
 use Prim.Native.Nat.{ℕ, zero, suc}
-use mathlib.Core.Bool.{cond, not}
+use mathlib.Core.Bool.{Bool, cond, not, _&&_, _||_}
 use mathlib.Core.List.{List, [], _∷_}
-use lib.Dec.{ltb}
+use lib.Dec.{ltb, leb}
 use lib.ListN.{length}
-use Rattle.details.specs.declared.Detail.{Detail}
-use Rattle.details.specs.declared.Detail.the-variants as detail
+use Rattle.details.specs.Details.{namesOperand}
 use Rattle.element_types.specs.Types.{sizeOf}
 use Rattle.channels.specs.Exec.{execSize}
 use Rattle.field_groups.specs.declared.General.{General}
@@ -43,10 +42,10 @@ vectorNumber t role rule exec (operand.General g) =
 vectorNumber t role rule exec (operand.Immediate i) = locatedImmediate role rule i .number
 
 -- the first of these numbers that is not 0, else the last one
-abbrev pub firstNumber : List ℕ → ℕ → ℕ
-firstNumber [] last = last
-firstNumber (zero ∷ ns) last = firstNumber ns last
-firstNumber (suc n ∷ ns) last = suc n
+abbrev pub firstRefusal : List ℕ → ℕ → ℕ
+firstRefusal [] last = last
+firstRefusal (zero ∷ ns) last = firstRefusal ns last
+firstRefusal (suc n ∷ ns) last = suc n
 
 -- "each operand in order"; raw operands have no region
 unfoldable pub operandNumbers : Variables → Instruction → List ℕ
@@ -78,11 +77,12 @@ lastNumber (instruction.Scatter i) = 0
 
 unfoldable pub numberBefore : Tables → Instruction → ℕ
 numberBefore t i =
-    firstNumber (controlRefusal (t .predicates) (controlOf i) ∷ surfaceNumber t i ∷ operandNumbers (t .variables) i) (lastNumber i)
+    firstRefusal (controlRefusal (t .predicates) (controlOf i) ∷ surfaceNumber t i ∷ operandNumbers (t .variables) i) (lastNumber i)
 
--- "6 becomes 20 to 24 .. 25": the number of before is 6 where the refused operand is named, and else the same
-abbrev pub asBefore : ℕ → Detail → ℕ
-asBefore zero d = 0
-asBefore (suc n) detail.None = suc n
-asBefore (suc n) (detail.Operand place) = 6
-asBefore (suc n) (detail.Pair channel lane) = suc n
+-- "6 becomes 20 to 24 .. 25", turned back
+unfoldable pub asBefore : ℕ → ℕ
+asBefore n = cond (namesOperand n) 6 n
+
+-- the numbers that a run gives now: 6 is none of them
+unfoldable pub isGiven : ℕ → Bool
+isGiven n = namesOperand n || leb n 5 || (leb 7 n && leb n 13)

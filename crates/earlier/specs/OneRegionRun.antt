@@ -1,4 +1,4 @@
--- The run of document 01 alone: its numbers, which tell nothing.
+-- The run with document 01's one rule of regions in the place of 20 to 25, whose numbers tell nothing.
 use Prim.Native.Nat.{ℕ, zero, suc}
 use mathlib.Core.Bool.{cond}
 use lib.ListN.{length}
@@ -37,4 +37,4 @@ runBefore x s =
 
 -- an outcome in the numbers of before
 abbrev pub outcomeBefore : Outcome → Outcome
-outcomeBefore o = stopped (asBefore (o .answer .number) (o .answer .detail)) (o .answer .completed) (o .answer .position) (o .state)
+outcomeBefore o = stopped (asBefore (o .answer .number)) (o .answer .completed) (o .answer .position) (o .state)

@@ -1,4 +1,5 @@
 pub mod TestLaws
+pub mod NumberLaws
 pub mod PlaceLaws
 pub mod PlanLaws
 pub mod Edges

@@ -10,6 +10,7 @@ use borrow.Author.Tests.{ltb-false}
 use Rattle.details.specs.declared.Detail.the-variants as detail
 use Rattle.details.specs.Details.{namesOperand, operandDetail}
 use Rattle.tables.specs.Tables.{Tables}
+use Rattle.tables.specs.Variables.{Variables}
 use Rattle.tables.specs.Predicates.{Predicates}
 use Rattle.channels.specs.Exec.{execSize, execOffset}
 use Rattle.channels.specs.Predicate.{hasPredicate, predicateId}
@@ -21,47 +22,54 @@ use Rattle.regions.proofs.ReachLaws.{cond-either}
 use Rattle.plan.specs.declared.Plan.{Plan}
 use Rattle.plan.specs.Control.{controlOf, controlRefusal, predicateBits}
 use Rattle.plan.specs.Plans.{refusedPlan, tested, testedFrom, shlPlan, gatherPlan, scatterPlan}
-use Rattle.plan.specs.Checked.{checkedShl, checkedGatherOperands, checkedGather, checkedScatter, checkedSend, checkedOperands, checked}
-use Rattle.plan.specs.Places.{operandsOf, here, later, Names, nothing, operand}
+use Rattle.plan.specs.Checked.{checkedShl, checkedGatherOperands, checkedGather, checkedScatter, checkedSend, checkedOperands, checked, shlDst, shlSrc0, shlSrc1, gatherOffset, gatherElementOffset, gatherDst, scatterAddress, scatterElementOffset, scatterSrc, sendDesc, sendSrc, sendDst}
+use Rattle.plan.specs.Places.{Asked, operandsOf, located, here, later, Names, nothing, operand, NamesOf}
+use Rattle.plan.proofs.NumberLaws.{region-told}
 
--- the refusal of the operand at a place
-refusal-names : (place : ℕ) (l : Located) (ls : List Located) → Names place (l ∷ ls) (refusedPlan (l .number) (operandDetail (l .number) place))
-unfolding refusedPlan operandDetail
-refusal-names place l ls = told (namesOperand (l .number)) refl
-  where
-    told : (q : Bool) → namesOperand (l .number) ≡ q → Names place (l ∷ ls) (refusedPlan (l .number) (cond q (detail.Operand place) detail.None))
-    told true e = operand refl e here
-    told false e = nothing refl e
+-- what the operands' tests come to
+abbrev allLocated : Variables → ℕ → List Asked → List Located
+allLocated t exec [] = []
+allLocated t exec (o ∷ os) = located t exec o ∷ allLocated t exec os
 
-names-later : (first : ℕ) (l : Located) (ls : List Located) (p : Plan) → l .number ≡ 0 → Names (suc first) ls p → Names first (l ∷ ls) p
-names-later first l ls p good (nothing d n) = nothing d n
-names-later first l ls p good (operand d n r) = operand d n (later good r)
+module _ (t : Variables) (exec : ℕ) where
+  -- the refusal of the operand at a place
+  refusal-names : (place : ℕ) (o : Asked) (os : List Asked) → Names t exec place (o ∷ os) (refusedPlan (located t exec o .number) (operandDetail (located t exec o .number) place))
+  unfolding refusedPlan operandDetail
+  refusal-names place o os = told (namesOperand (located t exec o .number)) refl
+    where
+      told : (q : Bool) → namesOperand (located t exec o .number) ≡ q → Names t exec place (o ∷ os) (refusedPlan (located t exec o .number) (cond q (detail.Operand place) detail.None))
+      told true e = operand refl e here (region-told t exec o e)
+      told false e = nothing refl e
 
-operands-name : (first : ℕ) (ls : List Located) (next : Plan) → Names first [] next → Names first ls (testedFrom first ls next)
-unfolding tested
-operands-name first [] next none = none
-operands-name first (l ∷ ls) next none =
-    cond-either (Names first (l ∷ ls)) (ltb 0 (l .number)) (λ _. refusal-names first l ls)
-    (λ e. names-later first l ls _ (omega (arith, ltb-false 0 (l .number) e)) (operands-name (suc first) ls next (onward none)))
-  where
-    onward : Names first [] next → Names (suc first) [] next
-    onward (nothing d n) = nothing d n
+  names-later : (first : ℕ) (o : Asked) (os : List Asked) (p : Plan) → located t exec o .number ≡ 0 → Names t exec (suc first) os p → Names t exec first (o ∷ os) p
+  names-later first o os p good (nothing d n) = nothing d n
+  names-later first o os p good (operand d n at r) = operand d n (later good at) r
 
--- a plan without operands to name
-plain-names : (first n : ℕ) (ls : List Located) → namesOperand n ≡ false → Names first ls (refusedPlan n detail.None)
-unfolding refusedPlan
-plain-names first n ls e = nothing refl e
+  operands-name : (first : ℕ) (os : List Asked) (next : Plan) → Names t exec first [] next → Names t exec first os (testedFrom first (allLocated t exec os) next)
+  unfolding tested
+  operands-name first [] next none = none
+  operands-name first (o ∷ os) next none =
+      cond-either (Names t exec first (o ∷ os)) (ltb 0 (located t exec o .number)) (λ _. refusal-names first o os)
+      (λ e. names-later first o os _ (omega (arith, ltb-false 0 (located t exec o .number) e)) (operands-name (suc first) os next (onward none)))
+    where
+      onward : Names t exec first [] next → Names t exec (suc first) [] next
+      onward (nothing d n) = nothing d n
+
+  -- a plan without operands to name
+  plain-names : (first n : ℕ) (os : List Asked) → namesOperand n ≡ false → Names t exec first os (refusedPlan n detail.None)
+  unfolding refusedPlan
+  plain-names first n os e = nothing refl e
 
 module _ (t : Tables) (bits : ℕ) where
-  checked-names : (i : Instruction) → Names 1 (operandsOf t i) (checkedOperands t bits i)
-  unfolding checkedOperands checkedShl checkedGather checkedGatherOperands checkedScatter checkedSend namesOperand shlPlan gatherPlan scatterPlan
-  checked-names (instruction.Shl i) = operands-name 1 (operandsOf t (instruction.Shl i)) _ (nothing refl refl)
+  checked-names : (i : Instruction) → NamesOf t i (checkedOperands t bits i)
+  unfolding checkedOperands checkedShl checkedGather checkedGatherOperands checkedScatter checkedSend namesOperand shlPlan gatherPlan scatterPlan controlOf shlDst shlSrc0 shlSrc1 gatherOffset gatherElementOffset gatherDst scatterAddress scatterElementOffset scatterSrc sendDesc sendSrc sendDst
+  checked-names (instruction.Shl i) = operands-name (t .variables) (i .control .exec) 1 (operandsOf (instruction.Shl i)) _ (nothing refl refl)
   checked-names (instruction.Gather i) =
-      cond-either (Names 1 (operandsOf t (instruction.Gather i))) (not (ltb (i .access .surface) (length (t .surfaces .lengths))))
-      (λ _. plain-names 1 5 (operandsOf t (instruction.Gather i)) refl)
-      (λ _. operands-name 1 (operandsOf t (instruction.Gather i)) _ (nothing refl refl))
-  checked-names (instruction.Scatter i) = operands-name 1 (operandsOf t (instruction.Scatter i)) _ (nothing refl refl)
-  checked-names (instruction.RawSend i) = operands-name 1 (operandsOf t (instruction.RawSend i)) _ (plain-names 1 9 [] refl)
+      cond-either (NamesOf t (instruction.Gather i)) (not (ltb (i .access .surface) (length (t .surfaces .lengths))))
+      (λ _. plain-names (t .variables) (i .control .exec) 1 5 (operandsOf (instruction.Gather i)) refl)
+      (λ _. operands-name (t .variables) (i .control .exec) 1 (operandsOf (instruction.Gather i)) _ (nothing refl refl))
+  checked-names (instruction.Scatter i) = operands-name (t .variables) (i .control .exec) 1 (operandsOf (instruction.Scatter i)) _ (nothing refl refl)
+  checked-names (instruction.RawSend i) = operands-name (t .variables) (i .control .exec) 1 (operandsOf (instruction.RawSend i)) _ (plain-names (t .variables) (i .control .exec) 1 9 [] refl)
 
 -- 8, 5 or no refusal
 pub control-unnamed : (t : Predicates) (c : Control) → namesOperand (controlRefusal t c) ≡ false
@@ -71,9 +79,9 @@ control-unnamed t c =
     cond-either P (ltb 32 (execOffset (c .exec) + execSize (c .exec))) (λ _. refl)
     (λ _. cond-either P (hasPredicate (c .pred) && leb (length (t .bits)) (predicateId (c .pred))) (λ _. refl) (λ _. refl))
 
-pub plan-names : (t : Tables) (i : Instruction) → Names 1 (operandsOf t i) (checked t i)
+pub plan-names : (t : Tables) (i : Instruction) → NamesOf t i (checked t i)
 unfolding checked tested
 plan-names t i =
-    cond-either (Names 1 (operandsOf t i)) (ltb 0 (controlRefusal (t .predicates) (controlOf i)))
-    (λ _. plain-names 1 (controlRefusal (t .predicates) (controlOf i)) (operandsOf t i) (control-unnamed (t .predicates) (controlOf i)))
+    cond-either (NamesOf t i) (ltb 0 (controlRefusal (t .predicates) (controlOf i)))
+    (λ _. plain-names (t .variables) (controlOf i .exec) 1 (controlRefusal (t .predicates) (controlOf i)) (operandsOf i) (control-unnamed (t .predicates) (controlOf i)))
     (λ _. checked-names t (predicateBits (t .predicates) (controlOf i .pred)) i)

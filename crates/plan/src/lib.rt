@@ -82,7 +82,7 @@ fn refused(number: u8, detail: Detail) -> Plan
 }
 
 // The refusal of the operand at a place.
-fn refused_operand(number: u8, place: u8) -> Plan
+fn refused_at(number: u8, place: u8) -> Plan
     ensures { λ r. ⌜ r ≡ refusedPlan number (operandDetail number place) ⌝ }
 {
     refused(number, details::of_operand(number, place))
@@ -274,7 +274,7 @@ fn check_shl(types: &[u8], starts: &[u16], counts: &[u16], bits: u32, instructio
         destination,
     );
     if 0 < dst.number {
-        return refused_operand(dst.number, 1);
+        return refused_at(dst.number, 1);
     }
     let src0 = operands::locate_vector(
         types,
@@ -286,7 +286,7 @@ fn check_shl(types: &[u8], starts: &[u16], counts: &[u16], bits: u32, instructio
         source,
     );
     if 0 < src0.number {
-        return refused_operand(src0.number, 2);
+        return refused_at(src0.number, 2);
     }
     let src1 = operands::locate_vector(
         types,
@@ -298,7 +298,7 @@ fn check_shl(types: &[u8], starts: &[u16], counts: &[u16], bits: u32, instructio
         count,
     );
     if 0 < src1.number {
-        return refused_operand(src1.number, 3);
+        return refused_at(src1.number, 3);
     }
     let left = src0.elements;
     let right = src1.elements;
@@ -330,7 +330,7 @@ fn check_gather_operands(
         address,
     );
     if 0 < offset.number {
-        return refused_operand(offset.number, 1);
+        return refused_at(offset.number, 1);
     }
     let element = operands::locate_raw(
         types,
@@ -341,7 +341,7 @@ fn check_gather_operands(
         instruction.element_offset,
     );
     if 0 < element.number {
-        return refused_operand(element.number, 2);
+        return refused_at(element.number, 2);
     }
     let dst = operands::locate_raw(
         types,
@@ -352,7 +352,7 @@ fn check_gather_operands(
         instruction.destination,
     );
     if 0 < dst.number {
-        return refused_operand(dst.number, 3);
+        return refused_at(dst.number, 3);
     }
     let left = offset.elements;
     let right = element.elements;
@@ -402,7 +402,7 @@ fn check_scatter(
         base,
     );
     if 0 < address.number {
-        return refused_operand(address.number, 1);
+        return refused_at(address.number, 1);
     }
     let offsets = elements_needed(exec, element_types::UQ);
     let element = operands::locate_raw(
@@ -414,7 +414,7 @@ fn check_scatter(
         instruction.element_offset,
     );
     if 0 < element.number {
-        return refused_operand(element.number, 2);
+        return refused_at(element.number, 2);
     }
     let needed = scatter_needed(exec, instruction.channels);
     let src = operands::locate_raw(
@@ -426,7 +426,7 @@ fn check_scatter(
         instruction.source,
     );
     if 0 < src.number {
-        return refused_operand(src.number, 3);
+        return refused_at(src.number, 3);
     }
     let left = address.elements;
     let right = element.elements;
@@ -450,7 +450,7 @@ fn check_send(types: &[u8], starts: &[u16], counts: &[u16], instruction: RawSend
         descriptor,
     );
     if 0 < desc.number {
-        return refused_operand(desc.number, 1);
+        return refused_at(desc.number, 1);
     }
     let sent = registers_needed(instruction.message.num_src);
     let src = operands::locate_raw(
@@ -462,7 +462,7 @@ fn check_send(types: &[u8], starts: &[u16], counts: &[u16], instruction: RawSend
         instruction.source,
     );
     if 0 < src.number {
-        return refused_operand(src.number, 2);
+        return refused_at(src.number, 2);
     }
     let received = registers_needed(instruction.message.num_dst);
     let dst = operands::locate_raw(
@@ -474,7 +474,7 @@ fn check_send(types: &[u8], starts: &[u16], counts: &[u16], instruction: RawSend
         instruction.destination,
     );
     if 0 < dst.number {
-        return refused_operand(dst.number, 3);
+        return refused_at(dst.number, 3);
     }
     refused(9, Detail::None)
 }

@@ -10,7 +10,7 @@ use Rattle.regions.specs.declared.Role.{Role}
 use Rattle.regions.specs.declared.Role.the-variants as role
 use Rattle.regions.specs.declared.Variable.{Variable}
 use Rattle.regions.specs.Regions.{verticalCode, widthCode, horizontalCode, strideOf, between, scalarRegionGood, firstElement, sourceElement, elementOf}
-use Rattle.regions.specs.RegionRules.{isStride, standsFor, widthZeroOr32, strideOverFour, widthOverExecSize, destinationStrideZero, nullOutOfPlace, scalarRegionWrong, firstBroken, regionRefusal}
+use Rattle.regions.specs.RegionRules.{isNumber, standsFor, widthZeroOr32, strideOverFour, widthOverExecSize, destinationStrideZero, nullOutOfPlace, scalarRegionWrong, firstBroken, regionRefusal}
 use Rattle.regions.specs.Reach.{lowest, highest, twoRegisters, reachGood, elementsGood}
 use Rattle.regions.proofs.ReachLaws.{inside-highest}
 
@@ -66,7 +66,7 @@ unfolding computed elementsGood
 number-is o lanes g count = rw (sizes .uw, ← inside-highest (elementOf o g 2) count lanes)
 
 pub regions-at-edges : Edges (λ o lanes g count. regionNumber o lanes g (words count))
-unfolding computed verticalCode widthCode horizontalCode strideOf between scalarRegionGood isStride standsFor widthZeroOr32 strideOverFour widthOverExecSize destinationStrideZero nullOutOfPlace scalarRegionWrong firstBroken regionRefusal firstElement sourceElement elementOf lowest highest twoRegisters reachGood
+unfolding computed verticalCode widthCode horizontalCode strideOf between scalarRegionGood isNumber standsFor widthZeroOr32 strideOverFour widthOverExecSize destinationStrideZero nullOutOfPlace scalarRegionWrong firstBroken regionRefusal firstElement sourceElement elementOf lowest highest twoRegisters reachGood
 regions-at-edges = (
   number-is role.Source 16 (region 6 5 3) 31,
   number-is role.Source 16 (region 6 5 3) 30,

@@ -11,7 +11,7 @@ use Rattle.tables.proofs.Every.{every-each}
 use Rattle.regions.specs.declared.Role.{Role}
 use Rattle.regions.specs.declared.Role.the-variants as role
 use Rattle.regions.specs.Regions.{verticalCode, widthCode, horizontalCode, strideOf, between, sourceRegionGood, scalarRegionGood, destinationRegionGood, regionAllowed}
-use Rattle.regions.specs.RegionRules.{isStride, standsFor, widthZeroOr32, strideOverFour, widthOverExecSize, destinationStrideZero, nullOutOfPlace, scalarRegionWrong, firstBroken, regionRefusal}
+use Rattle.regions.specs.RegionRules.{isNumber, standsFor, widthZeroOr32, strideOverFour, widthOverExecSize, destinationStrideZero, nullOutOfPlace, scalarRegionWrong, firstBroken, regionRefusal}
 
 -- ---- over the sixteen codes of a field, computed
 
@@ -29,16 +29,16 @@ agree-same false false e = refl
 alike : (f g : ℕ → Bool) → everyBelow 16 (λ c. agree (f c) (g c)) ≡ true → (code : ℕ) → code < 16 → f code ≡ g code
 alike f g all code h = agree-same (f code) (g code) (every-each (λ c. agree (f c) (g c)) 16 all code h)
 
-widths : everyBelow 16 (λ c. agree (between 2 6 c) (not (standsFor 0 c || standsFor 32 c) && isStride c)) ≡ true
-unfolding everyBelow agree between standsFor isStride strideOf
+widths : everyBelow 16 (λ c. agree (between 2 6 c) (not (standsFor 0 c || standsFor 32 c) && isNumber c)) ≡ true
+unfolding everyBelow agree between standsFor isNumber strideOf
 widths = refl
 
-source-strides : everyBelow 16 (λ c. agree (between 1 4 c) (not (ltb 4 (strideOf c)) && isStride c)) ≡ true
-unfolding everyBelow agree between isStride strideOf
+source-strides : everyBelow 16 (λ c. agree (between 1 4 c) (not (ltb 4 (strideOf c)) && isNumber c)) ≡ true
+unfolding everyBelow agree between isNumber strideOf
 source-strides = refl
 
-destination-strides : everyBelow 16 (λ c. agree (between 2 4 c) (not (ltb 4 (strideOf c)) && not (standsFor 0 c) && isStride c)) ≡ true
-unfolding everyBelow agree between standsFor isStride strideOf
+destination-strides : everyBelow 16 (λ c. agree (between 2 4 c) (not (ltb 4 (strideOf c)) && not (standsFor 0 c) && isNumber c)) ≡ true
+unfolding everyBelow agree between standsFor isNumber strideOf
 destination-strides = refl
 
 width-small : (region : ℕ) → widthCode region < 16
@@ -85,30 +85,30 @@ scalar-by false = refl
 
 -- document 01's rule, by the same tests
 source-was : (region lanes : ℕ) → sourceRegionGood region lanes
-    ≡ (not (standsFor 0 (widthCode region) || standsFor 32 (widthCode region)) && isStride (widthCode region) && not (ltb lanes (strideOf (widthCode region))) && isStride (verticalCode region) && (not (ltb 4 (strideOf (horizontalCode region))) && isStride (horizontalCode region)))
-unfolding sourceRegionGood isStride
+    ≡ (not (standsFor 0 (widthCode region) || standsFor 32 (widthCode region)) && isNumber (widthCode region) && not (ltb lanes (strideOf (widthCode region))) && isNumber (verticalCode region) && (not (ltb 4 (strideOf (horizontalCode region))) && isNumber (horizontalCode region)))
+unfolding sourceRegionGood isNumber
 source-was region lanes =
     rw (
-      alike (between 2 6) (λ c. not (standsFor 0 c || standsFor 32 c) && isStride c) widths (widthCode region) (width-small region),
-      alike (between 1 4) (λ c. not (ltb 4 (strideOf c)) && isStride c) source-strides (horizontalCode region) (horizontal-small region),
+      alike (between 2 6) (λ c. not (standsFor 0 c || standsFor 32 c) && isNumber c) widths (widthCode region) (width-small region),
+      alike (between 1 4) (λ c. not (ltb 4 (strideOf c)) && isNumber c) source-strides (horizontalCode region) (horizontal-small region),
       at-most (strideOf (widthCode region)) lanes,
     )
 
 destination-was : (region : ℕ) → destinationRegionGood region
-    ≡ (not (ltb 4 (strideOf (horizontalCode region))) && not (standsFor 0 (horizontalCode region)) && isStride (horizontalCode region) && eqb (verticalCode region) 0 && eqb (widthCode region) 0)
+    ≡ (not (ltb 4 (strideOf (horizontalCode region))) && not (standsFor 0 (horizontalCode region)) && isNumber (horizontalCode region) && eqb (verticalCode region) 0 && eqb (widthCode region) 0)
 unfolding destinationRegionGood
 destination-was region =
-    rw (alike (between 2 4) (λ c. not (ltb 4 (strideOf c)) && not (standsFor 0 c) && isStride c) destination-strides (horizontalCode region) (horizontal-small region))
+    rw (alike (between 2 4) (λ c. not (ltb 4 (strideOf c)) && not (standsFor 0 c) && isNumber c) destination-strides (horizontalCode region) (horizontal-small region))
 
 -- no rule is broken exactly if document 01's rule holds
 pub split-refuses : (r : Role) (region lanes : ℕ) → eqb (regionRefusal r region lanes) 0 ≡ regionAllowed r region lanes
 unfolding regionRefusal firstBroken widthZeroOr32 strideOverFour widthOverExecSize destinationStrideZero nullOutOfPlace scalarRegionWrong regionAllowed
 split-refuses role.Source region lanes =
-    source-by (standsFor 0 (widthCode region) || standsFor 32 (widthCode region)) (ltb 4 (strideOf (horizontalCode region))) (ltb lanes (strideOf (widthCode region))) (isStride (verticalCode region)) (isStride (widthCode region)) (isStride (horizontalCode region))
+    source-by (standsFor 0 (widthCode region) || standsFor 32 (widthCode region)) (ltb 4 (strideOf (horizontalCode region))) (ltb lanes (strideOf (widthCode region))) (isNumber (verticalCode region)) (isNumber (widthCode region)) (isNumber (horizontalCode region))
     ∙ sym (source-was region lanes)
 split-refuses role.Scalar region lanes = scalar-by (scalarRegionGood region)
 split-refuses role.Destination region lanes =
-    destination-by (ltb 4 (strideOf (horizontalCode region))) (standsFor 0 (horizontalCode region)) (eqb (verticalCode region) 0) (eqb (widthCode region) 0) (isStride (horizontalCode region))
+    destination-by (ltb 4 (strideOf (horizontalCode region))) (standsFor 0 (horizontalCode region)) (eqb (verticalCode region) 0) (eqb (widthCode region) 0) (isNumber (horizontalCode region))
     ∙ sym (destination-was region)
 
 -- as the tests of an operand learn it

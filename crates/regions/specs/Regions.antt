@@ -1,4 +1,4 @@
--- Regions: the region word's rules (refusal 6), and which element of its variable each lane takes. Document 01, "Bytes of an instruction"
+-- Regions: the region word's parts, document 01's rule of it, and which element of its variable each lane takes. Document 01, "Bytes of an instruction"
 -- and "Regions".
 use Prim.Native.Nat.{ℕ, _+_, _*_, _/_, _%_}
 use mathlib.Core.Bool.{Bool, cond, _&&_}
@@ -18,7 +18,7 @@ widthCode region = region / 16 % 16
 unfoldable pub horizontalCode : ℕ → ℕ
 horizontalCode region = region / 256 % 16
 
--- "codes 0 Null, 1..7 for 0, 1, 2, 4, 8, 16, 32"; Null counts as 0 here, and the rules below tell it from a stride of 0
+-- "codes 0 Null, 1..7 for 0, 1, 2, 4, 8, 16, 32"; Null counts as 0 here, and the rules tell it from a stride of 0
 unfoldable pub strideOf : ℕ → ℕ
 strideOf code =
     cond (eqb code 2) 1
@@ -48,7 +48,7 @@ scalarRegionGood region = eqb region (1 + 16 * 2 + 256 * 1)
 unfoldable pub destinationRegionGood : ℕ → Bool
 destinationRegionGood region = between 2 4 (horizontalCode region) && eqb (verticalCode region) 0 && eqb (widthCode region) 0
 
--- the rules of a role; 6 where this is false
+-- document 01's one rule for each role, by which 6 was given; `RegionRules` has it split, and `split-refuses` compares them
 unfoldable pub regionAllowed : Role → ℕ → ℕ → Bool
 regionAllowed role.Source region lanes = sourceRegionGood region lanes
 regionAllowed role.Scalar region lanes = scalarRegionGood region

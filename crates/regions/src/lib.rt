@@ -5,7 +5,7 @@ ghost use Prim.Native.Nat.{_+_, _-_, _/_, _%_, _<_, min, max};
 ghost use Rattle.element_types.specs.Types.{sizeOf};
 ghost use Rattle.regions.specs.declared.Role.the-variants as role;
 ghost use Rattle.regions.specs.Regions.{strideOf, firstElement, elementOf};
-ghost use Rattle.regions.specs.RegionRules.{isStride, standsFor, regionRefusal};
+ghost use Rattle.regions.specs.RegionRules.{isNumber, standsFor, regionRefusal};
 ghost use Rattle.regions.specs.Reach.{lowest, highest, twoRegisters, elementsGood};
 ghost use Rattle.regions.specs.mirror.Grid.{gridElement, gridOf};
 ghost use Rattle.regions.specs.Positions.{lanePositions, elementByte};
@@ -63,8 +63,8 @@ fn stride_of(code: u16) -> u8
     if code == 7 { 32 } else { 0 }
 }
 
-fn is_stride(code: u16) -> bool
-    ensures { λ r. ⌜ r ≡ isStride code ⌝ }
+fn is_number(code: u16) -> bool
+    ensures { λ r. ⌜ r ≡ isNumber code ⌝ }
 {
     (1 <= code) & (code <= 7)
 }
@@ -72,7 +72,7 @@ fn is_stride(code: u16) -> bool
 fn stands_for(number: u8, code: u16) -> bool
     ensures { λ r. ⌜ r ≡ standsFor number code ⌝ }
 {
-    is_stride(code) & (stride_of(code) == number)
+    is_number(code) & (stride_of(code) == number)
 }
 
 // 20, 21, 22, 24.
@@ -91,7 +91,7 @@ fn source_refusal(region: u16, lanes: u8) -> u8
     if lanes < stride_of(width) {
         return 22;
     }
-    if !is_stride(vertical) | !is_stride(width) | !is_stride(horizontal) {
+    if !is_number(vertical) | !is_number(width) | !is_number(horizontal) {
         return 24;
     }
     0
@@ -110,7 +110,7 @@ fn destination_refusal(region: u16) -> u8
     if stands_for(0, horizontal) {
         return 23;
     }
-    if (vertical != 0) | (width != 0) | !is_stride(horizontal) {
+    if (vertical != 0) | (width != 0) | !is_number(horizontal) {
         return 24;
     }
     0

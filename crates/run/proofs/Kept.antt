@@ -15,7 +15,7 @@ use Rattle.tables.specs.Tables.{tablesGood}
 use Rattle.step.specs.State.{Setup, State, lengthsOf}
 use Rattle.step.specs.Step.{Stepped, stepAt, after}
 use Rattle.step.proofs.Kept.{after-lengths}
-use Rattle.run.specs.Run.{Outcome, refusedWith, stopped, runFrom, runThrough, run}
+use Rattle.run.specs.Run.{Outcome, stoppedWith, stopped, runFrom, runThrough, run}
 use Rattle.run.specs.Ran.{Ran, ended, refusedAt, went, registersWritten, memoryWritten}
 use Rattle.run.proofs.Simulation.{run-keeps}
 use Rattle.run.proofs.Whole.{run-is}
@@ -40,7 +40,7 @@ run-surfaces x s = whole-keeps (λ u. u .surfaces ≡ s .surfaces) x s (λ at u 
 -- ---- a refused instruction
 
 -- it ends the run, with its number, what that tells, its position, and the state as it was
-pub refused-stops : (step : ℕ → State → Stepped) (end fuel completed at n : ℕ) (s : State) → at < end → step at s .effect .number ≡ suc n → runFrom step end (suc fuel) completed at s ≡ refusedWith (suc n) (step at s .effect .detail) completed at s
+pub refused-stops : (step : ℕ → State → Stepped) (end fuel completed at n : ℕ) (s : State) → at < end → step at s .effect .number ≡ suc n → runFrom step end (suc fuel) completed at s ≡ stoppedWith (suc n) (step at s .effect .detail) completed at s
 unfolding runFrom
 refused-stops step end fuel completed at n s h e = rw (lt-ltb at end h, e)
 

@@ -13,7 +13,7 @@ use Rattle.step.specs.Step.{stepAt}
 use Rattle.step.proofs.StepLaws.{Takes}
 use Rattle.step.proofs.Forward.{Forward, step-forward}
 use Rattle.step.proofs.Kept.{after-lengths, refused-step-keeps}
-use Rattle.run.specs.Run.{refusedWith, stopped, runFrom, runThrough}
+use Rattle.run.specs.Run.{stoppedWith, stopped, runFrom, runThrough}
 use Rattle.run.proofs.Kept.{refused-stops}
 
 -- after so many instructions the rest of the run, from here and this state, comes to what the whole run comes to
@@ -53,21 +53,21 @@ module _ (x : Setup) (start : State) where
       keeps = ap (lengthsOf x) (told .3) ∙ (after-lengths x (stepAt x at s .effect) s ∙ r .lengths)
 
       -- a refusal ends the run, with the state as it was
-      pub stops : 0 < p .number → refusedWith (p .number) (p .detail) completed at u ≡ runThrough x start
+      pub stops : 0 < p .number → stoppedWith (p .number) (p .detail) completed at u ≡ runThrough x start
       stops h = ended (r .fuel) (r .enough) (r .same)
         where
-          number : (n : ℕ) → p .number ≡ n → 0 < n → (fuel : ℕ) → runFrom (stepAt x) (length (x .kernel)) (suc fuel) completed at s ≡ runThrough x start → refusedWith n (p .detail) completed at s ≡ runThrough x start
+          number : (n : ℕ) → p .number ≡ n → 0 < n → (fuel : ℕ) → runFrom (stepAt x) (length (x .kernel)) (suc fuel) completed at s ≡ runThrough x start → stoppedWith n (p .detail) completed at s ≡ runThrough x start
           number zero e h fuel same = absurd (omega (arith, h))
           number (suc n) e h fuel same =
-              ap (λ (d : Detail). refusedWith (suc n) d completed at s) (told .1)
+              ap (λ (d : Detail). stoppedWith (suc n) d completed at s) (told .1)
               ∙ (sym (refused-stops (stepAt x) (length (x .kernel)) fuel completed at n s before (sym (told .0) ∙ e)) ∙ same)
 
           kept : u ≡ s
           kept = told .3 ∙ refused-step-keeps x at s (λ z. absurd (omega (arith, told .0, z, h)))
 
-          ended : (fuel : ℕ) → length (x .kernel) ≤ fuel + at → runFrom (stepAt x) (length (x .kernel)) fuel completed at s ≡ runThrough x start → refusedWith (p .number) (p .detail) completed at u ≡ runThrough x start
+          ended : (fuel : ℕ) → length (x .kernel) ≤ fuel + at → runFrom (stepAt x) (length (x .kernel)) fuel completed at s ≡ runThrough x start → stoppedWith (p .number) (p .detail) completed at u ≡ runThrough x start
           ended zero enough same = absurd (omega (arith, before, enough))
-          ended (suc fuel) enough same = ap (λ (v : State). refusedWith (p .number) (p .detail) completed at v) kept ∙ number (p .number) refl h fuel same
+          ended (suc fuel) enough same = ap (λ (v : State). stoppedWith (p .number) (p .detail) completed at v) kept ∙ number (p .number) refl h fuel same
 
       module _ (left : p .number ≤ 0) where
         done : stepAt x at s .effect .number ≡ 0

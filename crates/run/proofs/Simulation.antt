@@ -8,7 +8,7 @@ use Rattle.details.specs.declared.Detail.{Detail}
 use Rattle.step.specs.State.{State}
 use Rattle.step.specs.Step.{Stepped, after}
 use Rattle.step.proofs.SameStep.{SameStep}
-use Rattle.run.specs.Run.{Outcome, refusedWith, stopped, settled, runFrom}
+use Rattle.run.specs.Run.{Outcome, stoppedWith, stopped, settled, runFrom}
 
 module _ (S : State → State → Type 0) where
   pub record SameOutcome (r q : Outcome) : Type 0 where
@@ -24,7 +24,7 @@ module _ (S : State → State → Type 0) where
     settled-same j k c a t u s v h e f zero zero q l = rw (← f .next) (h _ _ _ _ (f .state) l)
     settled-same j k c a t u s v h e f zero (suc n) q l = absurd (omega arith)
     settled-same j k c a t u s v h e f (suc m) zero q l = absurd (omega arith)
-    settled-same j k c a t u s v h e f (suc m) (suc n) q l = record { answer = ap₂ (λ (x : ℕ) (d : Detail). refusedWith x d c a s .answer) q (f .detail); state = e }
+    settled-same j k c a t u s v h e f (suc m) (suc n) q l = record { answer = ap₂ (λ (x : ℕ) (d : Detail). stoppedWith x d c a s .answer) q (f .detail); state = e }
 
     module _ (f g : ℕ → State → Stepped) (steps : (at : ℕ) (s v : State) → S s v → matters (f at s .effect .number) → SameStep S (f at s) (g at v) s v) (end : ℕ) where
       stepped-same : (j k : ℕ → ℕ → State → Outcome) (c a : ℕ) (s v : State) → Rest j k → S s v → (m : ℕ) → f a s .effect .number ≡ m → matters (settled j c a (f a s) s m .answer .number) → SameOutcome (settled j c a (f a s) s m) (settled k c a (g a v) v (g a v .effect .number))

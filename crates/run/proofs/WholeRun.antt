@@ -1,4 +1,4 @@
--- Every run is, instruction by instruction, what document 01 says: one theorem about whole runs.
+-- Every run is, instruction by instruction, what the papers say: one theorem about whole runs.
 use mathlib.Core.Path.{_≡_, refl, sym, ap, subst, _∙_}
 use mathlib.Core.Bool.{Bool, true, false}
 use Prim.Native.Nat.{ℕ, zero, suc, _<_}

@@ -6,13 +6,13 @@ use Prim.Native.Nat.{ℕ, suc, _<_}
 use Rattle.cells.specs.Writes.{Write}
 use Rattle.step.specs.State.{State}
 use Rattle.step.specs.Step.{Stepped, after}
-use Rattle.run.specs.Run.{Outcome, refusedWith, stopped}
+use Rattle.run.specs.Run.{Outcome, stoppedWith, stopped}
 
 -- of any steps, through a kernel of this length: Ran completed at s r, from a position and a state to the run's outcome
 module _ (step : ℕ → State → Stepped) (end : ℕ) where
   pub data Ran : ℕ → ℕ → State → Outcome → Type 0 where
     ended : {completed : ℕ} {s : State} → Ran completed end s (stopped 0 completed end s)
-    refusedAt : {completed at n : ℕ} {s : State} → at < end → step at s .effect .number ≡ suc n → Ran completed at s (refusedWith (suc n) (step at s .effect .detail) completed at s)
+    refusedAt : {completed at n : ℕ} {s : State} → at < end → step at s .effect .number ≡ suc n → Ran completed at s (stoppedWith (suc n) (step at s .effect .detail) completed at s)
     went : {completed at : ℕ} {s : State} {r : Outcome} → at < end → step at s .effect .number ≡ 0 → Ran (suc completed) (step at s .next) (after (step at s .effect) s) r → Ran completed at s r
 
   -- how many instructions went

@@ -2,14 +2,20 @@
 -- (or the end). 13 answers 0 and 0. Earlier instructions stand." With the number goes what it tells (document 02, request 2).
 use Prim.Native.Nat.{ℕ, zero, suc}
 use mathlib.Core.Bool.{cond}
+use mathlib.Core.List.{List, _∷_}
 use lib.ListN.{length}
 use lib.Dec.{ltb}
 use Rattle.details.specs.declared.Detail.{Detail}
 use Rattle.details.specs.declared.Detail.the-variants as detail
+use Rattle.details.specs.Details.{valuesOf}
 use Rattle.tables.specs.Tables.{tablesGood}
 use Rattle.step.specs.State.{Setup, State, lengthsOf}
 use Rattle.step.specs.Step.{Stepped, stepAt, after}
 use Rattle.run.specs.declared.Answer.{Answer}
+
+-- "An answer is all the numbers that the run gives back": number, completed, position, and the values of what the number tells
+unfoldable pub numbersOf : Answer → List ℕ
+numbersOf a = a .number ∷ a .completed ∷ a .position ∷ valuesOf (a .detail)
 
 pub record Outcome : Type 0 where
   pub answer : Answer
@@ -18,17 +24,17 @@ pub record Outcome : Type 0 where
 abbrev pub outcome : Answer → State → Outcome
 outcome answer s = record { answer = answer; state = s }
 
-abbrev pub refusedWith : ℕ → Detail → ℕ → ℕ → State → Outcome
-refusedWith number detail completed position s = record { answer = record { number = number; completed = completed; position = position; detail = detail }; state = s }
+abbrev pub stoppedWith : ℕ → Detail → ℕ → ℕ → State → Outcome
+stoppedWith number detail completed position s = record { answer = record { number = number; completed = completed; position = position; detail = detail }; state = s }
 
 -- with a number that tells nothing
 abbrev pub stopped : ℕ → ℕ → ℕ → State → Outcome
-stopped number completed position s = refusedWith number detail.None completed position s
+stopped number completed position s = stoppedWith number detail.None completed position s
 
 -- a step's number decides: 0, and the rest of the run follows the effect; else the run stops with the state as it was
 abbrev pub settled : (ℕ → ℕ → State → Outcome) → ℕ → ℕ → Stepped → State → ℕ → Outcome
 settled rest completed at t s zero = rest (suc completed) (t .next) (after (t .effect) s)
-settled rest completed at t s (suc n) = refusedWith (suc n) (t .effect .detail) completed at s
+settled rest completed at t s (suc n) = stoppedWith (suc n) (t .effect .detail) completed at s
 
 -- Of any steps, through a kernel of this length. The fuel bounds the recursion; it is never the reason to stop (`proofs/Fuel.antt`).
 unfoldable pub runFrom : (ℕ → State → Stepped) → ℕ → ℕ → ℕ → ℕ → State → Outcome

@@ -1,4 +1,4 @@
--- What a whole run does, said of every one of its instructions. Demand 2: an instruction is refused exactly when document 01's numbers say so;
+-- What a whole run does, said of every one of its instructions. Demand 2: an instruction is refused exactly when the papers' numbers say so;
 -- every accepted one leaves each enabled channel the defined result, and no other byte changes.
 use mathlib.Core.Path.{_≡_}
 use mathlib.Core.Bool.{true, false}

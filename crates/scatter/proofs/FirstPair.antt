@@ -1,12 +1,13 @@
 -- A scatter's search tells the first offending pair of all enabled pairs.
 use Prim.Native.Nat.{ℕ, _<_}
+use mathlib.Core.Path.{_≡_}
 use mathlib.Core.Logic.{⊎-elim}
 use mathlib.Core.Bool.{Bool, true, false}
 use mathlib.Core.List.{List, []}
 use native.Mathlib.Omega.{arith}
 use Rattle.details.specs.declared.Detail.{Detail}
 use Rattle.details.specs.declared.Detail.the-variants as detail
-use Rattle.details.specs.Details.{tells}
+use Rattle.details.specs.Details.{isSome}
 use Rattle.cells.specs.Buffer.{Buffer}
 use Rattle.cells.specs.Over.{among, each, some, firstPair}
 use Rattle.cells.specs.Effect.{Effect, unless, unlessFound, writing}
@@ -21,6 +22,7 @@ use Rattle.staging.specs.Results.{Enabled}
 use Rattle.staging.specs.Sources.{eitherTainted}
 use Rattle.staging.proofs.LanesOnLaws.{lanes-on-are}
 use Rattle.scatter.specs.Scatter.{Window, channelsOn, target, misaligned, outside, scatterPair, firstOffending, scatterEffect}
+use Rattle.scatter.specs.Results.{EnabledPair}
 use Rattle.scatter.specs.Offending.{IsFirst, Searched, found, clear, ScatterTells, done, doubtful, misalignedPair, outsidePair}
 
 module _ (mask : ℕ) (p : Plan) (offends : ℕ → ℕ → Bool) where
@@ -56,13 +58,13 @@ pub offending-first : (fails : ℕ → Bool) (mask : ℕ) (p : Plan) (bytes : Li
 unfolding firstOffending channelsOn
 offending-first fails mask p bytes = rw (lanes-on-are mask p) (pairs-searched mask p (λ c i. fails (target bytes p c i)))
 
--- a search that refuses tells the first pair, and one that does not leaves what follows
+-- a search that refuses tells the first pair, and one that does not leaves what follows, of which it says that no pair offends
 module _ (offends : ℕ → ℕ → Bool) (mask : ℕ) (p : Plan) where
-  search-tells : (P : ℕ → Detail → Type 0) (n : ℕ) (d : Detail) (e : Effect) → Searched mask p offends d → ((c lane : ℕ) → IsFirst mask p offends c lane → P n (detail.Pair c lane)) → P (e .number) (e .detail)
-      → P (unlessFound n d e .number) (unlessFound n d e .detail)
-  unfolding unless tells
+  search-tells : (P : ℕ → Detail → Type 0) (n : ℕ) (d : Detail) (e : Effect) → Searched mask p offends d → ((c lane : ℕ) → IsFirst mask p offends c lane → P n (detail.Pair c lane))
+      → (((c lane : ℕ) → EnabledPair mask p c lane → offends c lane ≡ false) → P (e .number) (e .detail)) → P (unlessFound n d e .number) (unlessFound n d e .detail)
+  unfolding unless isSome
   search-tells P n d e (found {c} {lane} first) named later = named c lane first
-  search-tells P n d e (clear none) named later = later
+  search-tells P n d e (clear none) named later = later none
 
 pub scatter-tells : (w : Window) (mask : ℕ) (p : Plan) (b : Buffer) → ScatterTells w mask p (b .bytes) (scatterEffect w p (lanesOn mask p) b .number) (scatterEffect w p (lanesOn mask p) b .detail)
 unfolding scatterEffect unless
@@ -78,4 +80,4 @@ scatter-tells w mask p b = told (some (λ i. eitherTainted (b .taint) (p .left) 
     told true = doubtful
     told false =
         search-tells (λ d i. misaligned (target (b .bytes) p d i)) mask p (ScatterTells w mask p (b .bytes)) 11 _ _ (offending-first misaligned mask p (b .bytes)) (λ c lane first. misalignedPair first)
-        (search-tells (λ d i. outside w (target (b .bytes) p d i)) mask p (ScatterTells w mask p (b .bytes)) 12 _ _ (offending-first (outside w) mask p (b .bytes)) (λ c lane first. outsidePair first) done)
+        (λ even. search-tells (λ d i. outside w (target (b .bytes) p d i)) mask p (ScatterTells w mask p (b .bytes)) 12 _ _ (offending-first (outside w) mask p (b .bytes)) (λ c lane first. outsidePair even first) (λ _. done))

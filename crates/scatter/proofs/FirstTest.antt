@@ -4,7 +4,7 @@ use mathlib.Core.Bool.{Bool, true, false, cond}
 use mathlib.Core.List.{List}
 use Prim.Native.Nat.{ℕ}
 use Rattle.details.specs.declared.Detail.{Detail}
-use Rattle.details.specs.Details.{tells}
+use Rattle.details.specs.Details.{isSome}
 use Rattle.cells.specs.Buffer.{Buffer}
 use Rattle.cells.specs.Over.{some}
 use Rattle.cells.specs.Effect.{Effect, unless}
@@ -19,7 +19,7 @@ unless-number true n d e = ap (λ (x : Effect). x .number) (unless-refused true 
 unless-number false n d e = ap (λ (x : Effect). x .number) (unless-passed false n d e refl)
 
 -- a search finds a pair exactly if one offends
-pub offending-some : (fails : ℕ → Bool) (p : Plan) (lanes bytes : List ℕ) → tells (firstOffending fails p lanes bytes) ≡ some (λ c. some (λ i. fails (target bytes p c i)) lanes) (channelsOn p)
+pub offending-some : (fails : ℕ → Bool) (p : Plan) (lanes bytes : List ℕ) → isSome (firstOffending fails p lanes bytes) ≡ some (λ c. some (λ i. fails (target bytes p c i)) lanes) (channelsOn p)
 unfolding firstOffending
 offending-some fails p lanes bytes = found-some (λ c i. fails (target bytes p c i)) (channelsOn p) lanes
 

@@ -6,7 +6,7 @@ use mathlib.Core.List.{List, []}
 use Rattle.details.specs.declared.Detail.{Detail}
 use Rattle.details.specs.declared.Detail.the-variants as detail
 use Rattle.details.specs.declared.Status.{Status}
-use Rattle.details.specs.Details.{tells}
+use Rattle.details.specs.Details.{isSome}
 use Rattle.cells.specs.Buffer.{Buffer}
 use Rattle.cells.specs.Writes.{writtenAll}
 use Rattle.cells.specs.Effect.{Effect, refused, writing, MemoryDone}
@@ -31,23 +31,23 @@ module _ (w : Window) (l : Layout) (s : Pairs) (on : List Bool) (sums : List ℕ
   tainted-done b yes₀ = refusal-done _ 10 _ b (unless-refused _ 10 _ _ (sym t ∙ yes₀))
 
   -- what a search found, and whether that tells something
-  module _ (sure : tainted ≡ false) (odd : Detail) (o : odd ≡ firstBreaking rule.Aligned s on sums) (some : Bool) (told : some ≡ tells odd) where
+  module _ (sure : tainted ≡ false) (odd : Detail) (o : odd ≡ firstBreaking rule.Aligned s on sums) (some : Bool) (told : some ≡ isSome odd) where
     pub misaligned-done : (b : Buffer) → some ≡ true → MemoryDone (roomEffect w l s on sums room) (record { number = 11; detail = odd }) b b
     unfolding roomEffect
     misaligned-done b yes₁ =
-        refusal-done _ 11 odd b (unless-passed _ 10 _ _ (sym t ∙ sure) ∙ (unless-refused _ 11 _ _ (ap tells (sym o) ∙ (sym told ∙ yes₁)) ∙ ap (refused 11) (sym o)))
+        refusal-done _ 11 odd b (unless-passed _ 10 _ _ (sym t ∙ sure) ∙ (unless-refused _ 11 _ _ (ap isSome (sym o) ∙ (sym told ∙ yes₁)) ∙ ap (refused 11) (sym o)))
 
-    module _ (even : some ≡ false) (out : Detail) (f : out ≡ firstBreaking (rule.Inside (w .base) (w .length)) s on sums) (more : Bool) (known : more ≡ tells out) where
+    module _ (even : some ≡ false) (out : Detail) (f : out ≡ firstBreaking (rule.Inside (w .base) (w .length)) s on sums) (more : Bool) (known : more ≡ isSome out) where
       pub outside-done : (b : Buffer) → more ≡ true → MemoryDone (roomEffect w l s on sums room) (record { number = 12; detail = out }) b b
       unfolding roomEffect
       outside-done b yes₂ =
           refusal-done _ 12 out b
-          (unless-passed _ 10 _ _ (sym t ∙ sure) ∙ (unless-passed _ 11 _ _ (ap tells (sym o) ∙ (sym told ∙ even)) ∙ (unless-refused _ 12 _ _ (ap tells (sym f) ∙ (sym known ∙ yes₂)) ∙ ap (refused 12) (sym f))))
+          (unless-passed _ 10 _ _ (sym t ∙ sure) ∙ (unless-passed _ 11 _ _ (ap isSome (sym o) ∙ (sym told ∙ even)) ∙ (unless-refused _ 12 _ _ (ap isSome (sym f) ∙ (sym known ∙ yes₂)) ∙ ap (refused 12) (sym f))))
 
       passed : more ≡ false → roomEffect w l s on sums room ≡ writing [] (allWrites (w .base) room s on sums)
       unfolding roomEffect
       passed inside =
-          unless-passed _ 10 _ _ (sym t ∙ sure) ∙ (unless-passed _ 11 _ _ (ap tells (sym o) ∙ (sym told ∙ even)) ∙ unless-passed _ 12 _ _ (ap tells (sym f) ∙ (sym known ∙ inside)))
+          unless-passed _ 10 _ _ (sym t ∙ sure) ∙ (unless-passed _ 11 _ _ (ap isSome (sym o) ∙ (sym told ∙ even)) ∙ unless-passed _ 12 _ _ (ap isSome (sym f) ∙ (sym known ∙ inside)))
 
       pub pairs-done : (b b′ : Buffer) → more ≡ false → b′ ≡ writtenAll (allWrites (w .base) room s on sums) b → MemoryDone (roomEffect w l s on sums room) (record { number = 0; detail = detail.None }) b b′
       pairs-done b b′ inside made = same-done _ _ _ b b′ (sym (passed inside)) (refl, refl, made)

@@ -10,7 +10,7 @@ use lib.Dec.{leb}
 use lib.ListN.{length, getD}
 use borrow.Author.Tests.{leb-true, not-false}
 use Rattle.scatter.specs.Results.{EnabledPair, Later, PairsHold, place}
-use Rattle.details.specs.Details.{tells}
+use Rattle.details.specs.Details.{isSome}
 use Rattle.cells.specs.Buffer.{Buffer, isTainted, markOf}
 use Rattle.cells.specs.Writes.{Write, writtenAll}
 use Rattle.cells.specs.Over.{among, each, some}
@@ -107,8 +107,8 @@ module _ (w : Window) (mask : ℕ) (p : Plan) (registers : Buffer) where
       unfolding scatterEffect
       tests =
           let first = unless-done (some (λ i. eitherTainted (registers .taint) (p .left) (p .right) i) lanes) 10 _ _ (omega arith) passed in
-          let second = unless-done (tells (firstOffending misaligned p lanes (registers .bytes))) 11 _ _ (omega arith) (first .1) in
-          let third = unless-done (tells (firstOffending (outside w) p lanes (registers .bytes))) 12 _ _ (omega arith) (second .1) in
+          let second = unless-done (isSome (firstOffending misaligned p lanes (registers .bytes))) 11 _ _ (omega arith) (first .1) in
+          let third = unless-done (isSome (firstOffending (outside w) p lanes (registers .bytes))) 12 _ _ (omega arith) (second .1) in
           (ap (λ (e : Effect). e .memory) (unless-passed _ 10 _ _ (first .0) ∙ (unless-passed _ 11 _ _ (second .0) ∙ unless-passed _ 12 _ _ (third .0))), sym (offending-some (outside w) p lanes (registers .bytes)) ∙ third .0)
 
       pair-inside : (c lane : ℕ) → EnabledPair mask p c lane → Room memory (place w p registers c lane) 4

@@ -17,7 +17,7 @@ module _ (mask : ℕ) (p : Plan) (offends : ℕ → ℕ → Bool) where
     pub offending : offends c lane ≡ true
     pub before : (d other : ℕ) → EnabledPair mask p d other → Later d other c lane → offends d other ≡ false
 
-  -- what is told of a search over all enabled pairs: the first that offends, or nothing where none does
+  -- what a search over all enabled pairs finds: the first that offends, or nothing where none does
   pub data Searched : Detail → Type 0 where
     found : {c lane : ℕ} → IsFirst c lane → Searched (detail.Pair c lane)
     clear : ((c lane : ℕ) → EnabledPair mask p c lane → offends c lane ≡ false) → Searched detail.None
@@ -28,4 +28,5 @@ module _ (w : Window) (mask : ℕ) (p : Plan) (bytes : List ℕ) where
     done : ScatterTells 0 detail.None
     doubtful : ScatterTells 10 detail.None
     misalignedPair : {c lane : ℕ} → IsFirst mask p (λ d i. misaligned (target bytes p d i)) c lane → ScatterTells 11 (detail.Pair c lane)
-    outsidePair : {c lane : ℕ} → IsFirst mask p (λ d i. outside w (target bytes p d i)) c lane → ScatterTells 12 (detail.Pair c lane)
+    -- "11 over all; 12 over all": no enabled pair is misaligned
+    outsidePair : {c lane : ℕ} → ((d i : ℕ) → EnabledPair mask p d i → misaligned (target bytes p d i) ≡ false) → IsFirst mask p (λ d i. outside w (target bytes p d i)) c lane → ScatterTells 12 (detail.Pair c lane)

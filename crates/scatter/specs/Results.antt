@@ -18,7 +18,7 @@ pub record EnabledPair (mask : ℕ) (p : Plan) (c lane : ℕ) : Type 0 where
   pub channel-on : bit (p .channels) c ≡ true
   pub lane-on : Enabled mask p lane
 
--- "c outer, i inner"
+-- "c outer, i inner": the second pair is the later
 abbrev pub Later : ℕ → ℕ → ℕ → ℕ → Type 0
 Later c lane d other = (c < d) ⊎ ((c ≡ d) × (lane < other))
 

@@ -341,7 +341,7 @@ fn from_room(
         };
     }
     let misaligned = first_breaking(Rule::Aligned, pairs, on, sums);
-    if details::tells(misaligned) {
+    if details::is_some(misaligned) {
         return Status {
             number: 11,
             detail: misaligned,
@@ -349,7 +349,7 @@ fn from_room(
     }
     let inside = Rule::Inside(base, memory.len() as u64);
     let outside = first_breaking(inside, pairs, on, sums);
-    if details::tells(outside) {
+    if details::is_some(outside) {
         return Status {
             number: 12,
             detail: outside,

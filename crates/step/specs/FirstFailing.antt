@@ -1,6 +1,7 @@
 -- The number of the first test that an instruction fails, 0 where it fails none. Document 01, "The numbers given back": "Each number is given
 -- exactly then, and the earliest in this order stands. .. Decoding needs no tables and goes by field .. A run then tests 8; predicate 5;
--- surface 5; each operand in order 5, 4 (type), 6, 7; 9; 10 over all lanes; 11 over all; 12 over all."
+-- surface 5; each operand in order 5, 4 (type), 6, 7; 9; 10 over all lanes; 11 over all; 12 over all." In the place of 6 stand 20 to 25 (document 02,
+-- request 2).
 use Prim.Native.Nat.{ℕ, zero, suc}
 use mathlib.Core.Bool.{Bool, cond}
 use lib.ListN.{length}
@@ -39,7 +40,7 @@ dataTests x (instruction.Scatter i) p s =
     cond (someDoubtful x p s) 10 (cond (somePair x p s misaligned) 11 (cond (somePair x p s (outside (window x s))) 12 0))
 dataTests x (instruction.RawSend i) p s = 0
 
--- decoding's number; else that of the tests before data, 8 to 9 (`checked`); else that of the tests of data
+-- decoding's number; else that of the tests before data, from 8 up to RAW_SEND's 9 (`checked`); else that of the tests of data
 unfoldable pub firstFailing : Setup → ℕ → State → ℕ
 firstFailing x at s =
     onReply (instructionAt (x .kernel) at)

@@ -8,7 +8,7 @@ use Rattle.reader.specs.Reply.{refused, got}
 use Rattle.decoder.specs.declared.Instruction.{Instruction}
 use Rattle.decoder.specs.Decoding.{instructionAt}
 use Rattle.plan.specs.Checked.{checked}
-use Rattle.plan.specs.Places.{operandsOf, Names}
+use Rattle.plan.specs.Places.{NamesOf}
 use Rattle.scatter.specs.Offending.{ScatterTells}
 use Rattle.step.specs.State.{Setup, State}
 use Rattle.step.specs.FirstFailing.{window}
@@ -17,8 +17,8 @@ module _ (x : Setup) (at : ℕ) (s : State) where
   pub data Tells : ℕ → Detail → Type 0 where
     -- decoding's numbers tell nothing
     undecoded : {n : ℕ} → instructionAt (x .kernel) at ≡ refused n → Tells n detail.None
-    -- those of the tests before data name the refused operand, or none
-    tested : {i : Instruction} {next n : ℕ} → instructionAt (x .kernel) at ≡ got i next → checked (x .tables) i .number ≡ suc n → Names 1 (operandsOf (x .tables) i) (checked (x .tables) i)
+    -- those of the tests before data name the operand that its region refuses, by its own rule, or none
+    tested : {i : Instruction} {next n : ℕ} → instructionAt (x .kernel) at ≡ got i next → checked (x .tables) i .number ≡ suc n → NamesOf (x .tables) i (checked (x .tables) i)
         → Tells (suc n) (checked (x .tables) i .detail)
     -- those of the tests of data name the first pair, or none
     performed : {i : Instruction} {next n : ℕ} {d : Detail} → instructionAt (x .kernel) at ≡ got i next → checked (x .tables) i .number ≡ 0

@@ -17,7 +17,7 @@ pub record NoMarks (s : State) : Type 0 where
 abbrev pub plainly : Setup → State → Outcome
 plainly x s = plainRun x (s .registers .bytes) (s .surfaces .bytes) (s .memory .bytes)
 
--- the same number, completed instructions and position, and the same told, and the same bytes
+-- the same number, completed instructions, position and detail, and the same bytes
 pub record SameAnswerAndBytes (r q : Outcome) : Type 0 where
   pub answer : r .answer ≡ q .answer
   pub registers : r .state .registers .bytes ≡ q .state .registers .bytes

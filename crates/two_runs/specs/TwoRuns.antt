@@ -18,7 +18,7 @@ pub record Agrees (s u : State) : Type 0 where
   pub surfaces : Agree (s .surfaces) (u .surfaces)
   pub memory : Agree (s .memory) (u .memory)
 
--- the same number, completed instructions and position, and the same told, and states that agree at the end
+-- the same number, completed instructions, position and detail, and states that agree at the end
 pub record SameRun (r q : Outcome) : Type 0 where
   pub answer : r .answer ≡ q .answer
   pub state : Agrees (r .state) (q .state)

@@ -1,4 +1,4 @@
--- What is put to a buffer's start after some calls that read.
+-- What is put to a buffer's start after some calls that read; `part-answers` (`proofs/AnswersLaws.antt`) makes it the `Answers` of a program.
 use mathlib.Core.List.{List}
 use Prim.Native.Nat.{ℕ}
 use Rattle.input.specs.Calls.{Call, Possible}

@@ -12,7 +12,7 @@ returns c =
     let a = c .before in
     let b = a .before .before in
     let d = b .before in
-    rw (← d .elements-needed .ensures, ← b .locate-vector .ensures, lt-ltb _ _ (a .if1 .taken)) (c .refused-operand .ensures)
+    rw (← d .elements-needed .ensures, ← b .locate-vector .ensures, lt-ltb _ _ (a .if1 .taken)) (c .refused-at .ensures)
 
 returns-2 : tie.Need-returns-2
 unfolding checkedGatherOperands gatherOffset gatherElementOffset gatherDst tested
@@ -22,7 +22,7 @@ returns-2 c =
     let d = b .before in
     let e = d .before .before in
     let f = e .before in
-    rw (← f .elements-needed .ensures, ← e .locate-vector .ensures, le-ltb _ _ (d .if1 .left), ← b .locate-raw .ensures, lt-ltb _ _ (a .if2 .taken)) (c .refused-operand2 .ensures)
+    rw (← f .elements-needed .ensures, ← e .locate-vector .ensures, le-ltb _ _ (d .if1 .left), ← b .locate-raw .ensures, lt-ltb _ _ (a .if2 .taken)) (c .refused-at2 .ensures)
 
 returns-3 : tie.Need-returns-3
 unfolding checkedGatherOperands gatherOffset gatherElementOffset gatherDst tested
@@ -34,7 +34,7 @@ returns-3 c =
     let f = e .before in
     let g = f .before .before in
     let h = g .before in
-    rw (← h .elements-needed .ensures, ← g .locate-vector .ensures, le-ltb _ _ (f .if1 .left), ← e .locate-raw .ensures, le-ltb _ _ (d .if2 .left), ← b .locate-raw2 .ensures, lt-ltb _ _ (a .if3 .taken)) (c .refused-operand3 .ensures)
+    rw (← h .elements-needed .ensures, ← g .locate-vector .ensures, le-ltb _ _ (f .if1 .left), ← e .locate-raw .ensures, le-ltb _ _ (d .if2 .left), ← b .locate-raw2 .ensures, lt-ltb _ _ (a .if3 .taken)) (c .refused-at3 .ensures)
 
 returns-4 : tie.Need-returns-4
 unfolding checkedGatherOperands gatherOffset gatherElementOffset gatherDst tested

@@ -11,7 +11,7 @@ unfolding checkedScatter scatterAddress scatterElementOffset scatterSrc tested
 returns c =
     let a = c .before in
     let b = a .before .before in
-    rw (← b .locate-vector .ensures, lt-ltb _ _ (a .if1 .taken)) (c .refused-operand .ensures)
+    rw (← b .locate-vector .ensures, lt-ltb _ _ (a .if1 .taken)) (c .refused-at .ensures)
 
 returns-2 : tie.Need-returns-2
 unfolding checkedScatter scatterAddress scatterElementOffset scatterSrc tested
@@ -21,7 +21,7 @@ returns-2 c =
     let d = b .before in
     let e = d .before in
     let f = e .before .before in
-    rw (← f .locate-vector .ensures, le-ltb _ _ (e .if1 .left), ← d .elements-needed .ensures, ← b .locate-raw .ensures, lt-ltb _ _ (a .if2 .taken)) (c .refused-operand2 .ensures)
+    rw (← f .locate-vector .ensures, le-ltb _ _ (e .if1 .left), ← d .elements-needed .ensures, ← b .locate-raw .ensures, lt-ltb _ _ (a .if2 .taken)) (c .refused-at2 .ensures)
 
 returns-3 : tie.Need-returns-3
 unfolding checkedScatter scatterAddress scatterElementOffset scatterSrc tested
@@ -34,7 +34,7 @@ returns-3 c =
     let g = f .before in
     let h = g .before in
     let i = h .before .before in
-    rw (← i .locate-vector .ensures, le-ltb _ _ (h .if1 .left), ← g .elements-needed .ensures, ← f .locate-raw .ensures, le-ltb _ _ (e .if2 .left), ← d .scatter-needed .ensures, ← b .locate-raw2 .ensures, lt-ltb _ _ (a .if3 .taken)) (c .refused-operand3 .ensures)
+    rw (← i .locate-vector .ensures, le-ltb _ _ (h .if1 .left), ← g .elements-needed .ensures, ← f .locate-raw .ensures, le-ltb _ _ (e .if2 .left), ← d .scatter-needed .ensures, ← b .locate-raw2 .ensures, lt-ltb _ _ (a .if3 .taken)) (c .refused-at3 .ensures)
 
 returns-4 : tie.Need-returns-4
 unfolding checkedScatter scatterAddress scatterElementOffset scatterSrc tested

@@ -11,7 +11,7 @@ unfolding checkedShl shlDst shlSrc0 shlSrc1 tested
 returns c =
     let a = c .before in
     let b = a .before .before in
-    rw (← b .locate-vector .ensures, lt-ltb _ _ (a .if1 .taken)) (c .refused-operand .ensures)
+    rw (← b .locate-vector .ensures, lt-ltb _ _ (a .if1 .taken)) (c .refused-at .ensures)
 
 returns-2 : tie.Need-returns-2
 unfolding checkedShl shlDst shlSrc0 shlSrc1 tested
@@ -20,7 +20,7 @@ returns-2 c =
     let b = a .before .before in
     let d = b .before in
     let e = d .before .before in
-    rw (← e .locate-vector .ensures, le-ltb _ _ (d .if1 .left), ← b .locate-vector2 .ensures, lt-ltb _ _ (a .if2 .taken)) (c .refused-operand2 .ensures)
+    rw (← e .locate-vector .ensures, le-ltb _ _ (d .if1 .left), ← b .locate-vector2 .ensures, lt-ltb _ _ (a .if2 .taken)) (c .refused-at2 .ensures)
 
 returns-3 : tie.Need-returns-3
 unfolding checkedShl shlDst shlSrc0 shlSrc1 tested
@@ -31,7 +31,7 @@ returns-3 c =
     let e = d .before .before in
     let f = e .before in
     let g = f .before .before in
-    rw (← g .locate-vector .ensures, le-ltb _ _ (f .if1 .left), ← e .locate-vector2 .ensures, le-ltb _ _ (d .if2 .left), ← b .locate-vector3 .ensures, lt-ltb _ _ (a .if3 .taken)) (c .refused-operand3 .ensures)
+    rw (← g .locate-vector .ensures, le-ltb _ _ (f .if1 .left), ← e .locate-vector2 .ensures, le-ltb _ _ (d .if2 .left), ← b .locate-vector3 .ensures, lt-ltb _ _ (a .if3 .taken)) (c .refused-at3 .ensures)
 
 returns-4 : tie.Need-returns-4
 unfolding checkedShl shlDst shlSrc0 shlSrc1 tested

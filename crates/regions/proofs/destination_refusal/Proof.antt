@@ -23,22 +23,22 @@ returns-2 c =
 returns-3 : tie.Need-returns-3
 unfolding regionRefusal firstBroken widthZeroOr32 strideOverFour widthOverExecSize destinationStrideZero nullOutOfPlace verticalCode widthCode horizontalCode
 returns-3 c =
-    let h : tie.After-is-stride = search c in
+    let h : tie.After-is-number = search c in
     let some : tie.Else2 = search h in
     let zero : tie.After-stands-for = search some in
     let four : tie.Else1 = search zero in
     let horizontal : tie.After-stride-of = search four in
-    rw (← horizontal .stride-of .ensures, le-ltb _ _ (four .if1 .left), ← zero .stands-for .ensures, some .if2 .left, ← h .is-stride .ensures, c .if3 .taken)
+    rw (← horizontal .stride-of .ensures, le-ltb _ _ (four .if1 .left), ← zero .stands-for .ensures, some .if2 .left, ← h .is-number .ensures, c .if3 .taken)
 
 returns-4 : tie.Need-returns-4
 unfolding regionRefusal firstBroken widthZeroOr32 strideOverFour widthOverExecSize destinationStrideZero nullOutOfPlace scalarRegionWrong verticalCode widthCode horizontalCode
 returns-4 c =
-    let h : tie.After-is-stride = search c in
+    let h : tie.After-is-number = search c in
     let some : tie.Else2 = search h in
     let zero : tie.After-stands-for = search some in
     let four : tie.Else1 = search zero in
     let horizontal : tie.After-stride-of = search four in
-    rw (← horizontal .stride-of .ensures, le-ltb _ _ (four .if1 .left), ← zero .stands-for .ensures, some .if2 .left, ← h .is-stride .ensures, c .if3 .left)
+    rw (← horizontal .stride-of .ensures, le-ltb _ _ (four .if1 .left), ← zero .stands-for .ensures, some .if2 .left, ← h .is-number .ensures, c .if3 .left)
 
 pub destination-refusal-spec : {M : Type 1} → statement M
 destination-refusal-spec = tie.close (tie.spec (λ c κs. search needs) returns (λ c κs. search needs) returns-2 (λ c κs. search needs) returns-3 returns-4)

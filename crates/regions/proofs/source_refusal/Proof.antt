@@ -36,9 +36,9 @@ returns-3 c =
 returns-4 : tie.Need-returns-4
 unfolding regionRefusal firstBroken widthZeroOr32 strideOverFour widthOverExecSize destinationStrideZero nullOutOfPlace verticalCode widthCode horizontalCode
 returns-4 c =
-    let h : tie.After-is-stride3 = search c in
-    let w : tie.After-is-stride2 = search h in
-    let v : tie.After-is-stride = search w in
+    let h : tie.After-is-number3 = search c in
+    let w : tie.After-is-number2 = search h in
+    let v : tie.After-is-number = search w in
     let narrow : tie.Else3 = search v in
     let over : tie.After-stride-of2 = search narrow in
     let four : tie.Else2 = search over in
@@ -46,14 +46,14 @@ returns-4 c =
     let width : tie.Else1 = search horizontal in
     let second : tie.After-stands-for2 = search width in
     let first : tie.After-stands-for = search second in
-    rw (← first .stands-for .ensures, ← second .stands-for2 .ensures, width .if1 .left, ← horizontal .stride-of .ensures, le-ltb _ _ (four .if2 .left), ← over .stride-of2 .ensures, le-ltb _ _ (narrow .if3 .left), ← v .is-stride .ensures, ← w .is-stride2 .ensures, ← h .is-stride3 .ensures, c .if4 .taken)
+    rw (← first .stands-for .ensures, ← second .stands-for2 .ensures, width .if1 .left, ← horizontal .stride-of .ensures, le-ltb _ _ (four .if2 .left), ← over .stride-of2 .ensures, le-ltb _ _ (narrow .if3 .left), ← v .is-number .ensures, ← w .is-number2 .ensures, ← h .is-number3 .ensures, c .if4 .taken)
 
 returns-5 : tie.Need-returns-5
 unfolding regionRefusal firstBroken widthZeroOr32 strideOverFour widthOverExecSize destinationStrideZero nullOutOfPlace scalarRegionWrong verticalCode widthCode horizontalCode
 returns-5 c =
-    let h : tie.After-is-stride3 = search c in
-    let w : tie.After-is-stride2 = search h in
-    let v : tie.After-is-stride = search w in
+    let h : tie.After-is-number3 = search c in
+    let w : tie.After-is-number2 = search h in
+    let v : tie.After-is-number = search w in
     let narrow : tie.Else3 = search v in
     let over : tie.After-stride-of2 = search narrow in
     let four : tie.Else2 = search over in
@@ -61,7 +61,7 @@ returns-5 c =
     let width : tie.Else1 = search horizontal in
     let second : tie.After-stands-for2 = search width in
     let first : tie.After-stands-for = search second in
-    rw (← first .stands-for .ensures, ← second .stands-for2 .ensures, width .if1 .left, ← horizontal .stride-of .ensures, le-ltb _ _ (four .if2 .left), ← over .stride-of2 .ensures, le-ltb _ _ (narrow .if3 .left), ← v .is-stride .ensures, ← w .is-stride2 .ensures, ← h .is-stride3 .ensures, c .if4 .left)
+    rw (← first .stands-for .ensures, ← second .stands-for2 .ensures, width .if1 .left, ← horizontal .stride-of .ensures, le-ltb _ _ (four .if2 .left), ← over .stride-of2 .ensures, le-ltb _ _ (narrow .if3 .left), ← v .is-number .ensures, ← w .is-number2 .ensures, ← h .is-number3 .ensures, c .if4 .left)
 
 pub source-refusal-spec : {M : Type 1} → statement M
 source-refusal-spec =

@@ -8,8 +8,8 @@ returns : tie.Need-returns
 unfolding standsFor
 returns c =
     let stride : tie.After-stride-of = search c in
-    let listed : tie.After-is-stride = search stride in
-    rw (← listed .is-stride .ensures, ← stride .stride-of .ensures)
+    let listed : tie.After-is-number = search stride in
+    rw (← listed .is-number .ensures, ← stride .stride-of .ensures)
 
 pub stands-for-spec : {M : Type 1} → statement M
 stands-for-spec = tie.close (tie.spec (λ c κs. search needs) (λ c κs. search needs) returns)

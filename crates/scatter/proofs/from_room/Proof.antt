@@ -13,14 +13,14 @@ returns-2 c =
     let t : tie.After-some-tainted = search o in
     let start : tie.Start = search t in
     let a = start .args in
-    misaligned-done _ _ (a .pairs) (a .on .now) (a .sums .now) _ _ (t .some-tainted .ensures) (o .before .if1 .left) _ (o .first-breaking .ensures) _ (c .before .tells .ensures) _ (c .if2 .taken)
+    misaligned-done _ _ (a .pairs) (a .on .now) (a .sums .now) _ _ (t .some-tainted .ensures) (o .before .if1 .left) _ (o .first-breaking .ensures) _ (c .before .is-some .ensures) _ (c .if2 .taken)
 
 returns-3 : tie.Need-returns-3
 returns-3 c =
     let f : tie.After-first-breaking2 = search c in
     let o : tie.After-first-breaking = search f in
     let t : tie.After-some-tainted = search o in
-    outside-done _ _ _ _ _ _ _ (t .some-tainted .ensures) (o .before .if1 .left) _ (o .first-breaking .ensures) _ (f .before .before .tells .ensures) (f .before .if2 .left) _ (f .first-breaking2 .ensures) _ (c .before .tells2 .ensures) _ (c .if3 .taken)
+    outside-done _ _ _ _ _ _ _ (t .some-tainted .ensures) (o .before .if1 .left) _ (o .first-breaking .ensures) _ (f .before .before .is-some .ensures) (f .before .if2 .left) _ (f .first-breaking2 .ensures) _ (c .before .is-some2 .ensures) _ (c .if3 .taken)
 
 returns-4 : tie.Need-returns-4
 returns-4 c =
@@ -29,7 +29,7 @@ returns-4 c =
     let f : tie.After-first-breaking2 = search inside in
     let o : tie.After-first-breaking = search f in
     let t : tie.After-some-tainted = search o in
-    pairs-done _ _ _ _ _ _ _ (t .some-tainted .ensures) (o .before .if1 .left) _ (o .first-breaking .ensures) _ (f .before .before .tells .ensures) (f .before .if2 .left) _ (f .first-breaking2 .ensures) _ (inside .before .tells2 .ensures) _ _ (inside .if3 .left) (w .write-pairs .ensures)
+    pairs-done _ _ _ _ _ _ _ (t .some-tainted .ensures) (o .before .if1 .left) _ (o .first-breaking .ensures) _ (f .before .before .is-some .ensures) (f .before .if2 .left) _ (f .first-breaking2 .ensures) _ (inside .before .is-some2 .ensures) _ _ (inside .if3 .left) (w .write-pairs .ensures)
 
 pub from-room-spec : {M : Type 1} → statement M
 from-room-spec = tie.close (tie.spec (λ c κs. search needs) returns (λ c κs. search needs) (λ c κs. search needs) returns-2 (λ c κs. search needs) (λ c κs. search needs) returns-3 (λ c κs. search needs) (λ c. search needs) (λ c. search needs) returns-4)
