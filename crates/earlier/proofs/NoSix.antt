@@ -8,7 +8,7 @@ use lib.ListN.{length}
 use borrow.Author.Tests.{le-leb, eqb-true}
 use Rattle.details.specs.declared.Detail.{Detail}
 use Rattle.details.specs.declared.Detail.the-variants as detail
-use Rattle.details.specs.Details.{namesOperand, operandDetail}
+use Rattle.details.specs.Details.{namesOperand}
 use Rattle.element_types.specs.Types.{sizeOf}
 use Rattle.channels.specs.Exec.{execSize, execOffset}
 use Rattle.channels.specs.Predicate.{hasPredicate, predicateId}
@@ -17,7 +17,6 @@ use Rattle.tables.specs.Predicates.{Predicates}
 use Rattle.tables.specs.Variables.{Variables}
 use Rattle.field_groups.specs.declared.Control.{Control}
 use Rattle.field_groups.specs.declared.Immediate.{Immediate}
-use Rattle.field_groups.specs.declared.Operand.{Operand}
 use Rattle.field_groups.specs.declared.Operand.the-variants as kind
 use Rattle.decoder.specs.declared.Instruction.{Instruction}
 use Rattle.decoder.specs.declared.Instruction.the-variants as instruction

@@ -1,5 +1,5 @@
 -- 20 to 25 turned back into 6 are the numbers with document 01's one rule: of a region, of an operand, of all tests before data.
-use Prim.Native.Nat.{ℕ, zero, suc, _+_, _*_, _^_}
+use Prim.Native.Nat.{ℕ, zero, suc}
 use mathlib.Core.Path.{_≡_, refl, sym, ap, _∙_}
 use mathlib.Core.Bool.{Bool, true, false, cond, not, _&&_}
 use mathlib.Core.List.{List, [], _∷_}
@@ -22,19 +22,15 @@ use Rattle.tables.specs.Variables.{Variables}
 use Rattle.decoder.specs.declared.Instruction.{Instruction}
 use Rattle.decoder.specs.declared.Instruction.the-variants as instruction
 use Rattle.regions.specs.declared.Role.{Role}
-use Rattle.regions.specs.declared.Role.the-variants as role
-use Rattle.regions.specs.declared.Variable.{Variable}
 use Rattle.regions.specs.Regions.{regionAllowed, elementOf}
-use Rattle.regions.specs.RegionRules.{widthZeroOr32, strideOverFour, widthOverExecSize, destinationStrideZero, nullOutOfPlace, scalarRegionWrong, firstBroken, regionRefusal}
+use Rattle.regions.specs.RegionRules.{regionRefusal}
 use Rattle.regions.specs.Reach.{elementsGood}
-use Rattle.regions.specs.Positions.{elementByte}
 use Rattle.regions.proofs.SplitLaws.{split-refuses, unbroken-allowed}
 use Rattle.operands.specs.declared.TypeRule.{TypeRule}
 use Rattle.operands.specs.declared.Located.{Located}
 use Rattle.operands.specs.Allowed.{typeAllowed}
 use Rattle.operands.specs.Variables.{inTable, variableAt}
-use Rattle.operands.specs.Elements.{registerElements, immediateElement, refusedOperand}
-use Rattle.operands.specs.Operands.{generalOf, locatedGeneral, immediateOf, locatedImmediate, locatedVector, rawGood, rawOf, locatedRaw}
+use Rattle.operands.specs.Operands.{locatedVector, locatedRaw}
 use Rattle.plan.specs.declared.Plan.{Plan}
 use Rattle.plan.specs.Control.{controlOf, controlRefusal, predicateBits}
 use Rattle.plan.specs.Plans.{refusedPlan, tested, testedFrom, shlPlan, gatherPlan, scatterPlan}

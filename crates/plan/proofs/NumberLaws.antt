@@ -1,6 +1,6 @@
 -- The numbers of operands: 20 to 25 are those of a region's rules, and 5, 4 and 7 are none of them; 6 is never given.
 use Prim.Native.Nat.{ℕ, _+_, _*_, _^_}
-use mathlib.Core.Path.{_≡_, refl, sym, ap, subst, _∙_}
+use mathlib.Core.Path.{_≡_, refl, sym, ap, _∙_}
 use mathlib.Core.Bool.{Bool, true, false, cond, not, false≢true}
 use lib.Dec.{ltb}
 use Rattle.element_types.specs.Types.{sizeOf}
@@ -17,7 +17,6 @@ use Rattle.regions.specs.declared.Variable.{Variable}
 use Rattle.regions.specs.Regions.{elementOf}
 use Rattle.regions.specs.RegionRules.{widthZeroOr32, strideOverFour, widthOverExecSize, destinationStrideZero, nullOutOfPlace, scalarRegionWrong, firstBroken, regionRefusal}
 use Rattle.regions.specs.Reach.{elementsGood}
-use Rattle.regions.specs.Positions.{elementByte}
 use Rattle.operands.specs.declared.TypeRule.{TypeRule}
 use Rattle.operands.specs.declared.Located.{Located}
 use Rattle.operands.specs.Allowed.{typeAllowed}
