@@ -138,4 +138,3 @@ unfolding checked numberBefore
 checked-before t i =
     tested-before (controlRefusal (t .predicates) (controlOf i)) _ _ (surfaceNumber t i ∷ operandNumbers (t .variables) i) (lastNumber i) (instruction-before t (predicateBits (t .predicates) (controlOf i .pred)) i)
     ∙ ap (λ (n : ℕ). firstRefusal (n ∷ surfaceNumber t i ∷ operandNumbers (t .variables) i) (lastNumber i)) (stays _ (control-unnamed (t .predicates) (controlOf i)))
-
