@@ -6,7 +6,7 @@ use mathlib.Core.List.{List, []}
 use Prim.Native.Nat.{ℕ}
 use Rattle.input.specs.Calls.{Call, Possible, textOf, endedBy}
 
--- the case file's output, that of the text that the calls gave, if they met the input's end; otherwise, as after a read that failed, nothing
+-- what is to be put out for the text that the calls gave, if they met the input's end; otherwise, as after a read that failed, nothing
 unfoldable pub programOutput : (List ℕ → List ℕ) → List Call → List ℕ
 programOutput output calls = cond (endedBy calls) (output (textOf calls)) []
 

@@ -2,7 +2,7 @@
 use Prim.Native.Nat.{ℕ, suc, _+_, _*_, _^_, _≤_}
 use mathlib.Core.Path.{_≡_, refl, sym, ap, subst, _∙_}
 use mathlib.Core.Bool.{Bool, true, false, cond, not, true≢false, _&&_, _||_}
-use mathlib.Core.List.{List, [], _∷_}
+use mathlib.Core.List.{List, [], _∷_, map}
 use lib.Dec.{ltb, leb, eqb}
 use lib.ListN.{length}
 use borrow.Author.Tests.{le-leb, eqb-true}
@@ -26,7 +26,6 @@ use Rattle.regions.specs.Regions.{elementOf}
 use Rattle.regions.specs.RegionRules.{regionRefusal}
 use Rattle.regions.specs.Reach.{elementsGood}
 use Rattle.operands.specs.declared.TypeRule.{TypeRule}
-use Rattle.operands.specs.declared.Located.{Located}
 use Rattle.operands.specs.Allowed.{typeAllowed}
 use Rattle.operands.specs.Variables.{inTable, variableAt}
 use Rattle.operands.specs.Elements.{immediateElement, refusedOperand}
@@ -110,11 +109,7 @@ module _ (t : Variables) (exec : ℕ) where
       told true = here
       told false = later
 
-  abbrev allLocated : List Asked → List Located
-  allLocated [] = []
-  allLocated (o ∷ os) = located t exec o ∷ allLocated os
-
-  operands-given : (place : ℕ) (os : List Asked) (next : Plan) → isGiven (next .number) ≡ true → isGiven (testedFrom place (allLocated os) next .number) ≡ true
+  operands-given : (place : ℕ) (os : List Asked) (next : Plan) → isGiven (next .number) ≡ true → isGiven (testedFrom place (map (located t exec) os) next .number) ≡ true
   operands-given place [] next last = last
   operands-given place (o ∷ os) next last = tested-given _ _ _ (operand-given o) (operands-given (suc place) os next last)
 

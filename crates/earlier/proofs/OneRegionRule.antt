@@ -2,7 +2,7 @@
 use Prim.Native.Nat.{ℕ, zero, suc}
 use mathlib.Core.Path.{_≡_, refl, sym, ap, _∙_}
 use mathlib.Core.Bool.{Bool, true, false, cond, not, _&&_}
-use mathlib.Core.List.{List, [], _∷_}
+use mathlib.Core.List.{List, [], _∷_, map}
 use native.Mathlib.Omega.{arith}
 use lib.Dec.{ltb, leb}
 use lib.ListN.{length}
@@ -10,13 +10,13 @@ use borrow.Author.Tests.{ltb-true, lt-ltb, ne-eqb}
 use Rattle.element_types.specs.Types.{sizeOf}
 use Rattle.details.specs.declared.Detail.{Detail}
 use Rattle.details.specs.declared.Detail.the-variants as detail
-use Rattle.details.specs.Details.{namesOperand, operandDetail}
+use Rattle.details.specs.Details.{namesOperand}
 use Rattle.channels.specs.Exec.{execSize}
 use Rattle.field_groups.specs.declared.General.{General}
 use Rattle.field_groups.specs.declared.Immediate.{Immediate}
 use Rattle.field_groups.specs.declared.Raw.{Raw}
 use Rattle.field_groups.specs.declared.Operand.{Operand}
-use Rattle.field_groups.specs.declared.Operand.the-variants as vector
+use Rattle.field_groups.specs.declared.Operand.the-variants as kind
 use Rattle.tables.specs.Tables.{Tables}
 use Rattle.tables.specs.Variables.{Variables}
 use Rattle.decoder.specs.declared.Instruction.{Instruction}
@@ -27,7 +27,6 @@ use Rattle.regions.specs.RegionRules.{regionRefusal}
 use Rattle.regions.specs.Reach.{elementsGood}
 use Rattle.regions.proofs.SplitLaws.{split-refuses, unbroken-allowed}
 use Rattle.operands.specs.declared.TypeRule.{TypeRule}
-use Rattle.operands.specs.declared.Located.{Located}
 use Rattle.operands.specs.Allowed.{typeAllowed}
 use Rattle.operands.specs.Variables.{inTable, variableAt}
 use Rattle.operands.specs.Operands.{locatedVector, locatedRaw}
@@ -35,9 +34,10 @@ use Rattle.plan.specs.declared.Plan.{Plan}
 use Rattle.plan.specs.Control.{controlOf, controlRefusal, predicateBits}
 use Rattle.plan.specs.Plans.{refusedPlan, tested, testedFrom, shlPlan, gatherPlan, scatterPlan}
 use Rattle.plan.specs.Checked.{shlDst, shlSrc0, shlSrc1, checkedShl, gatherOffset, gatherElementOffset, gatherDst, checkedGatherOperands, surfacePart, checkedGather, scatterAddress, scatterElementOffset, scatterSrc, checkedScatter, sendDesc, sendSrc, sendDst, checkedSend, checkedOperands, checked}
+use Rattle.plan.specs.Places.{Asked, vector, raw, located, operandsOf}
 use Rattle.plan.proofs.NumberLaws.{region-named, firstOfGeneral, general-number, located-immediate-unnamed, raw-unnamed}
 use Rattle.plan.proofs.PlaceLaws.{control-unnamed}
-use Rattle.earlier.specs.OneRegionRule.{generalNumber, vectorNumber, firstRefusal, operandNumbers, surfaceNumber, lastNumber, numberBefore, asBefore}
+use Rattle.earlier.specs.OneRegionRule.{generalNumber, vectorNumber, firstRefusal, operandNumbers, askedNumber, surfaceNumber, lastNumber, numberBefore, asBefore}
 
 -- ---- numbers
 
@@ -84,22 +84,21 @@ general-cases true true n allowed inside six refused good = told (ltb 0 n) refl
 
 vector-before : (t : Variables) (r : Role) (k : TypeRule) (exec : ℕ) (x : Operand) → asBefore (locatedVector t r k exec x .number) ≡ vectorNumber t r k exec x
 unfolding vectorNumber generalNumber locatedVector
-vector-before t r k exec (vector.General g) =
+vector-before t r k exec (kind.General g) =
     let v = variableAt t (g .index) in
     ap asBefore (general-number t r k exec g)
     ∙ general-cases (inTable t (g .index)) (typeAllowed k (v .code)) (regionRefusal r (g .region) (execSize exec)) (regionAllowed r (g .region) (execSize exec)) (elementsGood v (elementOf r g (sizeOf (v .code))) (execSize exec))
     (broken-six r (g .region) (execSize exec)) (broken-refused r (g .region) (execSize exec)) (unbroken-allowed r (g .region) (execSize exec))
-vector-before t r k exec (vector.Immediate i) = stays _ (located-immediate-unnamed r k i)
+vector-before t r k exec (kind.Immediate i) = stays _ (located-immediate-unnamed r k i)
 
 raw-before : (t : Variables) (k : TypeRule) (bytes : ℕ) (x : Raw) → asBefore (locatedRaw t k bytes x .number) ≡ locatedRaw t k bytes x .number
 raw-before t k bytes x = stays _ (raw-unnamed t k bytes x)
 
 -- ---- all tests before data
 
--- in the numbers of before
-abbrev numbersBefore : List Located → List ℕ
-numbersBefore [] = []
-numbersBefore (l ∷ ls) = asBefore (l .number) ∷ numbersBefore ls
+operand-before : (t : Variables) (exec : ℕ) (o : Asked) → asBefore (located t exec o .number) ≡ askedNumber t exec o
+operand-before t exec (vector r k x) = vector-before t r k exec x
+operand-before t exec (raw k bytes x) = raw-before t k bytes x
 
 tested-before : (n : ℕ) (d : Detail) (next : Plan) (ns : List ℕ) (last : ℕ) → asBefore (next .number) ≡ firstRefusal ns last → asBefore (tested n d next .number) ≡ firstRefusal (asBefore n ∷ ns) last
 unfolding tested refusedPlan
@@ -109,29 +108,23 @@ tested-before n d next ns last e = told (ltb 0 n) ∙ sym (first-before n ns las
     told true = refl
     told false = e
 
-operands-before : (place : ℕ) (ls : List Located) (next : Plan) → asBefore (testedFrom place ls next .number) ≡ firstRefusal (numbersBefore ls) (asBefore (next .number))
-operands-before place [] next = refl
-operands-before place (l ∷ ls) next = tested-before (l .number) (operandDetail (l .number) place) _ (numbersBefore ls) _ (operands-before (suc place) ls next)
-
--- three operands, the first of which may have a region
-three : (n a b c d e : ℕ) (last : ℕ) → n ≡ firstRefusal (a ∷ b ∷ c ∷ []) last → a ≡ d → b ≡ e → (f : ℕ) → c ≡ f → n ≡ firstRefusal (d ∷ e ∷ f ∷ []) last
-three n a b c d e last h p q f r = h ∙ (ap (λ (k : ℕ). firstRefusal (k ∷ b ∷ c ∷ []) last) p ∙ (ap (λ (k : ℕ). firstRefusal (d ∷ k ∷ c ∷ []) last) q ∙ ap (λ (k : ℕ). firstRefusal (d ∷ e ∷ k ∷ []) last) r))
+operands-before : (t : Variables) (exec place : ℕ) (os : List Asked) (next : Plan) → asBefore (testedFrom place (map (located t exec) os) next .number) ≡ firstRefusal (map (askedNumber t exec) os) (asBefore (next .number))
+operands-before t exec place [] next = refl
+operands-before t exec place (o ∷ os) next =
+    tested-before _ _ _ (map (askedNumber t exec) os) _ (operands-before t exec (suc place) os next)
+    ∙ ap (λ (n : ℕ). firstRefusal (n ∷ map (askedNumber t exec) os) (asBefore (next .number))) (operand-before t exec o)
 
 module _ (t : Tables) (bits : ℕ) where
   instruction-before : (i : Instruction) → asBefore (checkedOperands t bits i .number) ≡ firstRefusal (surfaceNumber t i ∷ operandNumbers (t .variables) i) (lastNumber i)
-  unfolding checkedOperands checkedShl checkedGather checkedGatherOperands checkedScatter checkedSend surfaceNumber operandNumbers lastNumber shlDst shlSrc0 shlSrc1 gatherOffset gatherElementOffset gatherDst scatterAddress scatterElementOffset scatterSrc sendDesc sendSrc sendDst shlPlan gatherPlan scatterPlan refusedPlan asBefore namesOperand
-  instruction-before (instruction.Shl i) =
-      three _ _ _ _ _ _ _ (operands-before 1 (shlDst (t .variables) i ∷ shlSrc0 (t .variables) i ∷ shlSrc1 (t .variables) i ∷ []) _) (vector-before _ _ _ _ _) (vector-before _ _ _ _ _) _ (vector-before _ _ _ _ _)
+  unfolding checkedOperands checkedShl checkedGather checkedGatherOperands checkedScatter checkedSend controlOf surfaceNumber lastNumber shlDst shlSrc0 shlSrc1 gatherOffset gatherElementOffset gatherDst scatterAddress scatterElementOffset scatterSrc sendDesc sendSrc sendDst shlPlan gatherPlan scatterPlan refusedPlan asBefore namesOperand
+  instruction-before (instruction.Shl i) = operands-before (t .variables) (i .control .exec) 1 (operandsOf (instruction.Shl i)) _
   instruction-before (instruction.Gather i) = surfaced (ltb (i .access .surface) (length (t .surfaces .lengths)))
     where
       surfaced : (q : Bool) → asBefore (cond (not q) (refusedPlan 5 detail.None) (checkedGatherOperands (t .variables) bits (surfacePart (t .surfaces) (i .access .surface)) i) .number) ≡ firstRefusal (cond (not q) 5 0 ∷ operandNumbers (t .variables) (instruction.Gather i)) 0
-      surfaced true =
-          three _ _ _ _ _ _ _ (operands-before 1 (gatherOffset (t .variables) i ∷ gatherElementOffset (t .variables) i ∷ gatherDst (t .variables) i ∷ []) _) (vector-before _ _ _ _ _) (raw-before _ _ _ _) _ (raw-before _ _ _ _)
+      surfaced true = operands-before (t .variables) (i .control .exec) 1 (operandsOf (instruction.Gather i)) _
       surfaced false = refl
-  instruction-before (instruction.Scatter i) =
-      three _ _ _ _ _ _ _ (operands-before 1 (scatterAddress (t .variables) i ∷ scatterElementOffset (t .variables) i ∷ scatterSrc (t .variables) i ∷ []) _) (vector-before _ _ _ _ _) (raw-before _ _ _ _) _ (raw-before _ _ _ _)
-  instruction-before (instruction.RawSend i) =
-      three _ _ _ _ _ _ _ (operands-before 1 (sendDesc (t .variables) i ∷ sendSrc (t .variables) i ∷ sendDst (t .variables) i ∷ []) _) (vector-before _ _ _ _ _) (raw-before _ _ _ _) _ (raw-before _ _ _ _)
+  instruction-before (instruction.Scatter i) = operands-before (t .variables) (i .control .exec) 1 (operandsOf (instruction.Scatter i)) _
+  instruction-before (instruction.RawSend i) = operands-before (t .variables) (i .control .exec) 1 (operandsOf (instruction.RawSend i)) _
 
 pub checked-before : (t : Tables) (i : Instruction) → asBefore (checked t i .number) ≡ numberBefore t i
 unfolding checked numberBefore

@@ -1,8 +1,8 @@
--- The number of the first failing test before data, with document 01's one rule of regions, 6, in the place of 20 to 25. Document 01, "The numbers given back":
--- "A run then tests 8; predicate 5; surface 5; each operand in order 5, 4 (type), 6, 7; 9".
+-- The number of the first failing test before data, with document 01's one rule of regions, 6, in the place of 20 to 25. Document 01, "The numbers
+-- given back": "A run then tests 8; predicate 5; surface 5; each operand in order 5, 4 (type), 6, 7; 9".
 use Prim.Native.Nat.{ℕ, zero, suc}
 use mathlib.Core.Bool.{Bool, cond, not, _&&_, _||_}
-use mathlib.Core.List.{List, [], _∷_}
+use mathlib.Core.List.{List, [], _∷_, map}
 use lib.Dec.{ltb, leb}
 use lib.ListN.{length}
 use Rattle.details.specs.Details.{namesOperand}
@@ -16,17 +16,15 @@ use Rattle.tables.specs.Variables.{Variables}
 use Rattle.decoder.specs.declared.Instruction.{Instruction}
 use Rattle.decoder.specs.declared.Instruction.the-variants as instruction
 use Rattle.regions.specs.declared.Role.{Role}
-use Rattle.regions.specs.declared.Role.the-variants as role
 use Rattle.regions.specs.declared.Variable.{Variable}
 use Rattle.regions.specs.Regions.{regionAllowed, elementOf}
 use Rattle.regions.specs.Reach.{elementsGood}
 use Rattle.operands.specs.declared.TypeRule.{TypeRule}
-use Rattle.operands.specs.declared.TypeRule.the-variants as rule
 use Rattle.operands.specs.Allowed.{typeAllowed}
 use Rattle.operands.specs.Variables.{inTable, variableAt}
-use Rattle.operands.specs.Operands.{locatedImmediate}
+use Rattle.operands.specs.Operands.{locatedImmediate, locatedRaw}
 use Rattle.plan.specs.Control.{controlOf, controlRefusal}
-use Rattle.plan.specs.Checked.{gatherElementOffset, gatherDst, scatterElementOffset, scatterSrc, sendSrc, sendDst}
+use Rattle.plan.specs.Places.{Asked, vector, raw, operandsOf}
 
 -- "4 (type), 6, 7": 6 where document 01's rule of the region's parameters (`regionAllowed`) does not hold
 unfoldable pub generalNumber : Role → TypeRule → ℕ → General → Variable → ℕ
@@ -47,19 +45,14 @@ firstRefusal [] last = last
 firstRefusal (zero ∷ ns) last = firstRefusal ns last
 firstRefusal (suc n ∷ ns) last = suc n
 
--- "each operand in order"; raw operands have no region
-unfoldable pub operandNumbers : Variables → Instruction → List ℕ
-operandNumbers t (instruction.Shl i) =
-    vectorNumber t role.Destination rule.Shift (i .control .exec) (i .destination)
-    ∷ vectorNumber t role.Source rule.Shift (i .control .exec) (i .source)
-    ∷ vectorNumber t role.Source rule.Shift (i .control .exec) (i .count)
-    ∷ []
-operandNumbers t (instruction.Gather i) =
-    vectorNumber t role.Scalar rule.Offset (i .control .exec) (i .offset) ∷ gatherElementOffset t i .number ∷ gatherDst t i .number ∷ []
-operandNumbers t (instruction.Scatter i) =
-    vectorNumber t role.Scalar rule.Address (i .control .exec) (i .address) ∷ scatterElementOffset t i .number ∷ scatterSrc t i .number ∷ []
-operandNumbers t (instruction.RawSend i) =
-    vectorNumber t role.Scalar rule.Offset (i .control .exec) (i .descriptor) ∷ sendSrc t i .number ∷ sendDst t i .number ∷ []
+-- raw operands have no region
+abbrev pub askedNumber : Variables → ℕ → Asked → ℕ
+askedNumber t exec (vector role rule o) = vectorNumber t role rule exec o
+askedNumber t exec (raw rule bytes r) = locatedRaw t rule bytes r .number
+
+-- "each operand in order"
+abbrev pub operandNumbers : Variables → Instruction → List ℕ
+operandNumbers t i = map (askedNumber t (controlOf i .exec)) (operandsOf i)
 
 -- "surface 5", of a gather
 unfoldable pub surfaceNumber : Tables → Instruction → ℕ

@@ -2,7 +2,7 @@
 use Prim.Native.Nat.{ℕ, suc, _+_}
 use mathlib.Core.Path.{_≡_, refl}
 use mathlib.Core.Bool.{Bool, true, false, cond, not, _&&_}
-use mathlib.Core.List.{List, [], _∷_}
+use mathlib.Core.List.{List, [], _∷_, map}
 use native.Mathlib.Omega.{arith}
 use lib.Dec.{ltb, leb}
 use lib.ListN.{length}
@@ -17,7 +17,6 @@ use Rattle.channels.specs.Predicate.{hasPredicate, predicateId}
 use Rattle.field_groups.specs.declared.Control.{Control}
 use Rattle.decoder.specs.declared.Instruction.{Instruction}
 use Rattle.decoder.specs.declared.Instruction.the-variants as instruction
-use Rattle.operands.specs.declared.Located.{Located}
 use Rattle.regions.proofs.ReachLaws.{cond-either}
 use Rattle.plan.specs.declared.Plan.{Plan}
 use Rattle.plan.specs.Control.{controlOf, controlRefusal, predicateBits}
@@ -25,11 +24,6 @@ use Rattle.plan.specs.Plans.{refusedPlan, tested, testedFrom, shlPlan, g
 use Rattle.plan.specs.Checked.{checkedShl, checkedGatherOperands, checkedGather, checkedScatter, checkedSend, checkedOperands, checked, shlDst, shlSrc0, shlSrc1, gatherOffset, gatherElementOffset, gatherDst, scatterAddress, scatterElementOffset, scatterSrc, sendDesc, sendSrc, sendDst}
 use Rattle.plan.specs.Places.{Asked, operandsOf, located, here, later, Names, nothing, operand, NamesOf}
 use Rattle.plan.proofs.NumberLaws.{region-told}
-
--- what the operands' tests come to
-abbrev allLocated : Variables → ℕ → List Asked → List Located
-allLocated t exec [] = []
-allLocated t exec (o ∷ os) = located t exec o ∷ allLocated t exec os
 
 module _ (t : Variables) (exec : ℕ) where
   -- the refusal of the operand at a place
@@ -45,7 +39,7 @@ module _ (t : Variables) (exec : ℕ) where
   names-later first o os p good (nothing d n) = nothing d n
   names-later first o os p good (operand d n at r) = operand d n (later good at) r
 
-  operands-name : (first : ℕ) (os : List Asked) (next : Plan) → Names t exec first [] next → Names t exec first os (testedFrom first (allLocated t exec os) next)
+  operands-name : (first : ℕ) (os : List Asked) (next : Plan) → Names t exec first [] next → Names t exec first os (testedFrom first (map (located t exec) os) next)
   unfolding tested
   operands-name first [] next none = none
   operands-name first (o ∷ os) next none =

@@ -1,7 +1,7 @@
 -- All that a run tests of an instruction before it reads data. Document 01, "The numbers given back":
 -- "A run then tests 8; predicate 5; surface 5; each operand in order 5, 4 (type), 6, 7; 9; ..". An operand's own tests are those of
--- `Operands` (20 to 25 in the place of 6); here is their order, and each operand's "place in field order, from 1, surfaces not counted" (document 02, request 2). No data,
--- execution mask or taint is asked for.
+-- `Operands` (20 to 25 in the place of 6); here is their order, and each operand's "place in field order, from 1, surfaces not counted"
+-- (document 02, request 2). No data, execution mask or taint is asked for.
 use Prim.Native.Nat.{ℕ}
 use mathlib.Core.Bool.{cond, not}
 use mathlib.Core.List.{List, [], _∷_}

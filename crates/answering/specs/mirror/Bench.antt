@@ -1,4 +1,5 @@
--- What is written, in either form, through the loader's buffers and counters, as the code has it. `case_file` tells the same over lists, in document 01's words.
+-- What is written, in either form, through the loader's buffers and counters, as the code has it. `case_file` tells the same over lists, in
+-- document 01's words.
 use Prim.Native.Nat.{ℕ}
 use mathlib.Core.Bool.{cond}
 use mathlib.Core.List.{List}
