@@ -29,7 +29,7 @@ use Rattle.plan.specs.declared.Operation.{Operation}
 use Rattle.plan.specs.declared.Operation.the-variants as operation
 use Rattle.plan.specs.declared.Part.{Part}
 use Rattle.plan.specs.declared.Plan.{Plan}
-use Rattle.plan.specs.Control.{controlOf, controlRefusal}
+use Rattle.plan.specs.Control.{controlOf, predicateFor, controlRefusal}
 use Rattle.plan.specs.Needed.{elementsNeeded, scatterNeeded}
 use Rattle.plan.specs.Plans.{tested, shlPlan, gatherPlan, scatterPlan}
 use Rattle.plan.specs.Checked.{shlDst, shlSrc0, shlSrc1, checkedShl, gatherOffset, gatherElementOffset, gatherDst, checkedGatherOperands, surfacePart, checkedGather, scatterAddress, scatterElementOffset, scatterSrc, checkedScatter, checkedSend, checkedOperands, checked}
@@ -113,5 +113,6 @@ module _ (t : Tables) where
   pub plan-keeps : (i : Instruction) → checked t i .number ≡ 0 → KeepsFor i (checked t i)
   unfolding checked
   plan-keeps i =
-      accepted-then (KeepsFor i) (controlRefusal (t .predicates) (controlOf i)) _ _
-      (λ e. operands-keep _ i (omega (arith, lanes-fit (t .predicates) (controlOf i) e)))
+      let p = predicateFor (t .predicates) i in
+      accepted-then (KeepsFor i) (controlRefusal p (controlOf i)) _ _
+      (λ e. operands-keep _ i (omega (arith, lanes-fit p (controlOf i) e)))

@@ -1,5 +1,5 @@
 -- A refused plan names the operand that is refused, exactly where its number is one of 20 to 25; all operands before it are good.
-use Prim.Native.Nat.{ℕ, suc, _+_}
+use Prim.Native.Nat.{ℕ, suc}
 use mathlib.Core.Path.{_≡_, refl}
 use mathlib.Core.Bool.{Bool, true, false, cond, not, _&&_}
 use mathlib.Core.List.{List, [], _∷_, map}
@@ -11,15 +11,14 @@ use Rattle.details.specs.declared.Detail.the-variants as detail
 use Rattle.details.specs.Details.{namesOperand, operandDetail}
 use Rattle.tables.specs.Tables.{Tables}
 use Rattle.tables.specs.Variables.{Variables}
-use Rattle.tables.specs.Predicates.{Predicates}
-use Rattle.channels.specs.Exec.{execSize, execOffset}
-use Rattle.channels.specs.Predicate.{hasPredicate, predicateId}
+use Rattle.tables.specs.declared.PredicateRecord.{PredicateRecord}
+use Rattle.channels.specs.Predicate.{hasPredicate}
 use Rattle.field_groups.specs.declared.Control.{Control}
 use Rattle.decoder.specs.declared.Instruction.{Instruction}
 use Rattle.decoder.specs.declared.Instruction.the-variants as instruction
 use Rattle.regions.proofs.ReachLaws.{cond-either}
 use Rattle.plan.specs.declared.Plan.{Plan}
-use Rattle.plan.specs.Control.{controlOf, controlRefusal, predicateBits}
+use Rattle.plan.specs.Control.{controlOf, lanesEnd, predicateFor, predicateRefusal, controlRefusal, bitsNamed}
 use Rattle.plan.specs.Plans.{refusedPlan, tested, testedFrom, shlPlan, gatherPlan, scatterPlan}
 use Rattle.plan.specs.Checked.{checkedShl, checkedGatherOperands, checkedGather, checkedScatter, checkedSend, checkedOperands, checked, shlDst, shlSrc0, shlSrc1, gatherOffset, gatherElementOffset, gatherDst, scatterAddress, scatterElementOffset, scatterSrc, sendDesc, sendSrc, sendDst}
 use Rattle.plan.specs.Places.{Asked, operandsOf, located, here, later, Names, nothing, operand, NamesOf}
@@ -65,17 +64,20 @@ module _ (t : Tables) (bits : ℕ) where
   checked-names (instruction.Scatter i) = operands-name (t .variables) (i .control .exec) 1 (operandsOf (instruction.Scatter i)) _ (nothing refl refl)
   checked-names (instruction.RawSend i) = operands-name (t .variables) (i .control .exec) 1 (operandsOf (instruction.RawSend i)) _ (plain-names (t .variables) (i .control .exec) 1 9 [] refl)
 
--- 8, 5 or no refusal
-pub control-unnamed : (t : Predicates) (c : Control) → namesOperand (controlRefusal t c) ≡ false
-unfolding controlRefusal namesOperand
-control-unnamed t c =
+-- 8, 5, 17 or no refusal
+pub control-unnamed : (p : PredicateRecord) (c : Control) → namesOperand (controlRefusal p c) ≡ false
+unfolding controlRefusal predicateRefusal namesOperand
+control-unnamed p c =
     let P : ℕ → Type 0 = λ n. (leb 20 n && leb n 25) ≡ false in
-    cond-either P (ltb 32 (execOffset (c .exec) + execSize (c .exec))) (λ _. refl)
-    (λ _. cond-either P (hasPredicate (c .pred) && leb (length (t .bits)) (predicateId (c .pred))) (λ _. refl) (λ _. refl))
+    cond-either P (ltb 32 (lanesEnd (c .exec))) (λ _. refl)
+    (λ _. cond-either P (hasPredicate (c .pred))
+    (λ _. cond-either P (not (p .present)) (λ _. refl) (λ _. cond-either P (ltb (p .count) (lanesEnd (c .exec))) (λ _. refl) (λ _. refl)))
+    (λ _. refl))
 
 pub plan-names : (t : Tables) (i : Instruction) → NamesOf t i (checked t i)
 unfolding checked tested
 plan-names t i =
-    cond-either (NamesOf t i) (ltb 0 (controlRefusal (t .predicates) (controlOf i)))
-    (λ _. plain-names (t .variables) (controlOf i .exec) 1 (controlRefusal (t .predicates) (controlOf i)) (operandsOf i) (control-unnamed (t .predicates) (controlOf i)))
-    (λ _. checked-names t (predicateBits (t .predicates) (controlOf i .pred)) i)
+    let p = predicateFor (t .predicates) i in
+    cond-either (NamesOf t i) (ltb 0 (controlRefusal p (controlOf i)))
+    (λ _. plain-names (t .variables) (controlOf i .exec) 1 (controlRefusal p (controlOf i)) (operandsOf i) (control-unnamed p (controlOf i)))
+    (λ _. checked-names t (bitsNamed p (controlOf i .pred)) i)

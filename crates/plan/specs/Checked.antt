@@ -1,7 +1,7 @@
 -- All that a run tests of an instruction before it reads data. Document 01, "The numbers given back":
--- "A run then tests 8; predicate 5; surface 5; each operand in order 5, 4 (type), 6, 7; 9; ..". An operand's own tests are those of
--- `Operands` (20 to 25 in the place of 6); here is their order, and each operand's "place in field order, from 1, surfaces not counted"
--- (document 02, request 2). No data, execution mask or taint is asked for.
+-- "A run then tests 8; predicate 5; surface 5; each operand in order 5, 4 (type), 6, 7; 9; ..", and document 02, request 3: 17 "directly after
+-- the predicate's 5". An operand's own tests are those of `Operands` (20 to 25 in the place of 6); here is their order, and each operand's
+-- "place in field order, from 1, surfaces not counted" (document 02, request 2). No data, execution mask or taint is asked for.
 use Prim.Native.Nat.{ℕ}
 use mathlib.Core.Bool.{cond, not}
 use mathlib.Core.List.{List, [], _∷_}
@@ -24,7 +24,7 @@ use Rattle.tables.specs.Variables.{Variables}
 use Rattle.operands.specs.Operands.{locatedVector, locatedRaw}
 use Rattle.plan.specs.declared.Part.{Part}
 use Rattle.plan.specs.declared.Plan.{Plan}
-use Rattle.plan.specs.Control.{controlOf, controlRefusal, predicateBits}
+use Rattle.plan.specs.Control.{controlOf, predicateFor, controlRefusal, bitsNamed}
 use Rattle.plan.specs.Needed.{elementsNeeded, scatterNeeded, registersNeeded, blockBytes}
 use Rattle.plan.specs.Plans.{refusedPlan, tested, testedFrom, shlPlan, gatherPlan, scatterPlan}
 
@@ -117,8 +117,8 @@ checkedOperands t bits (instruction.Gather i) = checkedGather (t .variables) (t 
 checkedOperands t bits (instruction.Scatter i) = checkedScatter (t .variables) bits i
 checkedOperands t bits (instruction.RawSend i) = checkedSend (t .variables) i
 
--- 8 and predicate 5 come first
+-- 8, the predicate's 5 and 17 come first
 unfoldable pub checked : Tables → Instruction → Plan
 checked t i =
-    tested (controlRefusal (t .predicates) (controlOf i)) detail.None
-    (checkedOperands t (predicateBits (t .predicates) (controlOf i .pred)) i)
+    tested (controlRefusal (predicateFor (t .predicates) i) (controlOf i)) detail.None
+    (checkedOperands t (bitsNamed (predicateFor (t .predicates) i) (controlOf i .pred)) i)

@@ -9,11 +9,12 @@ use field_groups::Control;
 use operands::Elements;
 use operands::TypeRule;
 use regions::Role;
+use tables::PredicateRecord;
 ghost use mathlib.Core.Path.{_≡_};
 ghost use Rattle.details.specs.Details.{operandDetail};
 ghost use Rattle.tables.specs.Tables.{tables};
 ghost use Rattle.tables.specs.Borrowed.{variableTable, predicateTable, surfaceTable};
-ghost use Rattle.plan.specs.Control.{controlOf, controlRefusal, predicateBits};
+ghost use Rattle.plan.specs.Control.{controlOf, lanesEnd, predicateRefusal, controlRefusal, bitsNamed};
 ghost use Rattle.plan.specs.Needed.{elementsNeeded, enabledBelow, channelStride, scatterNeeded, registersNeeded, blockBytes};
 ghost use Rattle.plan.specs.Plans.{refusedPlan, shlPlan, gatherPlan, scatterPlan};
 ghost use Rattle.plan.specs.Checked.{checkedShl, checkedGatherOperands, surfacePart, checkedGather, checkedScatter, checkedSend, checked};
@@ -99,32 +100,41 @@ fn control_of(instruction: Instruction) -> Control
     }
 }
 
-// 8, then the predicate's 5.
-fn control_refusal(predicates: &[u32], control: Control) -> u8
-    ensures { λ r. ⌜ r ≡ controlRefusal (predicateTable predicates) control ⌝ }
+// Offset plus ExecSize.
+fn lanes_end(exec: u8) -> u16
+    ensures { λ r. ⌜ r ≡ lanesEnd exec ⌝ }
 {
-    let exec = channels::split(control.exec);
-    if 32 < (exec.offset as u16) + (exec.size as u16) {
+    let lanes = channels::split(exec);
+    (lanes.offset as u16) + (lanes.size as u16)
+}
+
+// 5, then 17, of the predicate that a pred word names.
+fn predicate_refusal(predicate: PredicateRecord, exec: u8) -> u8
+    ensures { λ r. ⌜ r ≡ predicateRefusal predicate exec ⌝ }
+{
+    if !predicate.present {
+        return 5;
+    }
+    if (predicate.count as u16) < lanes_end(exec) { 17 } else { 0 }
+}
+
+// 8, then those of the predicate, if one is named.
+fn control_refusal(predicate: PredicateRecord, control: Control) -> u8
+    ensures { λ r. ⌜ r ≡ controlRefusal predicate control ⌝ }
+{
+    if 32 < lanes_end(control.exec) {
         return 8;
     }
-    let absent = predicates.len() <= channels::predicate_id(control.pred) as usize;
-    if channels::has_predicate(control.pred) & absent {
-        return 5;
+    if channels::has_predicate(control.pred) {
+        return predicate_refusal(predicate, control.exec);
     }
     0
 }
 
-fn predicate_bits(predicates: &[u32], pred: u16) -> u32
-    ensures { λ r. ⌜ r ≡ predicateBits (predicateTable predicates) pred ⌝ }
+fn bits_named(predicate: PredicateRecord, pred: u16) -> u32
+    ensures { λ r. ⌜ r ≡ bitsNamed predicate pred ⌝ }
 {
-    let id = channels::predicate_id(pred) as usize;
-    if channels::has_predicate(pred) {
-        if id < predicates.len() {
-            return predicates[id];
-        }
-        return 0;
-    }
-    0
+    if channels::has_predicate(pred) { predicate.bits } else { 0 }
 }
 
 fn elements_needed(exec: u8, code: u8) -> u32
@@ -484,18 +494,21 @@ pub fn check(
     types: &[u8],
     starts: &[u16],
     counts: &[u16],
-    predicates: &[u32],
+    predicate_bits: &[u32],
+    predicate_counts: &[u8],
     surfaces: &[u16],
     instruction: Instruction,
 ) -> Plan
-    ensures { λ r. ⌜ r ≡ checked (tables (variableTable types starts counts) (predicateTable predicates) (surfaceTable surfaces)) instruction ⌝ }
+    ensures { λ r. ⌜ r ≡ checked (tables (variableTable types starts counts) (predicateTable «predicate_bits» «predicate_counts») (surfaceTable surfaces)) instruction ⌝ }
 {
     let control = control_of(instruction);
-    let number = control_refusal(predicates, control);
+    let id = channels::predicate_id(control.pred);
+    let predicate = tables::predicate_at(predicate_bits, predicate_counts, id);
+    let number = control_refusal(predicate, control);
     if 0 < number {
         return refused(number, Detail::None);
     }
-    let bits = predicate_bits(predicates, control.pred);
+    let bits = bits_named(predicate, control.pred);
     match instruction {
         Instruction::Shl(i) => check_shl(types, starts, counts, bits, i),
         Instruction::Gather(i) => check_gather(types, starts, counts, surfaces, bits, i),

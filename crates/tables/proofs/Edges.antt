@@ -11,12 +11,12 @@ use Rattle.tables.specs.declared.Lengths.{Lengths}
 use Rattle.tables.specs.Lengths.{registersGood, addressesGood, taintGood, lengthsGood}
 use Rattle.channels.specs.Below.{everyBelow}
 use Rattle.tables.specs.Variables.{variables, lineGood, variableGood, variableGoodAt, variablesGood}
-use Rattle.tables.specs.Predicates.{predicates}
+use Rattle.tables.specs.Predicates.{predicates, countGood, countGoodAt, predicatesGood}
 use Rattle.tables.specs.Surfaces.{surfaces, surfaceLength, surfaceStart, surfaceGoodAt, surfacesGood}
 use Rattle.tables.specs.Tables.{Tables, tables, tablesGood}
 
 empty : Tables
-empty = tables (variables [] [] []) (predicates []) (surfaces [])
+empty = tables (variables [] [] []) (predicates [] []) (surfaces [])
 
 lengths : ℕ → ℕ → ℕ → ℕ → ℕ → Lengths
 lengths kernel registers surfaceBytes memory base =
@@ -45,22 +45,23 @@ tainted registers surfaceBytes memory =
       base = 0;
       taint = record { registers = registers; surfaces = surfaceBytes; memory = memory };
     })
-    (tables (variables [] [] []) (predicates []) (surfaces (10 ∷ [])))
+    (tables (variables [] [] []) (predicates [] []) (surfaces (10 ∷ [])))
 
 -- one variable in a file of 64 bytes
 variable : ℕ → ℕ → ℕ → Bool
-variable code start count = tablesGood (lengths 0 64 0 0 0) (tables (variables (code ∷ []) (start ∷ []) (count ∷ [])) (predicates []) (surfaces []))
+variable code start count = tablesGood (lengths 0 64 0 0 0) (tables (variables (code ∷ []) (start ∷ []) (count ∷ [])) (predicates [] []) (surfaces []))
 
 -- variables of one byte, as many as the three slices say
 byteVariables : ℕ → ℕ → ℕ → Bool
 byteVariables types starts counts =
-    tablesGood (lengths 0 64 0 0 0) (tables (variables (replicate types UB) (replicate starts 0) (replicate counts 1)) (predicates []) (surfaces []))
+    tablesGood (lengths 0 64 0 0 0) (tables (variables (replicate types UB) (replicate starts 0) (replicate counts 1)) (predicates [] []) (surfaces []))
 
-manyPredicates : ℕ → Bool
-manyPredicates n = tablesGood (lengths 0 0 0 0 0) (tables (variables [] [] []) (predicates (replicate n 0)) (surfaces []))
+-- so many bits and counts, all counts this one
+manyPredicates : ℕ → ℕ → ℕ → Bool
+manyPredicates bits counts count = tablesGood (lengths 0 0 0 0 0) (tables (variables [] [] []) (predicates (replicate bits 0) (replicate counts count)) (surfaces []))
 
 surfacesIn : ℕ → List ℕ → Bool
-surfacesIn bytes table = tablesGood (lengths 0 0 bytes 0 0) (tables (variables [] [] []) (predicates []) (surfaces table))
+surfacesIn bytes table = tablesGood (lengths 0 0 bytes 0 0) (tables (variables [] [] []) (predicates [] []) (surfaces table))
 
 listed : (code size : ℕ) → sizeOf code ≡ suc size → isListed code ≡ true
 listed code size e = size-listed code (omega arith)
@@ -79,7 +80,7 @@ lengths-at-edges : (buffers 0 0 0 0 ≡ true)
     × (tainted 31 10 8 ≡ false)
     × (tainted 32 11 8 ≡ false)
     × (tainted 32 10 0 ≡ false)
-unfolding empty lengths buffers tainted registersGood addressesGood taintGood lengthsGood everyBelow variablesGood surfaceLength surfaceStart surfaceGoodAt surfacesGood tablesGood
+unfolding empty lengths buffers tainted registersGood addressesGood taintGood lengthsGood everyBelow variablesGood countGood countGoodAt predicatesGood surfaceLength surfaceStart surfaceGoodAt surfacesGood tablesGood
 lengths-at-edges = (refl, refl, refl, refl, refl, refl, refl, refl, refl, refl, refl, refl, refl, refl)
 
 variables-at-edges : (variable UD 32 8 ≡ true)
@@ -96,7 +97,7 @@ variables-at-edges : (variable UD 32 8 ≡ true)
     × (variable UQ 4 1 ≡ false)
     × (variable F 0 1 ≡ true)
     × (variable 6 0 1 ≡ false)
-unfolding lengths variable registersGood addressesGood taintGood lengthsGood everyBelow lineGood variableGood variableGoodAt variablesGood surfaceStart surfacesGood tablesGood
+unfolding lengths variable registersGood addressesGood taintGood lengthsGood everyBelow lineGood variableGood variableGoodAt variablesGood countGood countGoodAt predicatesGood surfaceStart surfacesGood tablesGood
 variables-at-edges =
     simp (
       listed UD 3 (sizes .ud),
@@ -117,8 +118,13 @@ tables-at-edges : (byteVariables 256 256 256 ≡ true)
     × (byteVariables 257 257 257 ≡ false)
     × (byteVariables 2 1 2 ≡ false)
     × (byteVariables 2 2 3 ≡ false)
-    × (manyPredicates 64 ≡ true)
-    × (manyPredicates 65 ≡ false)
+    × (manyPredicates 64 64 32 ≡ true)
+    × (manyPredicates 65 65 32 ≡ false)
+    × (manyPredicates 2 1 8 ≡ false)
+    × (manyPredicates 1 2 8 ≡ false)
+    × (manyPredicates 1 1 1 ≡ true)
+    × (manyPredicates 1 1 0 ≡ false)
+    × (manyPredicates 1 1 33 ≡ false)
     × (surfacesIn 1024 (1024 ∷ []) ≡ true)
     × (surfacesIn 1025 (1025 ∷ []) ≡ false)
     × (surfacesIn 16 (10 ∷ 0 ∷ 6 ∷ []) ≡ true)
@@ -126,6 +132,6 @@ tables-at-edges : (byteVariables 256 256 256 ≡ true)
     × (surfacesIn 17 (10 ∷ 0 ∷ 6 ∷ []) ≡ false)
     × (surfacesIn 8 (replicate 8 1) ≡ true)
     × (surfacesIn 9 (replicate 9 1) ≡ false)
-unfolding lengths byteVariables manyPredicates surfacesIn registersGood addressesGood taintGood lengthsGood everyBelow lineGood variableGood variableGoodAt variablesGood surfaceLength surfaceStart surfaceGoodAt surfacesGood tablesGood
+unfolding lengths byteVariables manyPredicates surfacesIn registersGood addressesGood taintGood lengthsGood everyBelow lineGood variableGood variableGoodAt variablesGood countGood countGoodAt predicatesGood surfaceLength surfaceStart surfaceGoodAt surfacesGood tablesGood
 tables-at-edges =
-    simp (listed UB 0 (sizes .ub), sizes .ub) (refl, refl, refl, refl, refl, refl, refl, refl, refl, refl, refl, refl, refl)
+    simp (listed UB 0 (sizes .ub), sizes .ub) (refl, refl, refl, refl, refl, refl, refl, refl, refl, refl, refl, refl, refl, refl, refl, refl, refl, refl)

@@ -2,6 +2,7 @@ pub mod All
 pub mod Every
 pub mod Limits
 pub mod Placement
+pub mod PredicateCounts
 pub mod SurfacePlaces
 pub mod Laws
 pub mod Edges

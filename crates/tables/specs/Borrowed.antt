@@ -14,8 +14,8 @@ Slice = Both (RefT (List ℕ)) (RefT (List ℕ))
 abbrev pub variableTable : Slice → Slice → Slice → Variables
 variableTable types starts counts = variables (now (types .entry)) (now (starts .entry)) (now (counts .entry))
 
-abbrev pub predicateTable : Slice → Predicates
-predicateTable bits = predicates (now (bits .entry))
+abbrev pub predicateTable : Slice → Slice → Predicates
+predicateTable bits counts = predicates (now (bits .entry)) (now (counts .entry))
 
 abbrev pub surfaceTable : Slice → Surfaces
 surfaceTable lengths = surfaces (now (lengths .entry))

@@ -1,12 +1,10 @@
 -- What the caller's tables and lengths must satisfy. Document 01, "Tables and sizes", and number 13:
 -- "tables (a type not listed too) or lent lengths break the sizes above, or marks differ in length from their buffer".
 use mathlib.Core.Bool.{Bool, _&&_}
-use lib.Dec.{leb}
-use lib.ListN.{length}
 use Rattle.tables.specs.declared.Lengths.{Lengths}
 use Rattle.tables.specs.Lengths.{lengthsGood}
 use Rattle.tables.specs.Variables.{Variables, variablesGood}
-use Rattle.tables.specs.Predicates.{Predicates}
+use Rattle.tables.specs.Predicates.{Predicates, predicatesGood}
 use Rattle.tables.specs.Surfaces.{Surfaces, surfacesGood}
 
 pub record Tables : Type 0 where
@@ -17,10 +15,10 @@ pub record Tables : Type 0 where
 abbrev pub tables : Variables → Predicates → Surfaces → Tables
 tables variables predicates surfaces = record { variables = variables; predicates = predicates; surfaces = surfaces }
 
--- 13 is given exactly where this is false; "At most .. 64 predicates"
+-- 13 is given exactly where this is false
 unfoldable pub tablesGood : Lengths → Tables → Bool
 tablesGood l t =
     lengthsGood l
     && variablesGood (l .registers) (t .variables)
-    && leb (length (t .predicates .bits)) 64
+    && predicatesGood (t .predicates)
     && surfacesGood (l .surfaces) (t .surfaces)

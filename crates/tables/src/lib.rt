@@ -1,10 +1,11 @@
 // What the caller's tables and lengths must satisfy before a run begins (refusal 13), and where a surface lies.
 ghost use mathlib.Core.Path.{_≡_};
 ghost use Prim.Native.Nat.{_+_, _<_, _≤_};
-ghost use lib.ListN.{length};
+ghost use lib.ListN.{length, getD};
 ghost use Rattle.tables.specs.Lengths.{registersGood, addressesGood, taintGood, lengthsGood};
 ghost use Rattle.channels.specs.Below.{everyBelow};
 ghost use Rattle.tables.specs.Variables.{lineGood, variableGood, variableGoodAt, variablesGood};
+ghost use Rattle.tables.specs.Predicates.{predicateAt, countGood, countGoodAt, predicatesGood};
 ghost use Rattle.tables.specs.Surfaces.{surfaceLength, surfaceStart, surfaceGoodAt, surfacesGood};
 ghost use Rattle.tables.specs.Tables.{tables, tablesGood};
 ghost use Rattle.tables.specs.Borrowed.{variableTable, predicateTable, surfaceTable};
@@ -138,6 +139,71 @@ fn variables_good(registers: usize, types: &[u8], starts: &[u16], counts: &[u16]
     every_variable_good(registers, types, starts, counts)
 }
 
+// A predicate of the table: its bits, and how many of them are its elements. One that is not in the table has neither.
+pub struct PredicateRecord {
+    pub present: bool,
+    pub bits: u32,
+    pub count: u8,
+}
+
+fn count_at(counts: &[u8], id: u16) -> u8
+    ensures { λ r. ⌜ r ≡ getD (now (counts .entry)) id 0 ⌝ }
+{
+    let i = id as usize;
+    if i < counts.len() { counts[i] } else { 0 }
+}
+
+// Whoever needs a predicate asks here: beside the test of the tables nothing else reads the two slices.
+pub fn predicate_at(bits: &[u32], counts: &[u8], id: u16) -> PredicateRecord
+    ensures { λ r. ⌜ r ≡ predicateAt (predicateTable bits counts) id ⌝ }
+{
+    let i = id as usize;
+    let count = count_at(counts, id);
+    if i < bits.len() {
+        return PredicateRecord {
+            present: true,
+            bits: bits[i],
+            count,
+        };
+    }
+    PredicateRecord {
+        present: false,
+        bits: 0,
+        count,
+    }
+}
+
+fn count_good(count: u8) -> bool
+    ensures { λ r. ⌜ r ≡ countGood count ⌝ }
+{
+    1 <= count && count <= 32
+}
+
+fn every_count_good(counts: &[u8]) -> bool
+    ensures { λ r. ⌜ r ≡ everyBelow (length (now (counts .entry))) (countGoodAt (now (counts .entry))) ⌝ }
+{
+    let mut i = 0;
+    while i < counts.len() {
+        if !count_good(counts[i]) {
+            return false;
+        }
+        i += 1;
+    }
+    true
+}
+
+fn predicates_good(bits: &[u32], counts: &[u8]) -> bool
+    ensures { λ r. ⌜ r ≡ predicatesGood (predicateTable bits counts) ⌝ }
+{
+    if 64 < bits.len() {
+        return false;
+    }
+    if counts.len() != bits.len() {
+        return false;
+    }
+    every_count_good(counts)
+}
+
 // The bytes of a surface, 0 for one that is not in the table.
 pub fn surface_length(surfaces: &[u16], index: u8) -> u16
     ensures { λ r. ⌜ r ≡ surfaceLength (surfaceTable surfaces) index ⌝ }
@@ -190,10 +256,11 @@ pub fn tables_good(
     types: &[u8],
     starts: &[u16],
     counts: &[u16],
-    predicates: &[u32],
+    predicate_bits: &[u32],
+    predicate_counts: &[u8],
     surfaces: &[u16],
 ) -> bool
-    ensures { λ r. ⌜ r ≡ tablesGood lengths (tables (variableTable types starts counts) (predicateTable predicates) (surfaceTable surfaces)) ⌝ }
+    ensures { λ r. ⌜ r ≡ tablesGood lengths (tables (variableTable types starts counts) (predicateTable «predicate_bits» «predicate_counts») (surfaceTable surfaces)) ⌝ }
 {
     if !lengths_good(lengths) {
         return false;
@@ -201,7 +268,7 @@ pub fn tables_good(
     if !variables_good(lengths.registers, types, starts, counts) {
         return false;
     }
-    if 64 < predicates.len() {
+    if !predicates_good(predicate_bits, predicate_counts) {
         return false;
     }
     surfaces_good(lengths.surfaces, surfaces)

@@ -1,6 +1,4 @@
 -- `plan::control_refusal` meets its contract: at each return, what the calls and tests on the way say picks the case of `Control`.
-use mathlib.Core.Path.{ap}
-use Rattle.channels.specs.declared.Exec.{Exec}
 use borrow.Author.Needs.{needs}
 use borrow.Author.Tests.{lt-ltb, le-ltb}
 use Rattle.plan.specs.Control.{controlRefusal}
@@ -10,26 +8,25 @@ use Rattle.plan.proofs.control_refusal.Tie as tie
 returns : tie.Need-returns
 unfolding controlRefusal
 returns c =
-    let a = c .before .before .before in
-    rw (← ap (λ (e : Exec). e .size) (a .split .ensures), ← ap (λ (e : Exec). e .offset) (a .split .ensures), lt-ltb 32 _ (c .if1 .taken))
+    let end : tie.After-lanes-end = search c in
+    rw (← end .lanes-end .ensures, lt-ltb 32 _ (c .if1 .taken))
 
 returns-2 : tie.Need-returns-2
 unfolding controlRefusal
 returns-2 c =
-    let a = c .before in
-    let b = a .before in
-    let d = b .before in
-    let e = d .before .before .before in
-    rw (← ap (λ (e : Exec). e .size) (e .split .ensures), ← ap (λ (e : Exec). e .offset) (e .split .ensures), le-ltb 32 _ (d .if1 .left), ← b .predicate-id .ensures, ← a .has-predicate .ensures, c .if2 .taken)
+    let named : tie.Then2 = search c in
+    let has : tie.After-has-predicate = search named in
+    let fit : tie.Else1 = search has in
+    let end : tie.After-lanes-end = search fit in
+    rw (← end .lanes-end .ensures, le-ltb 32 _ (fit .if1 .left), ← has .has-predicate .ensures, named .if2 .taken) (c .predicate-refusal .ensures)
 
 returns-3 : tie.Need-returns-3
 unfolding controlRefusal
 returns-3 c =
-    let a = c .before in
-    let b = a .before in
-    let d = b .before in
-    let e = d .before .before .before in
-    rw (← ap (λ (e : Exec). e .size) (e .split .ensures), ← ap (λ (e : Exec). e .offset) (e .split .ensures), le-ltb 32 _ (d .if1 .left), ← b .predicate-id .ensures, ← a .has-predicate .ensures, c .if2 .left)
+    let has : tie.After-has-predicate = search c in
+    let fit : tie.Else1 = search has in
+    let end : tie.After-lanes-end = search fit in
+    rw (← end .lanes-end .ensures, le-ltb 32 _ (fit .if1 .left), ← has .has-predicate .ensures, c .if2 .left)
 
 pub control-refusal-spec : {M : Type 1} → statement M
-control-refusal-spec = tie.close (tie.spec (λ c κs. search needs) (λ c. search needs) (λ c. search needs) (λ c. search needs) returns (λ c κs. search needs) (λ c. search needs) (λ c κs. search needs) returns-2 returns-3)
+control-refusal-spec = tie.close (tie.spec (λ c κs. search needs) returns (λ c κs. search needs) (λ c κs. search needs) returns-2 returns-3)

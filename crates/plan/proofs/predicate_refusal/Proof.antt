@@ -1,0 +1,27 @@
+-- `plan::predicate_refusal` meets its contract: at each return, what the call and the tests on the way say picks the case of `Control`.
+use borrow.Author.Needs.{needs}
+use borrow.Author.Tests.{lt-ltb, le-ltb, not-true, not-false}
+use Rattle.plan.specs.Control.{predicateRefusal}
+use Rattle.plan.proofs.predicate_refusal.Statement.{statement}
+use Rattle.plan.proofs.predicate_refusal.Tie as tie
+
+returns : tie.Need-returns
+unfolding predicateRefusal
+returns c = rw (c .if1 .taken)
+
+returns-2 : tie.Need-returns-2
+unfolding predicateRefusal
+returns-2 c =
+    let end : tie.After-lanes-end = search c in
+    let present : tie.Else1 = search end in
+    rw (present .if1 .left, ← end .lanes-end .ensures, lt-ltb _ _ (c .if2 .taken))
+
+returns-3 : tie.Need-returns-3
+unfolding predicateRefusal
+returns-3 c =
+    let end : tie.After-lanes-end = search c in
+    let present : tie.Else1 = search end in
+    rw (present .if1 .left, ← end .lanes-end .ensures, le-ltb _ _ (c .if2 .left))
+
+pub predicate-refusal-spec : {M : Type 1} → statement M
+predicate-refusal-spec = tie.close (tie.spec returns (λ c. search needs) (λ c κs. search needs) returns-2 returns-3)
