@@ -115,7 +115,11 @@ fn predicate_refusal(predicate: PredicateRecord, exec: u8) -> u8
     if !predicate.present {
         return 5;
     }
-    if (predicate.count as u16) < lanes_end(exec) { 17 } else { 0 }
+    if (predicate.count as u16) < lanes_end(exec) {
+        17
+    } else {
+        0
+    }
 }
 
 // 8, then those of the predicate, if one is named.
@@ -134,7 +138,11 @@ fn control_refusal(predicate: PredicateRecord, control: Control) -> u8
 fn bits_named(predicate: PredicateRecord, pred: u16) -> u32
     ensures { λ r. ⌜ r ≡ bitsNamed predicate pred ⌝ }
 {
-    if channels::has_predicate(pred) { predicate.bits } else { 0 }
+    if channels::has_predicate(pred) {
+        predicate.bits
+    } else {
+        0
+    }
 }
 
 fn elements_needed(exec: u8, code: u8) -> u32

@@ -27,7 +27,8 @@ fn run_kernel(
     types: &[u8],
     starts: &[u16],
     counts: &[u16],
-    predicates: &[u32],
+    predicate_bits: &[u32],
+    predicate_counts: &[u8],
     surface_lengths: &[u16],
     constants: Constants,
     surfaces: &[u8],
@@ -38,7 +39,7 @@ fn run_kernel(
     memory_taint: &mut [u8],
 ) -> Answer
     ensures { λ r.
-        let x = setup (now (kernel .entry)) (tables (variableTable types starts counts) (predicateTable predicates) (surfaceTable «surface_lengths»)) constants in
+        let x = setup (now (kernel .entry)) (tables (variableTable types starts counts) (predicateTable «predicate_bits» «predicate_counts») (surfaceTable «surface_lengths»)) constants in
         let s = lent registers «register_taint» surfaces «surface_taint» memory «memory_taint» in
         ⌜ outcome r (s .exit) ≡ runThrough x (s .entry) ⌝ }
 {
@@ -50,7 +51,8 @@ fn run_kernel(
             types,
             starts,
             counts,
-            predicates,
+            predicate_bits,
+            predicate_counts,
             surface_lengths,
             constants,
             at,
@@ -87,7 +89,8 @@ pub fn run(
     types: &[u8],
     starts: &[u16],
     counts: &[u16],
-    predicates: &[u32],
+    predicate_bits: &[u32],
+    predicate_counts: &[u8],
     surface_lengths: &[u16],
     constants: Constants,
     surfaces: &[u8],
@@ -98,7 +101,7 @@ pub fn run(
     memory_taint: &mut [u8],
 ) -> Answer
     ensures { λ r.
-        let x = setup (now (kernel .entry)) (tables (variableTable types starts counts) (predicateTable predicates) (surfaceTable «surface_lengths»)) constants in
+        let x = setup (now (kernel .entry)) (tables (variableTable types starts counts) (predicateTable «predicate_bits» «predicate_counts») (surfaceTable «surface_lengths»)) constants in
         let s = lent registers «register_taint» surfaces «surface_taint» memory «memory_taint» in
         ⌜ outcome r (s .exit) ≡ run x (s .entry) ⌝ }
 {
@@ -115,13 +118,22 @@ pub fn run(
         base: constants.base,
         taint,
     };
-    if tables::tables_good(lengths, types, starts, counts, predicates, surface_lengths) {
+    if tables::tables_good(
+        lengths,
+        types,
+        starts,
+        counts,
+        predicate_bits,
+        predicate_counts,
+        surface_lengths,
+    ) {
         run_kernel(
             kernel,
             types,
             starts,
             counts,
-            predicates,
+            predicate_bits,
+            predicate_counts,
             surface_lengths,
             constants,
             surfaces,
@@ -153,7 +165,8 @@ pub fn plain_run(
     types: &[u8],
     starts: &[u16],
     counts: &[u16],
-    predicates: &[u32],
+    predicate_bits: &[u32],
+    predicate_counts: &[u8],
     surface_lengths: &[u16],
     constants: Constants,
     surfaces: &[u8],
@@ -161,7 +174,7 @@ pub fn plain_run(
     memory: &mut [u8],
 ) -> Answer
     ensures { λ r.
-        let x = setup (now (kernel .entry)) (tables (variableTable types starts counts) (predicateTable predicates) (surfaceTable «surface_lengths»)) constants in
+        let x = setup (now (kernel .entry)) (tables (variableTable types starts counts) (predicateTable «predicate_bits» «predicate_counts») (surfaceTable «surface_lengths»)) constants in
         ⌜ plainOutcome r (now (registers .exit)) (now (memory .exit)) ≡ withoutMarks (plainRun x (now (registers .entry)) (now (surfaces .entry)) (now (memory .entry))) ⌝ }
 {
     let register_count = registers.len();
@@ -183,7 +196,8 @@ pub fn plain_run(
         types,
         starts,
         counts,
-        predicates,
+        predicate_bits,
+        predicate_counts,
         surface_lengths,
         constants,
         surfaces,

@@ -89,7 +89,8 @@ pub fn step(
     types: &[u8],
     starts: &[u16],
     counts: &[u16],
-    predicates: &[u32],
+    predicate_bits: &[u32],
+    predicate_counts: &[u8],
     surface_lengths: &[u16],
     constants: Constants,
     at: usize,
@@ -101,7 +102,7 @@ pub fn step(
     memory_taint: &mut [u8],
 ) -> Progress
     ensures { λ r.
-        let x = setup (now (kernel .entry)) (tables (variableTable types starts counts) (predicateTable predicates) (surfaceTable «surface_lengths»)) constants in
+        let x = setup (now (kernel .entry)) (tables (variableTable types starts counts) (predicateTable «predicate_bits» «predicate_counts») (surfaceTable «surface_lengths»)) constants in
         let s = lent registers «register_taint» surfaces «surface_taint» memory «memory_taint» in
         let t = stepAt x at (s .entry) in
         ⌜ (r .number ≡ t .effect .number) × (r .detail ≡ t .effect .detail) × (r .next ≡ t .next) × (s .exit ≡ after (t .effect) (s .entry)) ⌝ }
@@ -112,7 +113,8 @@ pub fn step(
                 types,
                 starts,
                 counts,
-                predicates,
+                predicate_bits,
+                predicate_counts,
                 surface_lengths,
                 instruction,
             );

@@ -12,11 +12,11 @@ use Rattle.run.proofs.run_kernel.Statement.{statement}
 use Rattle.run.proofs.run_kernel.Tie as tie
 
 abbrev Inv-loop : tie.InvT-loop
-Inv-loop kernel types starts counts predicates surface-lengths constants surfaces surface-taint registers₀ register-taint₀ memory₀ memory-taint₀ completed₀ at₀ registers register-taint memory memory-taint completed at =
-    Reached (setup kernel (tables (record { types = types; starts = starts; counts = counts }) (record { bits = predicates }) (record { lengths = surface-lengths })) constants) (state registers₀ register-taint₀ surfaces surface-taint memory₀ memory-taint₀) completed at (state registers register-taint surfaces surface-taint memory memory-taint)
+Inv-loop kernel types starts counts predicate-bits predicate-counts surface-lengths constants surfaces surface-taint registers₀ register-taint₀ memory₀ memory-taint₀ completed₀ at₀ registers register-taint memory memory-taint completed at =
+    Reached (setup kernel (tables (record { types = types; starts = starts; counts = counts }) (record { bits = predicate-bits; counts = predicate-counts }) (record { lengths = surface-lengths })) constants) (state registers₀ register-taint₀ surfaces surface-taint memory₀ memory-taint₀) completed at (state registers register-taint surfaces surface-taint memory memory-taint)
 
 abbrev μ-loop : tie.MeasureT-loop
-μ-loop kernel types starts counts predicates surface-lengths constants surfaces surface-taint registers₀ register-taint₀ memory₀ memory-taint₀ completed₀ at₀ registers register-taint memory memory-taint completed at =
+μ-loop kernel types starts counts predicate-bits predicate-counts surface-lengths constants surfaces surface-taint registers₀ register-taint₀ memory₀ memory-taint₀ completed₀ at₀ registers register-taint memory memory-taint completed at =
     length kernel - at
 
 -- where the step was taken, if it is refused and if not
