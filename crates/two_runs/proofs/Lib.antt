@@ -1,2 +1,4 @@
+pub mod ReadBits
+pub mod UnreadBits
 pub mod Theorem
 pub mod Plain

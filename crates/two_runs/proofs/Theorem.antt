@@ -1,6 +1,6 @@
 -- Demand 3, one claim about whole runs: for every kernel, tables, base and mask, two runs whose marks are equal and whose unmarked bytes
--- agree give the same answer, whatever it is, and end with equal marks and equal unmarked bytes.
-use mathlib.Core.Path.{_≡_, refl, sym, ap, _∙_}
+-- agree give the same answer, whatever it is, and end with equal marks and equal unmarked bytes; their predicates may differ at or past the counts.
+use mathlib.Core.Path.{_≡_, refl, sym, ap, subst, _∙_}
 use mathlib.Core.Bool.{Bool, true, false, cond}
 use lib.ListN.{length, getD}
 use Rattle.cells.specs.Buffer.{Buffer}
@@ -10,10 +10,11 @@ use Rattle.tables.proofs.Laws.{limited}
 use Rattle.step.specs.State.{Setup, State, lengthsOf}
 use Rattle.step.specs.Step.{stepAt}
 use Rattle.step.proofs.Untainted.{AgreeingStates, step-same}
-use Rattle.run.specs.Run.{stopped, runThrough}
+use Rattle.run.specs.Run.{Outcome, stopped, runThrough, run}
 use Rattle.run.proofs.Simulation.{runs-same}
 use Rattle.run.proofs.Whole.{run-is}
-use Rattle.two_runs.specs.TwoRuns.{Agree, Agrees, SameRun, TwoRuns}
+use Rattle.two_runs.specs.TwoRuns.{Agree, Agrees, SameRun, SameSetup, TwoRuns}
+use Rattle.two_runs.proofs.UnreadBits.{unread-bits}
 
 to-agreeing : {b c : Buffer} → length (b .taint) ≡ length (b .bytes) → Agree b c → Agreeing b c
 to-agreeing e a =
@@ -63,6 +64,13 @@ module _ (x : Setup) where
       }
   judged-same s u a false good = record { answer = refl; state = a }
 
-  pub two-runs : (s u : State) → TwoRuns x s u
-  two-runs s u a =
+  one-setup : (s u : State) → Agrees s u → SameRun (run x s) (run x u)
+  one-setup s u a =
       rw (run-is x s, run-is x u, ← lengths-same x {s = s} {u = u} a) (judged-same s u a (tablesGood (lengthsOf x s) (x .tables)) refl)
+
+pub two-runs : (x y : Setup) (s u : State) → TwoRuns x y s u
+two-runs x y s u same a = subst (λ (r : Outcome). SameRun (run x s) r) (unread-bits x y same u) (one-setup x s u a)
+
+-- equal tables, as a case of it
+pub same-setup : (x : Setup) → SameSetup x x
+same-setup x = record { kernel = refl; variables = refl; predicates = record { size = refl; counts = refl; elements = λ id k h. refl }; surfaces = refl; constants = refl }
