@@ -9,7 +9,7 @@ use Rattle.hex.specs.Bytes.{isHex, hexBytes}
 use Rattle.hex.specs.Storing.{placed, fits, stored}
 use Rattle.frames.specs.mirror.Reading.{Reading, reading, contents, tables}
 use Rattle.frames.specs.mirror.Lines.{nothing, next, badLine, longLine, goodLine, metOf, lengthOf, counted, sized, based, masked}
-use Rattle.frames.specs.mirror.Repeated.{variableRead, predicateRead, surfaceRead}
+use Rattle.frames.specs.mirror.Repeated.{variableRead, predicateSized, predicateCount, predicateRead, surfaceRead}
 use Rattle.frames.specs.mirror.Once.{contentRead, memoryRead, maskRead, onceRead}
 use Rattle.frames.specs.mirror.Frames.{frameRead, lineRead}
 use Rattle.frames.specs.mirror.Verdicts.{verdict, verdictOf, taintLength}
@@ -21,7 +21,7 @@ abbrev zeros : Reading
 zeros =
     reading nothing
     (contents (replicate 32 0) (replicate 4 0) (replicate 32 0) (replicate 32 0) (replicate 4 0) (replicate 4 0))
-    (tables (replicate 2 0) (replicate 2 0) (replicate 2 0) (replicate 1 0) (replicate 4 0) (replicate 1 0))
+    (tables (replicate 2 0) (replicate 2 0) (replicate 2 0) (replicate 1 0) (replicate 1 0) (replicate 4 0) (replicate 1 0))
 
 record Row : Type 0 where
   text : List ℕ
@@ -60,6 +60,14 @@ rows =
     ∷ row (48 ∷ 50 ∷ 48 ∷ 50 ∷ 48 ∷ 48 ∷ 48 ∷ 48 ∷ 48 ∷ 56 ∷ 10 ∷ []) 14 1
     -- a predicate of three bytes
     ∷ row (48 ∷ 51 ∷ 48 ∷ 49 ∷ 48 ∷ 48 ∷ 48 ∷ 48 ∷ []) 14 1
+    -- a predicate with its count
+    ∷ row (48 ∷ 51 ∷ 102 ∷ 102 ∷ 102 ∷ 102 ∷ 102 ∷ 102 ∷ 102 ∷ 102 ∷ 50 ∷ 48 ∷ []) 0 0
+    -- a predicate of two bytes
+    ∷ row (48 ∷ 51 ∷ 102 ∷ 102 ∷ 102 ∷ 102 ∷ []) 14 1
+    -- of six bytes
+    ∷ row (48 ∷ 51 ∷ 102 ∷ 102 ∷ 102 ∷ 102 ∷ 102 ∷ 102 ∷ 102 ∷ 102 ∷ 48 ∷ 56 ∷ 48 ∷ 48 ∷ []) 14 1
+    -- a second predicate
+    ∷ row (48 ∷ 51 ∷ 102 ∷ 102 ∷ 48 ∷ 48 ∷ 48 ∷ 48 ∷ 48 ∷ 48 ∷ 10 ∷ 48 ∷ 51 ∷ 102 ∷ 102 ∷ 48 ∷ 48 ∷ 48 ∷ 48 ∷ 48 ∷ 48 ∷ 48 ∷ 56 ∷ []) 13 0
     -- EM of five bytes
     ∷ row (48 ∷ 54 ∷ 48 ∷ 49 ∷ 48 ∷ 48 ∷ 48 ∷ 48 ∷ 48 ∷ 48 ∷ 48 ∷ 48 ∷ []) 14 1
     -- a base of seven bytes
@@ -90,14 +98,27 @@ All [] = Unit
 All (w ∷ ws) = Holds w × All ws
 
 verdicts : All rows
-unfolding numberAt isDecimal isLetter isDigit digitOf allDigits isHex hexBytes placed fits stored nothing next badLine longLine goodLine metOf lengthOf counted sized based masked variableRead predicateRead surfaceRead contentRead memoryRead maskRead onceRead frameRead lineRead linesFrom linesOf anyLineRead linesRead textRead verdictOf
-verdicts = (refl, (refl, (refl, (refl, (refl, (refl, (refl, (refl, (refl, (refl, (refl, (refl, (refl, (refl, (refl, (refl, (refl, (refl, (refl, (refl, (refl, (refl, (refl, tt)))))))))))))))))))))))
+unfolding numberAt isDecimal isLetter isDigit digitOf allDigits isHex hexBytes placed fits stored nothing next badLine longLine goodLine metOf lengthOf counted sized based masked variableRead predicateSized predicateCount predicateRead surfaceRead contentRead memoryRead maskRead onceRead frameRead lineRead linesFrom linesOf anyLineRead linesRead textRead verdictOf
+verdicts = (refl, (refl, (refl, (refl, (refl, (refl, (refl, (refl, (refl, (refl, (refl, (refl, (refl, (refl, (refl, (refl, (refl, (refl, (refl, (refl, (refl, (refl, (refl, (refl, (refl, (refl, (refl, tt)))))))))))))))))))))))))))
 
 -- a taint frame that is there has its own length, an empty one too; an absent one has the buffer's
 taint-empty : taintLength 8 1 (textRead 40 (48 ∷ 49 ∷ 48 ∷ 50 ∷ 48 ∷ 51 ∷ 10 ∷ 48 ∷ 56 ∷ []) zeros .case) ≡ 0
-unfolding numberAt isDecimal isLetter isDigit digitOf allDigits isHex hexBytes placed fits stored nothing next badLine longLine goodLine metOf lengthOf counted sized based masked variableRead predicateRead surfaceRead contentRead memoryRead maskRead onceRead frameRead lineRead linesFrom linesOf anyLineRead linesRead textRead verdictOf taintLength
+unfolding numberAt isDecimal isLetter isDigit digitOf allDigits isHex hexBytes placed fits stored nothing next badLine longLine goodLine metOf lengthOf counted sized based masked variableRead predicateSized predicateCount predicateRead surfaceRead contentRead memoryRead maskRead onceRead frameRead lineRead linesFrom linesOf anyLineRead linesRead textRead verdictOf taintLength
 taint-empty = refl
 
 taint-absent : taintLength 8 1 (textRead 40 (48 ∷ 49 ∷ 48 ∷ 50 ∷ 48 ∷ 51 ∷ []) zeros .case) ≡ 2
-unfolding numberAt isDecimal isLetter isDigit digitOf allDigits isHex hexBytes placed fits stored nothing next badLine longLine goodLine metOf lengthOf counted sized based masked variableRead predicateRead surfaceRead contentRead memoryRead maskRead onceRead frameRead lineRead linesFrom linesOf anyLineRead linesRead textRead verdictOf taintLength
+unfolding numberAt isDecimal isLetter isDigit digitOf allDigits isHex hexBytes placed fits stored nothing next badLine longLine goodLine metOf lengthOf counted sized based masked variableRead predicateSized predicateCount predicateRead surfaceRead contentRead memoryRead maskRead onceRead frameRead lineRead linesFrom linesOf anyLineRead linesRead textRead verdictOf taintLength
 taint-absent = refl
+
+-- "an old four-byte frame means 32" (document 02, request 3); a count byte is stored as it stands
+old-count : textRead 40 (48 ∷ 51 ∷ 102 ∷ 102 ∷ 48 ∷ 48 ∷ 48 ∷ 48 ∷ 48 ∷ 48 ∷ []) zeros .tables .predicateCounts ≡ 32 ∷ []
+unfolding numberAt isDecimal isLetter isDigit digitOf allDigits isHex hexBytes placed fits stored nothing next badLine longLine goodLine metOf lengthOf counted sized based masked variableRead predicateSized predicateCount predicateRead surfaceRead contentRead memoryRead maskRead onceRead frameRead lineRead linesFrom linesOf anyLineRead linesRead textRead
+old-count = refl
+
+own-count : textRead 40 (48 ∷ 51 ∷ 102 ∷ 102 ∷ 48 ∷ 48 ∷ 48 ∷ 48 ∷ 48 ∷ 48 ∷ 48 ∷ 56 ∷ []) zeros .tables .predicateCounts ≡ 8 ∷ []
+unfolding numberAt isDecimal isLetter isDigit digitOf allDigits isHex hexBytes placed fits stored nothing next badLine longLine goodLine metOf lengthOf counted sized based masked variableRead predicateSized predicateCount predicateRead surfaceRead contentRead memoryRead maskRead onceRead frameRead lineRead linesFrom linesOf anyLineRead linesRead textRead
+own-count = refl
+
+bad-count : textRead 40 (48 ∷ 51 ∷ 102 ∷ 102 ∷ 102 ∷ 102 ∷ 102 ∷ 102 ∷ 102 ∷ 102 ∷ 48 ∷ 48 ∷ []) zeros .tables .predicateCounts ≡ 0 ∷ []
+unfolding numberAt isDecimal isLetter isDigit digitOf allDigits isHex hexBytes placed fits stored nothing next badLine longLine goodLine metOf lengthOf counted sized based masked variableRead predicateSized predicateCount predicateRead surfaceRead contentRead memoryRead maskRead onceRead frameRead lineRead linesFrom linesOf anyLineRead linesRead textRead
+bad-count = refl

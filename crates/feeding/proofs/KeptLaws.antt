@@ -1,11 +1,8 @@
 -- Buffers that keep their lengths.
 use mathlib.Core.Path.{_≡_, refl, _∙_}
-use mathlib.Core.List.{List}
-use Prim.Native.Nat.{ℕ}
 use lib.ListN.{length}
 use Rattle.frames.specs.declared.Case.{Case}
 use Rattle.frames.specs.mirror.Reading.{Reading, only}
-use Rattle.frames.specs.mirror.Frames.{lineRead}
 
 pub record Kept (r s : Reading) : Type 0 where
   pub registers : length (s .contents .registers) ≡ length (r .contents .registers)
@@ -18,10 +15,11 @@ pub record Kept (r s : Reading) : Type 0 where
   pub starts : length (s .tables .starts) ≡ length (r .tables .starts)
   pub counts : length (s .tables .counts) ≡ length (r .tables .counts)
   pub predicates : length (s .tables .predicates) ≡ length (r .tables .predicates)
+  pub predicateCounts : length (s .tables .predicateCounts) ≡ length (r .tables .predicateCounts)
   pub surfaces : length (s .tables .surfaces) ≡ length (r .tables .surfaces)
   pub lengths : length (s .tables .lengths) ≡ length (r .tables .lengths)
 
--- the same as a call says it that was lent the twelve buffers, and then a state, of which there is nothing to say
+-- the same as a call says it that was lent the thirteen buffers, and then a state, of which there is nothing to say
 abbrev pub Told : Reading → Reading → Type 0
 Told r s =
     (length (s .contents .registers) ≡ length (r .contents .registers))
@@ -34,14 +32,15 @@ Told r s =
     × ((length (s .tables .starts) ≡ length (r .tables .starts))
     × ((length (s .tables .counts) ≡ length (r .tables .counts))
     × ((length (s .tables .predicates) ≡ length (r .tables .predicates))
+    × ((length (s .tables .predicateCounts) ≡ length (r .tables .predicateCounts))
     × ((length (s .tables .surfaces) ≡ length (r .tables .surfaces))
     × ((length (s .tables .lengths) ≡ length (r .tables .lengths))
-    × (Unit {0} × Unit {0}))))))))))))
+    × (Unit {0} × Unit {0})))))))))))))
 
 -- with no call on the way
 pub kept-none : (r : Reading) (case : Case) → Kept r (only case r)
 kept-none r case =
-    record { registers = refl; memory = refl; kernel = refl; registerTaint = refl; surfaceTaint = refl; memoryTaint = refl; types = refl; starts = refl; counts = refl; predicates = refl; surfaces = refl; lengths = refl }
+    record { registers = refl; memory = refl; kernel = refl; registerTaint = refl; surfaceTaint = refl; memoryTaint = refl; types = refl; starts = refl; counts = refl; predicates = refl; predicateCounts = refl; surfaces = refl; lengths = refl }
 
 pub kept-more : (q r s : Reading) → Kept q r → Told r s → Kept q s
 kept-more q r s k t =
@@ -56,10 +55,7 @@ kept-more q r s k t =
       starts = t .1 .1 .1 .1 .1 .1 .1 .0 ∙ k .starts;
       counts = t .1 .1 .1 .1 .1 .1 .1 .1 .0 ∙ k .counts;
       predicates = t .1 .1 .1 .1 .1 .1 .1 .1 .1 .0 ∙ k .predicates;
-      surfaces = t .1 .1 .1 .1 .1 .1 .1 .1 .1 .1 .0 ∙ k .surfaces;
-      lengths = t .1 .1 .1 .1 .1 .1 .1 .1 .1 .1 .1 .0 ∙ k .lengths;
+      predicateCounts = t .1 .1 .1 .1 .1 .1 .1 .1 .1 .1 .0 ∙ k .predicateCounts;
+      surfaces = t .1 .1 .1 .1 .1 .1 .1 .1 .1 .1 .1 .0 ∙ k .surfaces;
+      lengths = t .1 .1 .1 .1 .1 .1 .1 .1 .1 .1 .1 .1 .0 ∙ k .lengths;
     }
-
--- what a line makes of a reading, told by the call that read it
-pub line-kept : (line : List ℕ) (r s : Reading) → s ≡ lineRead line r → Told r s → Kept r s
-line-kept line r s e t = kept-more r r s (kept-none r (r .case)) t

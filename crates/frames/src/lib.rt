@@ -6,7 +6,7 @@ ghost use Rattle.hex.specs.Bytes.{hexBytes};
 ghost use Rattle.frames.specs.mirror.Reading.{reading};
 ghost use Rattle.frames.specs.mirror.Lent.{lentContents, lentTables};
 ghost use Rattle.frames.specs.mirror.Lines.{KINDS, nothing, next, badLine, goodLine, metOf, lengthOf, counted, sized, based, masked};
-ghost use Rattle.frames.specs.mirror.Repeated.{variables, variableRead, predicates, predicateRead, surfaces, surfaceRead};
+ghost use Rattle.frames.specs.mirror.Repeated.{variables, variableRead, predicates, predicateSized, predicateCount, predicateRead, surfaces, surfaceRead};
 ghost use Rattle.frames.specs.mirror.Once.{kept, contentRead, memoryRead, maskRead, once, onceRead};
 ghost use Rattle.frames.specs.mirror.Frames.{lineRead};
 ghost use Rattle.frames.specs.mirror.Verdicts.{taintLength, verdictOf};
@@ -15,6 +15,9 @@ const LAST_LINE: u32 = 4294967295;
 
 // One place for each kind from 0x00 to 0x0a.
 const KINDS: usize = 11;
+
+// The elements of a predicate whose frame has no count byte.
+const OLD_COUNT: u8 = 32;
 
 // The constants that frames set: the address of the first byte of memory, and the execution mask.
 pub struct Settings {
@@ -166,14 +169,37 @@ fn put_variable(
     }
 }
 
-fn put_predicate(line: &[u8], values: &mut [u32], case: Case) -> Case
-    ensures { λ r. ⌜ predicates r (now (values .exit)) ≡ predicateRead (hexBytes (now (line .entry))) (predicates case (now (values .entry))) ⌝ }
+// Four bytes of bits, and behind them there may be a count.
+fn predicate_sized(line: &[u8]) -> bool
+    ensures { λ r. ⌜ r ≡ predicateSized (hexBytes (now (line .entry))) ⌝ }
 {
-    if hex::content_length(line, 1) == 4 {
+    let n = hex::content_length(line, 1);
+    (n == 4) | (n == 5)
+}
+
+fn predicate_count(line: &[u8]) -> u8
+    ensures { λ r. ⌜ r ≡ predicateCount (hexBytes (now (line .entry))) ⌝ }
+{
+    if hex::content_length(line, 1) == 5 {
+        hex::byte(line, 5)
+    } else {
+        OLD_COUNT
+    }
+}
+
+fn put_predicate(line: &[u8], values: &mut [u32], counts: &mut [u8], case: Case) -> Case
+    ensures { λ r. ⌜ predicates r (now (values .exit)) (now (counts .exit)) ≡ predicateRead (hexBytes (now (line .entry))) (predicates case (now (values .entry)) (now (counts .entry))) ⌝ }
+{
+    if predicate_sized(line) {
         let p = met_of(3, case);
         if p < values.len() {
-            values[p] = hex::dword(line, 1);
-            count(3, p + 1, good_line(true, case))
+            if p < counts.len() {
+                values[p] = hex::dword(line, 1);
+                counts[p] = predicate_count(line);
+                count(3, p + 1, good_line(true, case))
+            } else {
+                good_line(false, case)
+            }
         } else {
             good_line(false, case)
         }
@@ -289,11 +315,12 @@ pub fn take_line(
     starts: &mut [u16],
     counts: &mut [u16],
     predicate_values: &mut [u32],
+    predicate_counts: &mut [u8],
     surface_bytes: &mut [u8],
     surface_lengths: &mut [u16],
     case: Case,
 ) -> Case
-    ensures { λ r. let b = lentContents registers memory kernel «register_taint» «surface_taint» «memory_taint» in let t = lentTables types starts counts «predicate_values» «surface_bytes» «surface_lengths» in ⌜ reading r (b .exit) (t .exit) ≡ lineRead (now (line .entry)) (reading case (b .entry) (t .entry)) ⌝ }
+    ensures { λ r. let b = lentContents registers memory kernel «register_taint» «surface_taint» «memory_taint» in let t = lentTables types starts counts «predicate_values» «predicate_counts» «surface_bytes» «surface_lengths» in ⌜ reading r (b .exit) (t .exit) ≡ lineRead (now (line .entry)) (reading case (b .entry) (t .entry)) ⌝ }
 {
     if 0 < case.bad {
         return case;
@@ -306,7 +333,7 @@ pub fn take_line(
         return put_variable(line, types, starts, counts, case);
     }
     if kind == 3 {
-        return put_predicate(line, predicate_values, case);
+        return put_predicate(line, predicate_values, predicate_counts, case);
     }
     if kind == 4 {
         return put_surface(line, surface_bytes, surface_lengths, case);

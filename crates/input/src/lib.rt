@@ -70,10 +70,11 @@ pub fn read_all(
     starts: &mut [u16],
     counts: &mut [u16],
     predicate_values: &mut [u32],
+    predicate_counts: &mut [u8],
     surface_bytes: &mut [u8],
     surface_lengths: &mut [u16],
 ) -> Input
-    ensures { λ r. let b = lentContents registers memory kernel «register_taint» «surface_taint» «memory_taint» in let t = lentTables types starts counts «predicate_values» «surface_bytes» «surface_lengths» in ⌜ Reads (r .ended) (machine (now (line .entry)) fresh (b .entry) (t .entry)) (machine (now (line .exit)) (r .state) (b .exit) (t .exit)) ⌝ }
+    ensures { λ r. let b = lentContents registers memory kernel «register_taint» «surface_taint» «memory_taint» in let t = lentTables types starts counts «predicate_values» «predicate_counts» «surface_bytes» «surface_lengths» in ⌜ Reads (r .ended) (machine (now (line .entry)) fresh (b .entry) (t .entry)) (machine (now (line .exit)) (r .state) (b .exit) (t .exit)) ⌝ }
 {
     let mut block = [0u8; 65536];
     let mut state = feeding::start();
@@ -101,6 +102,7 @@ pub fn read_all(
             starts,
             counts,
             predicate_values,
+            predicate_counts,
             surface_bytes,
             surface_lengths,
             state,

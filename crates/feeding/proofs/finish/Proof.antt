@@ -1,6 +1,6 @@
 -- `feeding::finish` meets its contract.
+use borrow.Author.Needs.{needs}
 use Rattle.feeding.proofs.EndLaws.{last-finished, none-finished}
-use Rattle.feeding.proofs.KeptLaws.{line-kept}
 use Rattle.feeding.proofs.finish.Statement.{statement}
 use Rattle.feeding.proofs.finish.Tie as tie
 
@@ -15,21 +15,11 @@ returns-2 c =
     let asked : tie.After-is-begun = search begun in
     last-finished _ _ _ _ (begun .if1 .left) (asked .is-begun .ensures) (taken .line-characters .ensures) (read .take-line .ensures)
 
--- the line keeps every buffer's length
+-- the line that is read keeps every buffer's length
 pub finish-spec : {M : Type 1} → statement M
 finish-spec =
     tie.close
     (tie.spec (λ c κs. tt) returns (λ c κs. tt) (λ c κs. tt)
-    (λ c. let read : tie.After-take-line = search c in line-kept _ _ _ (read .take-line .ensures) (read .take-line .kept .1) .registers)
-    (λ c. let read : tie.After-take-line = search c in line-kept _ _ _ (read .take-line .ensures) (read .take-line .kept .1) .memory)
-    (λ c. let read : tie.After-take-line = search c in line-kept _ _ _ (read .take-line .ensures) (read .take-line .kept .1) .kernel)
-    (λ c. let read : tie.After-take-line = search c in line-kept _ _ _ (read .take-line .ensures) (read .take-line .kept .1) .registerTaint)
-    (λ c. let read : tie.After-take-line = search c in line-kept _ _ _ (read .take-line .ensures) (read .take-line .kept .1) .surfaceTaint)
-    (λ c. let read : tie.After-take-line = search c in line-kept _ _ _ (read .take-line .ensures) (read .take-line .kept .1) .memoryTaint)
-    (λ c. let read : tie.After-take-line = search c in line-kept _ _ _ (read .take-line .ensures) (read .take-line .kept .1) .types)
-    (λ c. let read : tie.After-take-line = search c in line-kept _ _ _ (read .take-line .ensures) (read .take-line .kept .1) .starts)
-    (λ c. let read : tie.After-take-line = search c in line-kept _ _ _ (read .take-line .ensures) (read .take-line .kept .1) .counts)
-    (λ c. let read : tie.After-take-line = search c in line-kept _ _ _ (read .take-line .ensures) (read .take-line .kept .1) .predicates)
-    (λ c. let read : tie.After-take-line = search c in line-kept _ _ _ (read .take-line .ensures) (read .take-line .kept .1) .surfaces)
-    (λ c. let read : tie.After-take-line = search c in line-kept _ _ _ (read .take-line .ensures) (read .take-line .kept .1) .lengths)
+    (λ c. search needs) (λ c. search needs) (λ c. search needs) (λ c. search needs) (λ c. search needs) (λ c. search needs)
+    (λ c. search needs) (λ c. search needs) (λ c. search needs) (λ c. search needs) (λ c. search needs) (λ c. search needs) (λ c. search needs)
     returns-2)

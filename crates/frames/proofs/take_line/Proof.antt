@@ -35,7 +35,7 @@ returns-4 c =
     let good : tie.Else2 = search k in
     let h : tie.After-is-hex = search good in
     let none : tie.Else1 = search h in
-    predicate-frame _ _ _ _ _ _ (none .if1 .left) (h .is-hex .ensures) (good .if2 .left) _ (k .byte .ensures) _ (kind .if4 .taken) (put .put-predicate .ensures)
+    predicate-frame _ _ _ _ _ _ (none .if1 .left) (h .is-hex .ensures) (good .if2 .left) _ (k .byte .ensures) _ _ (kind .if4 .taken) (put .put-predicate .ensures)
 
 returns-5 : tie.Need-returns-5
 returns-5 c =
@@ -65,6 +65,6 @@ take-line-spec =
     tie.close
     (tie.spec returns (λ c κs. tt) (λ c κs. tt) returns-2 (λ c κs. tt) (λ c κs. tt)
     (λ c. search needs) (λ c. search needs) (λ c. search needs) returns-3 (λ c κs. tt)
-    (λ c. search needs) returns-4 (λ c κs. tt)
+    (λ c. search needs) (λ c. search needs) returns-4 (λ c κs. tt)
     (λ c. search needs) (λ c. search needs) returns-5 (λ c κs. tt)
     (λ c. search needs) (λ c. search needs) (λ c. search needs) (λ c. search needs) (λ c. search needs) (λ c. search needs) returns-6)

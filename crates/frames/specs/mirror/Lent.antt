@@ -16,9 +16,9 @@ lentContents registers memory kernel registerTaint surfaceTaint memoryTaint =
       exit = contents (now (registers .exit)) (now (memory .exit)) (now (kernel .exit)) (now (registerTaint .exit)) (now (surfaceTaint .exit)) (now (memoryTaint .exit));
     }
 
-abbrev pub lentTables : Slice → Slice → Slice → Slice → Slice → Slice → Both Tables Tables
-lentTables types starts counts predicates surfaces lengths =
+abbrev pub lentTables : Slice → Slice → Slice → Slice → Slice → Slice → Slice → Both Tables Tables
+lentTables types starts counts predicates predicateCounts surfaces lengths =
     record {
-      entry = tables (now (types .entry)) (now (starts .entry)) (now (counts .entry)) (now (predicates .entry)) (now (surfaces .entry)) (now (lengths .entry));
-      exit = tables (now (types .exit)) (now (starts .exit)) (now (counts .exit)) (now (predicates .exit)) (now (surfaces .exit)) (now (lengths .exit));
+      entry = tables (now (types .entry)) (now (starts .entry)) (now (counts .entry)) (now (predicates .entry)) (now (predicateCounts .entry)) (now (surfaces .entry)) (now (lengths .entry));
+      exit = tables (now (types .exit)) (now (starts .exit)) (now (counts .exit)) (now (predicates .exit)) (now (predicateCounts .exit)) (now (surfaces .exit)) (now (lengths .exit));
     }

@@ -12,13 +12,14 @@ pub record Contents : Type 0 where
   pub surfaceTaint : List ℕ
   pub memoryTaint : List ℕ
 
--- those of the frames that repeat: types, start bytes and element counts of the variables; the predicates; the bytes of all surfaces, one
--- after the other, and the length of each
+-- those of the frames that repeat: types, start bytes and element counts of the variables; bits and element counts of the predicates; the bytes
+-- of all surfaces, one after the other, and the length of each
 pub record Tables : Type 0 where
   pub types : List ℕ
   pub starts : List ℕ
   pub counts : List ℕ
   pub predicates : List ℕ
+  pub predicateCounts : List ℕ
   pub surfaces : List ℕ
   pub lengths : List ℕ
 
@@ -31,9 +32,9 @@ abbrev pub contents : List ℕ → List ℕ → List ℕ → List ℕ → List �
 contents registers memory kernel registerTaint surfaceTaint memoryTaint =
     record { registers = registers; memory = memory; kernel = kernel; registerTaint = registerTaint; surfaceTaint = surfaceTaint; memoryTaint = memoryTaint }
 
-abbrev pub tables : List ℕ → List ℕ → List ℕ → List ℕ → List ℕ → List ℕ → Tables
-tables types starts counts predicates surfaces lengths =
-    record { types = types; starts = starts; counts = counts; predicates = predicates; surfaces = surfaces; lengths = lengths }
+abbrev pub tables : List ℕ → List ℕ → List ℕ → List ℕ → List ℕ → List ℕ → List ℕ → Tables
+tables types starts counts predicates predicateCounts surfaces lengths =
+    record { types = types; starts = starts; counts = counts; predicates = predicates; predicateCounts = predicateCounts; surfaces = surfaces; lengths = lengths }
 
 abbrev pub reading : Case → Contents → Tables → Reading
 reading case contents tables = record { case = case; contents = contents; tables = tables }

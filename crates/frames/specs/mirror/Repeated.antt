@@ -1,7 +1,8 @@
 -- The frames that repeat, "numbered from 0 in their order". Document 01, "The bench table":
--- "02 variable (type ub, start uw, count uw), 03 predicate ud, 04 surface". A frame's bytes begin with its kind.
+-- "02 variable (type ub, start uw, count uw), 03 predicate ud, 04 surface"; document 02, request 3: "frame 03 takes a further count byte".
+-- A frame's bytes begin with its kind.
 use Prim.Native.Nat.{ℕ, _+_}
-use mathlib.Core.Bool.{true, false, cond, _&&_}
+use mathlib.Core.Bool.{Bool, true, false, cond, _&&_, _||_}
 use mathlib.Core.List.{List}
 use lib.Dec.{ltb, leb, eqb}
 use lib.ListN.{length, getD, set, drop}
@@ -34,18 +35,29 @@ variableRead bytes v =
 pub record Predicates : Type 0 where
   pub case : Case
   pub values : List ℕ
+  pub counts : List ℕ
 
-abbrev pub predicates : Case → List ℕ → Predicates
-predicates case values = record { case = case; values = values }
+abbrev pub predicates : Case → List ℕ → List ℕ → Predicates
+predicates case values counts = record { case = case; values = values; counts = counts }
 
--- four bytes; a predicate more than the table has room for is 13
+-- four bytes, or five: "a further count byte"
+unfoldable pub predicateSized : List ℕ → Bool
+predicateSized bytes = eqb (length (drop 1 bytes)) 4 || eqb (length (drop 1 bytes)) 5
+
+-- "an old four-byte frame means 32"
+unfoldable pub predicateCount : List ℕ → ℕ
+predicateCount bytes = cond (eqb (length (drop 1 bytes)) 5) (getD bytes 5 0) 32
+
+-- a predicate more than the table has room for is 13; the count is stored as it stands
 unfoldable pub predicateRead : List ℕ → Predicates → Predicates
 predicateRead bytes p =
-    cond (eqb (length (drop 1 bytes)) 4)
-    (cond (ltb (metOf 3 (p .case)) (length (p .values)))
-    (predicates (counted 3 (metOf 3 (p .case) + 1) (goodLine true (p .case))) (set (p .values) (metOf 3 (p .case)) (numberAt 4 bytes 1)))
-    (predicates (goodLine false (p .case)) (p .values)))
-    (predicates (badLine (p .case)) (p .values))
+    cond (predicateSized bytes)
+    (cond (ltb (metOf 3 (p .case)) (length (p .values)) && ltb (metOf 3 (p .case)) (length (p .counts)))
+    (predicates (counted 3 (metOf 3 (p .case) + 1) (goodLine true (p .case)))
+    (set (p .values) (metOf 3 (p .case)) (numberAt 4 bytes 1))
+    (set (p .counts) (metOf 3 (p .case)) (predicateCount bytes)))
+    (predicates (goodLine false (p .case)) (p .values) (p .counts)))
+    (predicates (badLine (p .case)) (p .values) (p .counts))
 
 pub record Surfaces : Type 0 where
   pub case : Case

@@ -12,14 +12,14 @@ use Rattle.input.proofs.read_all.Statement.{statement}
 use Rattle.input.proofs.read_all.Tie as tie
 
 abbrev Inv-loop : tie.InvT-loop
-Inv-loop line₀ registers₀ memory₀ kernel₀ register-taint₀ surface-taint₀ memory-taint₀ types₀ starts₀ counts₀ predicate-values₀ surface-bytes₀ surface-lengths₀ block₀ state₀ turns₀ line registers memory kernel register-taint surface-taint memory-taint types starts counts predicate-values surface-bytes surface-lengths block state turns =
+Inv-loop line₀ registers₀ memory₀ kernel₀ register-taint₀ surface-taint₀ memory-taint₀ types₀ starts₀ counts₀ predicate-values₀ predicate-counts₀ surface-bytes₀ surface-lengths₀ block₀ state₀ turns₀ line registers memory kernel register-taint surface-taint memory-taint types starts counts predicate-values predicate-counts surface-bytes surface-lengths block state turns =
     SoFar
-    (machine line₀ fresh (contents registers₀ memory₀ kernel₀ register-taint₀ surface-taint₀ memory-taint₀) (tables types₀ starts₀ counts₀ predicate-values₀ surface-bytes₀ surface-lengths₀))
-    (machine line state (contents registers memory kernel register-taint surface-taint memory-taint) (tables types starts counts predicate-values surface-bytes surface-lengths))
+    (machine line₀ fresh (contents registers₀ memory₀ kernel₀ register-taint₀ surface-taint₀ memory-taint₀) (tables types₀ starts₀ counts₀ predicate-values₀ predicate-counts₀ surface-bytes₀ surface-lengths₀))
+    (machine line state (contents registers memory kernel register-taint surface-taint memory-taint) (tables types starts counts predicate-values predicate-counts surface-bytes surface-lengths))
     × (length block ≡ 65536)
 
 abbrev μ-loop : tie.MeasureT-loop
-μ-loop line₀ registers₀ memory₀ kernel₀ register-taint₀ surface-taint₀ memory-taint₀ types₀ starts₀ counts₀ predicate-values₀ surface-bytes₀ surface-lengths₀ block₀ state₀ turns₀ line registers memory kernel register-taint surface-taint memory-taint types starts counts predicate-values surface-bytes surface-lengths block state turns =
+μ-loop line₀ registers₀ memory₀ kernel₀ register-taint₀ surface-taint₀ memory-taint₀ types₀ starts₀ counts₀ predicate-values₀ predicate-counts₀ surface-bytes₀ surface-lengths₀ block₀ state₀ turns₀ line registers memory kernel register-taint surface-taint memory-taint types starts counts predicate-values predicate-counts surface-bytes surface-lengths block state turns =
     turns
 
 -- the turn's start, from its call
@@ -29,6 +29,10 @@ turn c = search c
 -- the call, from where its bytes are known
 abbrev calls : tie.After-bytes-of Inv-loop μ-loop → tie.After-read Inv-loop μ-loop
 calls c = search c
+
+-- where there were bytes, from where they were fed
+abbrev given : tie.After-feed Inv-loop μ-loop → tie.Else1 Inv-loop μ-loop
+given c = search c
 
 -- what the call answered and its block's length, as they are handed on
 abbrev moved : (c : tie.After-read Inv-loop μ-loop) → Moved (length (c .read .last .1 .0)) (toZ w64 (ofZ w64 (c .read .result)))
@@ -50,14 +54,14 @@ returns c =
 loop-less : tie.Need-loop-less Inv-loop μ-loop
 loop-less c =
     let feeds : tie.After-feed Inv-loop μ-loop = search c in
-    let known : tie.After-bytes-of Inv-loop μ-loop = search feeds in
+    let known : tie.After-bytes-of Inv-loop μ-loop = search (given feeds) in
     let taken : tie.In-loop Inv-loop μ-loop = search (calls known) in
     turn-less _ (taken .loop-test .taken)
 
 loop-again : tie.Need-loop-again Inv-loop μ-loop
 loop-again c =
     let feeds : tie.After-feed Inv-loop μ-loop = search c in
-    let some : tie.Else1 Inv-loop μ-loop = search feeds in
+    let some = given feeds in
     let known : tie.After-bytes-of Inv-loop μ-loop = search some in
     let call = calls known in
     (call-more _ _ (turn call .loop .inv .0) _ _ _ (moved call) (room call) (known .bytes-of .ensures) _ (some .if1 .left) (feeds .feed .ensures) (feeds .feed .kept .1 .0) (feeds .feed .kept .1 .1), room call)
@@ -82,6 +86,7 @@ read-all-spec =
     (λ c. stops c .loop .inv .0 .kept .starts)
     (λ c. stops c .loop .inv .0 .kept .counts)
     (λ c. stops c .loop .inv .0 .kept .predicates)
+    (λ c. stops c .loop .inv .0 .kept .predicateCounts)
     (λ c. stops c .loop .inv .0 .kept .surfaces)
     (λ c. stops c .loop .inv .0 .kept .lengths)
     returns (λ c κs. tt) loop-less loop-again
@@ -96,6 +101,7 @@ read-all-spec =
     (λ c. c .before .loop .inv .0 .kept .starts)
     (λ c. c .before .loop .inv .0 .kept .counts)
     (λ c. c .before .loop .inv .0 .kept .predicates)
+    (λ c. c .before .loop .inv .0 .kept .predicateCounts)
     (λ c. c .before .loop .inv .0 .kept .surfaces)
     (λ c. c .before .loop .inv .0 .kept .lengths)
     (λ c. none-left _ _ (c .before .loop .inv .0)))
