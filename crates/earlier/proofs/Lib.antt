@@ -1,3 +1,5 @@
 pub mod OneRegionRule
+pub mod Given
 pub mod NoSix
 pub mod OneRegionRun
+pub mod Uncounted

@@ -30,10 +30,11 @@ use Rattle.step.proofs.StepTells.{own-tells, step-tells}
 use Rattle.step.proofs.AcceptedLaws.{plan-refuses, plan-passes}
 use Rattle.run.specs.Run.{Outcome, stoppedWith, stopped, settled, runFrom, runThrough, run}
 use Rattle.run.proofs.Whole.{run-is}
-use Rattle.earlier.specs.OneRegionRule.{numberBefore, asBefore, isGiven}
+use Rattle.earlier.specs.OneRegionRule.{numberBefore, asBefore}
+use Rattle.earlier.specs.Given.{isGivenUncounted, isGiven}
 use Rattle.earlier.specs.OneRegionRun.{effectBefore, stepBefore, runBefore, outcomeBefore}
 use Rattle.earlier.proofs.OneRegionRule.{checked-before}
-use Rattle.earlier.proofs.NoSix.{small-given, checked-given}
+use Rattle.earlier.proofs.Given.{still-given, small-given, checked-given}
 
 -- a step in the numbers of before: the same next position and, where it is not refused, the same state
 pub record SameBefore (t u : Stepped) (s : State) : Type 0 where
@@ -147,7 +148,7 @@ unfolding asBefore namesOperand
 table-number = refl
 
 table-given : isGiven 13 ≡ true
-unfolding isGiven namesOperand
+unfolding isGiven isGivenUncounted namesOperand
 table-given = refl
 
 -- of every run, 13 included
@@ -175,24 +176,24 @@ run-number P f nil steps end (suc fuel) c a s = told (run-number P f nil steps e
 
 module _ (x : Setup) where
   own-given : (w : Window) (mask : ℕ) (p : Plan) (bytes : List ℕ) (n : ℕ) (d : Detail) → ScatterTells w mask p bytes n d → isGiven n ≡ true
-  unfolding isGiven namesOperand
+  unfolding isGiven isGivenUncounted namesOperand
   own-given w mask p bytes n d done = refl
   own-given w mask p bytes n d doubtful = refl
   own-given w mask p bytes n d (misalignedPair first) = refl
   own-given w mask p bytes n d (outsidePair even first) = refl
 
   told-given : (at : ℕ) (s : State) (n : ℕ) (d : Detail) → Tells x at s n d → isGiven n ≡ true
-  told-given at s n d (undecoded {n = k} e) = small-given k (omega (arith, refusal-at-most-four (x .kernel) at k e))
+  told-given at s n d (undecoded {n = k} e) = still-given k (small-given k (omega (arith, refusal-at-most-four (x .kernel) at k e)))
   told-given at s n d (tested {i = i} is e names) = subst (λ (k : ℕ). isGiven k ≡ true) e (checked-given (x .tables) i)
   told-given at s n d (performed is e own) = own-given _ _ _ _ _ _ own
 
   step-given : (at : ℕ) (s : State) → isGiven (stepAt x at s .effect .number) ≡ true
   step-given at s = told-given at s _ _ (step-tells x s at)
 
-  -- 0 to 5, 7 to 13, and 20 to 25
+  -- 0 to 5, 7 to 13, 17, and 20 to 25
   pub run-given : (s : State) → isGiven (run x s .answer .number) ≡ true
   run-given s = subst (λ (o : Outcome). isGiven (o .answer .number) ≡ true) (sym (run-is x s)) (told (tablesGood (lengthsOf x s) (x .tables)))
     where
       told : (q : Bool) → isGiven (cond q (runThrough x s) (stopped 13 0 0 s) .answer .number) ≡ true
-      told true = run-number (λ (n : ℕ). isGiven n ≡ true) (stepAt x) (small-given 0 (omega arith)) step-given (length (x .kernel)) (length (x .kernel)) 0 0 s
+      told true = run-number (λ (n : ℕ). isGiven n ≡ true) (stepAt x) (still-given 0 (small-given 0 (omega arith))) step-given (length (x .kernel)) (length (x .kernel)) 0 0 s
       told false = table-given

@@ -1,2 +1,4 @@
 pub mod OneRegionRule
 pub mod OneRegionRun
+pub mod Given
+pub mod Uncounted

@@ -1,9 +1,10 @@
 -- The number of the first failing test before data, with document 01's one rule of regions, 6, in the place of 20 to 25. Document 01, "The numbers
--- given back": "A run then tests 8; predicate 5; surface 5; each operand in order 5, 4 (type), 6, 7; 9".
+-- given back": "A run then tests 8; predicate 5; surface 5; each operand in order 5, 4 (type), 6, 7; 9". The tests of exec byte and pred word are
+-- those of now.
 use Prim.Native.Nat.{ℕ, zero, suc}
-use mathlib.Core.Bool.{Bool, cond, not, _&&_, _||_}
+use mathlib.Core.Bool.{cond, not}
 use mathlib.Core.List.{List, [], _∷_, map}
-use lib.Dec.{ltb, leb}
+use lib.Dec.{ltb}
 use lib.ListN.{length}
 use Rattle.details.specs.Details.{namesOperand}
 use Rattle.element_types.specs.Types.{sizeOf}
@@ -23,7 +24,7 @@ use Rattle.operands.specs.declared.TypeRule.{TypeRule}
 use Rattle.operands.specs.Allowed.{typeAllowed}
 use Rattle.operands.specs.Variables.{inTable, variableAt}
 use Rattle.operands.specs.Operands.{locatedImmediate, locatedRaw}
-use Rattle.plan.specs.Control.{controlOf, controlRefusal}
+use Rattle.plan.specs.Control.{controlOf, predicateFor, controlRefusal}
 use Rattle.plan.specs.Places.{Asked, vector, raw, operandsOf}
 
 -- "4 (type), 6, 7": 6 where document 01's rule of the region's parameters (`regionAllowed`) does not hold
@@ -70,12 +71,8 @@ lastNumber (instruction.Scatter i) = 0
 
 unfoldable pub numberBefore : Tables → Instruction → ℕ
 numberBefore t i =
-    firstRefusal (controlRefusal (t .predicates) (controlOf i) ∷ surfaceNumber t i ∷ operandNumbers (t .variables) i) (lastNumber i)
+    firstRefusal (controlRefusal (predicateFor (t .predicates) i) (controlOf i) ∷ surfaceNumber t i ∷ operandNumbers (t .variables) i) (lastNumber i)
 
 -- "6 becomes 20 to 24 .. 25", turned back
 unfoldable pub asBefore : ℕ → ℕ
 asBefore n = cond (namesOperand n) 6 n
-
--- the numbers that a run gives now: 6 is none of them
-unfoldable pub isGiven : ℕ → Bool
-isGiven n = namesOperand n || leb n 5 || (leb 7 n && leb n 13)

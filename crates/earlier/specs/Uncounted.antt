@@ -1,0 +1,75 @@
+-- The run before predicates had counts (document 02, request 3): no definition here asks for one. Of a predicate its bits were known, and its only
+-- test was 5. Document 01, "The numbers given back": "A run then tests 8; predicate 5; surface 5; ..".
+use Prim.Native.Nat.{ℕ}
+use mathlib.Core.Path.{_≡_}
+use mathlib.Core.Bool.{Bool, cond, _&&_}
+use mathlib.Core.List.{List}
+use lib.Dec.{ltb, leb}
+use lib.ListN.{length, getD, replicate}
+use Rattle.details.specs.declared.Detail.the-variants as detail
+use Rattle.cells.specs.Effect.{refused}
+use Rattle.reader.specs.Reply.{onReply}
+use Rattle.channels.specs.Predicate.{hasPredicate, predicateId}
+use Rattle.field_groups.specs.declared.Control.{Control}
+use Rattle.decoder.specs.declared.Instruction.{Instruction}
+use Rattle.decoder.specs.Decoding.{instructionAt}
+use Rattle.tables.specs.declared.Lengths.{Lengths}
+use Rattle.tables.specs.Lengths.{lengthsGood}
+use Rattle.tables.specs.Variables.{variablesGood}
+use Rattle.tables.specs.Predicates.{Predicates}
+use Rattle.tables.specs.Surfaces.{surfacesGood}
+use Rattle.tables.specs.Tables.{Tables}
+use Rattle.plan.specs.declared.Plan.{Plan}
+use Rattle.plan.specs.Control.{controlOf, lanesEnd}
+use Rattle.plan.specs.Plans.{tested}
+use Rattle.plan.specs.Checked.{checkedOperands}
+use Rattle.step.specs.State.{Setup, State, lengthsOf}
+use Rattle.step.specs.Step.{Stepped, planEffect}
+use Rattle.run.specs.Run.{Outcome, stopped, runFrom}
+
+-- "At most .. 64 predicates"
+unfoldable pub tablesUncounted : Lengths → Tables → Bool
+tablesUncounted l t =
+    lengthsGood l
+    && variablesGood (l .registers) (t .variables)
+    && leb (length (t .predicates .bits)) 64
+    && surfacesGood (l .surfaces) (t .surfaces)
+
+-- 8: "offset + ExecSize over 32"; then 5: "predicate .. not in its table"; 0 is no refusal
+unfoldable pub controlUncounted : List ℕ → Control → ℕ
+controlUncounted bits control =
+    cond (ltb 32 (lanesEnd (control .exec))) 8
+    (cond (hasPredicate (control .pred) && leb (length bits) (predicateId (control .pred))) 5 0)
+
+-- the bits of the predicate that the pred word names, 0 without one
+unfoldable pub bitsUncounted : List ℕ → ℕ → ℕ
+bitsUncounted bits pred = cond (hasPredicate pred) (getD bits (predicateId pred) 0) 0
+
+unfoldable pub checkedUncounted : Tables → Instruction → Plan
+checkedUncounted t i =
+    tested (controlUncounted (t .predicates .bits) (controlOf i)) detail.None
+    (checkedOperands t (bitsUncounted (t .predicates .bits) (controlOf i .pred)) i)
+
+unfoldable pub stepUncounted : Setup → ℕ → State → Stepped
+stepUncounted x at s =
+    onReply (instructionAt (x .kernel) at)
+    (λ n. record { next = at; effect = refused n detail.None })
+    (λ i. record { next = i .next; effect = planEffect (x .constants) (checkedUncounted (x .tables) (i .value)) s })
+
+unfoldable pub runUncounted : Setup → State → Outcome
+runUncounted x s =
+    cond (tablesUncounted (lengthsOf x s) (x .tables))
+    (runFrom (stepUncounted x) (length (x .kernel)) (length (x .kernel)) 0 0 s)
+    (stopped 13 0 0 s)
+
+-- "an old four-byte frame means 32": every count is 32
+abbrev pub AllThirtyTwo : Predicates → Type 0
+AllThirtyTwo p = p .counts ≡ replicate (length (p .bits)) 32
+
+-- 17: 8 does not stand, a predicate is named and in its table, and "offset plus ExecSize over the count"
+unfoldable pub pastCount : Predicates → Control → Bool
+pastCount p control =
+    leb (lanesEnd (control .exec)) 32
+    && hasPredicate (control .pred)
+    && ltb (predicateId (control .pred)) (length (p .bits))
+    && ltb (getD (p .counts) (predicateId (control .pred)) 0) (lanesEnd (control .exec))
