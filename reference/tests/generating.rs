@@ -139,6 +139,25 @@ fn valid_cases_cover_their_ground() {
     }
 }
 
+/// A predicate's frame has four bytes or five in every mode, five also where the count is 32.
+#[test]
+fn frames_of_predicates() {
+    for mode in Mode::ALL {
+        let generator = Generator::new(10, Some(mode));
+        let mut forms = BTreeSet::new();
+        for index in 0..400 {
+            let file = generator.case(index).file;
+            let frames = file.split(|byte| *byte == 0x0a);
+            for frame in frames.filter(|line| line.starts_with(b"03")) {
+                forms.insert((frame.len(), frame.ends_with(b"20")));
+            }
+        }
+        for form in [(10, false), (12, false), (12, true)] {
+            assert!(forms.contains(&form), "{}: {form:?}", mode.name());
+        }
+    }
+}
+
 fn tables(case: &Case, seen: &mut BTreeSet<String>) {
     let mut see = |what: &str, there: bool| {
         if there {

@@ -67,10 +67,15 @@ pub fn two_registers(variable: &Variable, first: u64, last: u64) -> bool {
     high / 32 - low / 32 <= 1
 }
 
-/// The upper bits of a predicate word: bit by bit, any or all, inverse or not.
-pub fn how(random: &mut Random) -> u16 {
-    let combine = random.pick(&[0, 0, 1, 2]);
-    (combine << 13 | random.below(2) << 15) as u16
+/// A predicate word that names a predicate: bit by bit, any or all, inverse or not. The word 0 names none.
+pub fn naming(random: &mut Random, id: u16) -> u16 {
+    loop {
+        let combine = random.pick(&[0, 0, 1, 2]);
+        let word = id | combine << 13 | random.pick(&[0, 0x8000]);
+        if word != 0 {
+            return word;
+        }
+    }
 }
 
 impl Scene {
@@ -101,7 +106,7 @@ impl Scene {
         // The shortest more often than the rest.
         fitting.sort_by_key(count_of);
         let id = fitting[random.edge(fitting.len() as u64 - 1) as usize];
-        id | how(random)
+        naming(random, id)
     }
 
     /// A General source of an integer type that fits.

@@ -1,7 +1,7 @@
 //! All faults of one kind of instruction, field by field and test by test; here those of the fields before
 //! the operands.
 
-use super::accepted::{how, mask_end, Kind};
+use super::accepted::{mask_end, naming, Kind};
 use super::address_faults::scatter_addresses;
 use super::fault::*;
 use super::operand_faults::{operands, raw_operand, vector_operand, Role};
@@ -50,11 +50,7 @@ fn short_predicate(random: &mut Random, scene: &mut Scene, draft: &mut Draft, fu
         bits: bits(random),
         count: (longest - fewer) as u8,
     });
-    let how = match id {
-        0 => random.pick(&[0x2000, 0x4000, 0x8000, 0xa000, 0xc000]),
-        _ => how(random),
-    };
-    draft.set(Slot::Pred, &word(id | how));
+    draft.set(Slot::Pred, &word(naming(random, id)));
 }
 
 /// The fields before the operands: numbers 2, 3, 8, 17 and the 5 of predicate and surface.

@@ -130,15 +130,15 @@ impl Mistake {
                 DONE => decoded.part.to_vec(),
                 _ => rest.to_vec(),
             };
-            let number = match decoded.number {
+            let answer = match decoded.number {
                 DONE => self.tested(case, &mut left, &decoded.instruction),
                 _ => run(&mut left),
             };
-            if number.number != DONE {
+            if answer.number != DONE {
                 return Answer {
                     completed,
                     position,
-                    ..number
+                    ..answer
                 };
             }
             completed += 1;
@@ -152,11 +152,9 @@ impl Mistake {
 
     /// Run one instruction on what is left of the case, where every predicate has 32 elements and so none gives 17.
     fn tested(self, case: &Case, left: &mut Case, it: &Instruction) -> Answer {
-        let id = it.predicate_id();
-        let record = case.predicates.get(id);
         let named = it.has_predicate() || self == Mistake::WithoutPredicate;
-        let count = match record {
-            Some(record) => u64::from(record.count),
+        let count = match case.predicates.get(it.predicate_id()) {
+            Some(predicate) => u64::from(predicate.count),
             None if self == Mistake::BeforePredicate => 0,
             None => u64::MAX,
         };
@@ -164,30 +162,16 @@ impl Mistake {
             return run(left);
         }
         let seventeen = refused(OVER_COUNT, 0);
-        let by_bits = (it.pred >> 13) & 3 == 0;
+        let lacks_surface = it.opcode == GATHER && usize::from(it.surface) >= case.surfaces.len();
         match self {
             Mistake::Before8 => seventeen,
             _ if it.mask_end() > 32 => run(left),
-            Mistake::AfterSurface
-                if it.opcode == GATHER && usize::from(it.surface) >= case.surfaces.len() =>
-            {
-                run(left)
-            }
+            Mistake::AfterSurface if lacks_surface => run(left),
             Mistake::AfterOperands => match run(&mut left.clone()) {
                 later if is_after_operands(later.number) => seventeen,
                 earlier => earlier,
             },
-            Mistake::CutDown if !by_bits => {
-                let below = ((1u64 << count) - 1) as u32;
-                let bits = left.predicates[id].bits;
-                left.predicates[id].bits = match (it.pred >> 13) & 3 {
-                    1 => bits & below,
-                    _ => bits | !below,
-                };
-                let answer = run(left);
-                left.predicates[id].bits = bits;
-                answer
-            }
+            Mistake::CutDown if combine(it) != 0 => run_cut_down(left, it, count),
             _ => seventeen,
         }
     }
@@ -202,7 +186,7 @@ impl Mistake {
             Mistake::AtTheCount => end >= count,
             Mistake::NotUnderNm => over && !it.no_mask(),
             Mistake::NotOfSend => over && it.opcode != RAW_SEND,
-            Mistake::AnyAndAllOnly => over && (it.pred >> 13) & 3 != 0,
+            Mistake::AnyAndAllOnly => over && combine(it) != 0,
             Mistake::LanesOnOnly => {
                 let on = |bit: u64| it.no_mask() || (case.execution_mask >> bit) & 1 == 1;
                 (count.max(it.mask_offset())..end.min(32)).any(on)
@@ -210,6 +194,25 @@ impl Mistake {
             _ => over,
         }
     }
+}
+
+/// "13-14 none/any/all/reserved"
+fn combine(it: &Instruction) -> u16 {
+    (it.pred >> 13) & 3
+}
+
+/// Run an instruction whose any or all does not see the bits at and past the count.
+fn run_cut_down(left: &mut Case, it: &Instruction, count: u64) -> Answer {
+    let below = ((1u64 << count) - 1) as u32;
+    let id = it.predicate_id();
+    let bits = left.predicates[id].bits;
+    left.predicates[id].bits = match combine(it) {
+        1 => bits & below,
+        _ => bits | !below,
+    };
+    let answer = run(left);
+    left.predicates[id].bits = bits;
+    answer
 }
 
 fn with_32(case: &Case) -> Case {

@@ -1,6 +1,6 @@
 //! Predicates with as many elements as an instruction needs, one less, and one more: for every offset and ExecSize.
 
-use super::accepted::{how, mask_end, Kind};
+use super::accepted::{mask_end, naming, Kind};
 use super::fault::word;
 use super::limits::{byte_destination, with};
 use super::near_misses::{base_instruction, base_scene};
@@ -41,11 +41,7 @@ pub fn one_count(random: &mut Random, way: usize, round: u64) -> Meant {
     draft.set(Slot::Exec, &[exec | random.pick(&[0, 0x80])]);
 
     let id = scene.case.predicates.len() as u16;
-    let how = match id {
-        0 => random.pick(&[0x2000, 0x4000, 0x8000, 0xa000, 0xc000]),
-        _ => how(random),
-    };
-    draft.set(Slot::Pred, &word(id | how));
+    draft.set(Slot::Pred, &word(naming(random, id)));
     let mut scene = with(random, scene, &draft);
     scene.case.predicates.push(Predicate {
         bits: bits_about(random, end.min(count)),
@@ -61,13 +57,13 @@ pub fn one_count(random: &mut Random, way: usize, round: u64) -> Meant {
     (scene, name, number, Detail::None)
 }
 
-/// Bits that differ, or all but one, at a place: a program that looks at more of them, or at fewer, takes other lanes.
+/// Bits that change at a place, or there alone: a program that looks at more of them, or at fewer, takes other lanes.
 fn bits_about(random: &mut Random, place: u64) -> u32 {
     let below = ((1u64 << place) - 1) as u32;
     match random.below(5) {
         0 => below,
         1 => !below,
-        2 => u32::MAX & !(1u64 << place) as u32,
+        2 => !(1u64 << place) as u32,
         3 => (1u64 << place) as u32,
         _ => random.next() as u32,
     }
