@@ -1,4 +1,4 @@
-//! The case file writer: a case as lines, every frame present, in the order of the kinds. A predicate's frame has its count.
+//! The case file writer: a case as lines, every frame present, in the order of the kinds, predicates with their counts.
 
 use crate::case::Case;
 use crate::hex::push_hex;

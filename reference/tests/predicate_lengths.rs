@@ -268,8 +268,8 @@ fn every_way_of_naming() {
     }
 }
 
-/// "directly after the predicate's 5": 8 and that 5 stand before 17, the surface's 5, every operand's numbers and RAW_SEND's
-/// 9 behind it, and so do 10, 11 and 12.
+/// "directly after the predicate's 5": 8 and that 5 stand before 17, the surface's 5 and every operand's numbers behind it,
+/// and so do 9, 10, 11 and 12.
 #[test]
 fn the_order() {
     let one = immediate(0, 1);
@@ -310,14 +310,16 @@ fn the_order() {
         assert_ne!(number(gathered(0, surface, offset)), 0);
         assert_eq!(number(gathered(2, surface, offset)), 17);
     }
-    // 11, and 10 where the element offset is tainted.
-    let odd = immediate_uq(0x1001);
-    let scattered = |pred| scatter(0x03, pred, 1, &odd, &raw(UQ, 0), &raw(UD, 0));
-    for (taint, other) in [(0, 11), (1, 10)] {
+    let sent = |pred| raw_send(0x03, pred, 1, 1, &one, &raw(UD, 0), &raw(F, 0));
+    assert_eq!([number(sent(0)), number(sent(2))], [9, 17]);
+    // Outside the window, unaligned, and with a tainted element offset too.
+    for (address, taint, other) in [(0x2000, 0, 12), (0x1001, 0, 11), (0x1001, 1, 10)] {
+        let address = immediate_uq(address);
         for (pred, expected) in [(0, other), (2, 17)] {
+            let scattered = scatter(0x03, pred, 1, &address, &raw(UQ, 0), &raw(UD, 0));
             let mut case = with_count(7);
             case.register_taint[start(UQ)] = taint;
-            assert_eq!(run_on(&mut case, &[scattered(pred)]).number, expected);
+            assert_eq!(run_on(&mut case, &[scattered]).number, expected);
         }
     }
     // Decoding comes first.
