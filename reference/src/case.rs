@@ -8,6 +8,21 @@ pub struct Variable {
     pub count: u16,
 }
 
+/// Document 02, request 3: "Each predicate's record gains a count from 1 to 32".
+#[derive(Clone, Copy, Debug, Default, PartialEq, Eq)]
+pub struct Predicate {
+    pub bits: u32,
+    /// How many elements it has; bits at or past the count may be anything.
+    pub count: u8,
+}
+
+impl Predicate {
+    /// One of all 32 elements.
+    pub const fn of_32(bits: u32) -> Predicate {
+        Predicate { bits, count: 32 }
+    }
+}
+
 /// "Lent for a run: kernel bytes, register file, surface bytes, memory window with its 64-bit base,
 /// three tables, a 32-bit execution mask EM."
 ///
@@ -19,7 +34,7 @@ pub struct Case {
     /// The register file.
     pub registers: Vec<u8>,
     pub variables: Vec<Variable>,
-    pub predicates: Vec<u32>,
+    pub predicates: Vec<Predicate>,
     pub surfaces: Vec<Vec<u8>>,
     /// The base of the memory window.
     pub base: u64,

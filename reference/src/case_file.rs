@@ -2,7 +2,7 @@
 //!
 //! A line is document 01's bench line; the bytes that it spells are a frame, the kind being the first.
 
-use crate::case::{Case, Variable};
+use crate::case::{Case, Predicate, Variable};
 use crate::hex;
 
 /// "one over 16,386 characters included"; the 0x0a is not counted.
@@ -54,7 +54,7 @@ fn ud(bytes: &[u8]) -> u32 {
 struct Frames {
     registers: Option<Vec<u8>>,
     variables: Vec<Variable>,
-    predicates: Vec<u32>,
+    predicates: Vec<Predicate>,
     surfaces: Vec<Vec<u8>>,
     base_and_memory: Option<(u64, Vec<u8>)>,
     execution_mask: Option<u32>,
@@ -84,12 +84,17 @@ impl Frames {
                 });
                 true
             }
-            // "03 predicate ud"
+            // "03 predicate ud"; "frame 03 takes a further count byte, and an old four-byte frame means 32"
             0x03 => {
-                if body.len() != 4 {
-                    return false;
-                }
-                self.predicates.push(ud(body));
+                let predicate = match body.len() {
+                    4 => Predicate::of_32(ud(body)),
+                    5 => Predicate {
+                        bits: ud(body),
+                        count: body[4],
+                    },
+                    _ => return false,
+                };
+                self.predicates.push(predicate);
                 true
             }
             // "04 surface"

@@ -1,4 +1,4 @@
-//! The case file writer: a case as lines, every frame present, in the order of the kinds.
+//! The case file writer: a case as lines, every frame present, in the order of the kinds, predicates with their counts.
 
 use crate::case::Case;
 use crate::hex::push_hex;
@@ -22,7 +22,8 @@ pub fn case_lines(case: &Case) -> Vec<Vec<u8>> {
         lines.push(line(0x02, &[&[variable.type_code], &start, &count]));
     }
     for predicate in &case.predicates {
-        lines.push(line(0x03, &[&predicate.to_le_bytes()]));
+        let bits = predicate.bits.to_le_bytes();
+        lines.push(line(0x03, &[&bits, &[predicate.count]]));
     }
     for surface in &case.surfaces {
         lines.push(line(0x04, &[surface]));

@@ -104,6 +104,11 @@ impl Instruction {
         4 * (k - 1)
     }
 
+    /// "offset + ExecSize"
+    pub fn mask_end(&self) -> u64 {
+        self.mask_offset() + self.exec_size()
+    }
+
     /// The upper half of the sixteen masks is M1_NM..M8_NM.
     pub fn no_mask(&self) -> bool {
         (self.exec >> 4) >= 8

@@ -5,7 +5,7 @@ use crate::instruction::Instruction;
 
 /// "Channel n is on when NM is chosen or EM bit n+offset is 1, and the predicate agrees".
 ///
-/// Called only when offset + ExecSize is at most 32 and the predicate is in its table.
+/// Called only when offset + ExecSize is at most 32, and the predicate is in its table and long enough.
 pub fn lanes_on(case: &Case, instruction: &Instruction) -> Vec<bool> {
     let mut on = Vec::new();
     for n in 0..instruction.exec_size() {
@@ -22,7 +22,7 @@ fn predicate_agrees(case: &Case, instruction: &Instruction, n: u64) -> bool {
     if !instruction.has_predicate() {
         return true;
     }
-    let bits = case.predicates[instruction.predicate_id()];
+    let bits = case.predicates[instruction.predicate_id()].bits;
     let offset = instruction.mask_offset();
     let combine = (instruction.pred >> 13) & 3;
     let combined = match combine {

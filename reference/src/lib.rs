@@ -12,6 +12,7 @@
 //!
 //! - request 1, kernels as text: `spelling`, `print`, `ways`, `read`, `listed`, `assembled`
 //! - request 2, which region rule: `region`, `operands`, `refusal`, `verdict`
+//! - request 3, predicates have lengths: `case`, `case_file`, `sizes`, `run_checks`
 //!
 //! Beside the interpreter stand the generators of cases and lines (`assemble`, `generate`), the comparisons (`source`,
 //! `command`, `difference`, `comparison`, `line_comparison`) and the programs (`programs`, `panics`).

@@ -35,6 +35,8 @@ pub const BAD_LINE: u8 = 14;
 pub const SHORT_BUFFER: u8 = 15;
 /// Document 02, request 1: "text that is no printed line"
 pub const NO_LINE: u8 = 16;
+/// Request 3: "offset plus ExecSize over the count"
+pub const OVER_COUNT: u8 = 17;
 /// Request 2, 20 to 24 "in the order just given": "width 0 or 32"
 pub const WIDTH_0_OR_32: u8 = 20;
 /// "horizontal stride over 4"

@@ -1,5 +1,5 @@
 //! What a run asks of a decoded instruction before it touches data: "A run then tests 8; predicate 5;
-//! surface 5; each operand in order 5, 4 (type), 6, 7; 9", 6 being 20 to 25.
+//! surface 5; each operand in order 5, 4 (type), 6, 7; 9", 6 being 20 to 25, and 17 "directly after the predicate's 5".
 
 use crate::case::Case;
 use crate::element_type::{DWORD_TYPES, SHL_TYPES, UD, UQ};
@@ -14,12 +14,19 @@ pub fn check(case: &Case, instruction: &Instruction) -> Result<(), Refusal> {
     let exec_size = instruction.exec_size();
 
     // 8: "offset + ExecSize over 32"
-    if instruction.mask_offset() + exec_size > 32 {
+    if instruction.mask_end() > 32 {
         return Err(number::OVER_32.into());
     }
-    // "predicate 5"
-    if instruction.has_predicate() && instruction.predicate_id() >= case.predicates.len() {
-        return Err(number::NOT_IN_TABLE.into());
+    if instruction.has_predicate() {
+        match case.predicates.get(instruction.predicate_id()) {
+            // "predicate 5"
+            None => return Err(number::NOT_IN_TABLE.into()),
+            // 17: "offset plus ExecSize over the count"
+            Some(predicate) if instruction.mask_end() > u64::from(predicate.count) => {
+                return Err(number::OVER_COUNT.into());
+            }
+            Some(_) => {}
+        }
     }
     // "surface 5"
     if instruction.opcode == GATHER && usize::from(instruction.surface) >= case.surfaces.len() {

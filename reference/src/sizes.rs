@@ -31,6 +31,8 @@ fn sizes_hold(case: &Case) -> bool {
         && case.predicates.len() <= 64
         && case.surfaces.len() <= 8
         && case.surfaces.iter().all(|surface| surface.len() <= 1024)
+        // "a count from 1 to 32", "a bad count is 13"
+        && case.predicates.iter().all(|it| (1..=32).contains(&it.count))
         && case.variables.iter().all(|variable| variable_holds(variable, registers))
         // "or marks differ in length from their buffer"
         && case.register_taint.len() == case.registers.len()

@@ -1,7 +1,7 @@
 //! The bench program's lines: what is a bad line (14), what is absent, 14 before 13, and the output.
 
 use reference::bench::bench;
-use reference::case::{Case, Variable};
+use reference::case::{Case, Predicate, Variable};
 use reference::case_file::read_case;
 use reference::case_writer::write_case;
 
@@ -77,7 +77,7 @@ fn kinds() {
     }
 }
 
-/// Lengths: 02 has 5 bytes, 03 and 06 have 4, 05 has 8 or more.
+/// Lengths: 02 has 5 bytes, 03 has 4 or 5, 06 has 4, 05 has 8 or more.
 #[test]
 fn lengths() {
     for length in 0..12usize {
@@ -94,8 +94,14 @@ fn lengths() {
         } else {
             bad_line(1)
         };
-        assert_eq!(output(&frame("03")), expected);
         assert_eq!(output(&frame("06")), expected);
+        // A predicate of no elements is 13.
+        let expected = match length {
+            4 => NOTHING.to_string(),
+            5 => THIRTEEN.to_string(),
+            _ => bad_line(1),
+        };
+        assert_eq!(output(&frame("03")), expected);
         if length < 8 {
             assert_eq!(output(&frame("05")), bad_line(1));
         } else {
@@ -246,7 +252,13 @@ fn written_cases_are_read_back() {
                 count: 0,
             },
         ],
-        predicates: vec![0x0102_0304, 0xffff_0000],
+        predicates: vec![
+            Predicate::of_32(0x0102_0304),
+            Predicate {
+                bits: 0xffff_0000,
+                count: 255,
+            },
+        ],
         surfaces: vec![vec![], vec![9, 8], vec![7]],
         base: 0x0102_0304_0506_0708,
         memory: vec![0xaa; 5],

@@ -4,6 +4,7 @@ mod common;
 
 use common::*;
 use reference::assemble::*;
+use reference::case::Predicate;
 use reference::shl::{exact, shifted};
 
 /// "Source read exactly (signed types signed)".
@@ -300,7 +301,7 @@ fn masks() {
     let written = |exec: u8, pred: u16, mask: u32, bits: u32| {
         let mut case = stage();
         case.execution_mask = mask;
-        case.predicates = vec![bits, bits];
+        case.predicates = vec![Predicate::of_32(bits); 2];
         let draft = shl(
             exec,
             pred,

@@ -58,7 +58,10 @@ fn near_misses_have_every_number() {
         names.insert(case.name);
     }
     // 6 is given no more.
-    assert_eq!(numbers, (0..=5).chain(7..=13).chain(20..=25).collect());
+    assert_eq!(
+        numbers,
+        (0..=5).chain(7..=13).chain([17]).chain(20..=25).collect()
+    );
     // Cuts may share a name, a scatter's faulty addresses come three times each, each last byte of the largest kernel five
     // times, and a pair may be the first one several times.
     assert!(names.len() as u64 > ways - 90, "{} of {ways}", names.len());
@@ -133,6 +136,25 @@ fn valid_cases_cover_their_ground() {
             seen.contains(&format!("size code {size}")),
             "size code {size}"
         );
+    }
+}
+
+/// A predicate's frame has four bytes or five in every mode, five also where the count is 32.
+#[test]
+fn frames_of_predicates() {
+    for mode in Mode::ALL {
+        let generator = Generator::new(10, Some(mode));
+        let mut forms = BTreeSet::new();
+        for index in 0..400 {
+            let file = generator.case(index).file;
+            let frames = file.split(|byte| *byte == 0x0a);
+            for frame in frames.filter(|line| line.starts_with(b"03")) {
+                forms.insert((frame.len(), frame.ends_with(b"20")));
+            }
+        }
+        for form in [(10, false), (12, false), (12, true)] {
+            assert!(forms.contains(&form), "{}: {form:?}", mode.name());
+        }
     }
 }
 

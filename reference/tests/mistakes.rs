@@ -4,18 +4,20 @@ mod common;
 
 use common::*;
 use reference::assemble::*;
+use reference::assembled::assembled;
 use reference::bench::answer as answer_to;
 use reference::case::Case;
 use reference::case_writer::write_case;
-use reference::generate::mistakes::{Mistake, Mistake::*, Refused};
+use reference::generate::mistakes::{Judged, Mistake, Mistake::*};
 use reference::refusal::Detail;
 
-/// The mistakes that show on a case, apart from two that show wherever an operand is named.
+/// The mistakes that show on a case, apart from two that show wherever an operand is named. It has no predicates.
 fn shown(case: &mut Case, draft: Draft) -> Vec<Mistake> {
     case.kernel = draft.bytes();
+    case.predicates.clear();
     let file = write_case(case);
     let answer = answer_to(&file);
-    let mut mistakes = Refused::of(&file, &answer).map_or(vec![], |it| it.mistakes());
+    let mut mistakes = Judged::of(&file, &answer).mistakes();
     let names_operand = matches!(answer.detail, Detail::Operand(_));
     let everywhere = [PlaceFrom0, PlaceOverFields];
     for mistake in everywhere {
@@ -171,4 +173,144 @@ fn mistakes_of_other_numbers() {
     let address = immediate_uq(case.base);
     let draft = scatter(3, 0, 1, &address, &raw(UQ, 0), &raw(UD, 0));
     assert_eq!(shown(&mut case, draft), [OthersCarry]);
+}
+
+/// On a register of bytes, two variables of 16, EM ff, with lines before and a kernel of one line of text.
+fn on_bytes(lines: &str, text: &str) -> Vec<Mistake> {
+    let kernel = assembled(text.as_bytes()).concat();
+    assert!(!kernel.starts_with('!'), "{text}: {kernel}");
+    let registers = "00".repeat(32);
+    let file =
+        format!("{lines}\n01{registers}\n020400001000\n020410001000\n06ff000000\n07{kernel}\n");
+    Judged::of(file.as_bytes(), &answer_to(file.as_bytes())).mistakes()
+}
+
+/// Of a shift with a predicate's frame.
+fn of_frame(frame: &str, pred: &str, exec: &str) -> Vec<Mistake> {
+    on_bytes(
+        frame,
+        &format!("{pred}SHL {exec} v1(0,0)<1> v0(0,0)<0;1,0> 0x1:uw"),
+    )
+}
+
+#[test]
+fn mistakes_of_counts() {
+    let five = FiveBytesAs14;
+    let of = of_frame;
+    // 9 elements are enough, 8 are just enough, 7 are too few; EM has lane 7 on.
+    assert_eq!(of("03ff00000009", "(P0.any) ", "(M1,8)"), [five]);
+    assert_eq!(
+        of("03ff00000008", "(P0.any) ", "(M1,8)"),
+        [AtTheCount, five]
+    );
+    assert_eq!(
+        of("03ff00000007", "(P0.any) ", "(M1,8)"),
+        [OthersCarry, CountIgnored, CutDown, five]
+    );
+    assert_eq!(
+        of("03ff00000007", "(!P0) ", "(M1,8)"),
+        [OthersCarry, CountIgnored, AnyAndAllOnly, five]
+    );
+    // M2 needs 12, and EM has none of lanes 11 and up on.
+    assert_eq!(
+        of("03ff0000000b", "(P0.all) ", "(M2,8)"),
+        [
+            OthersCarry,
+            CountIgnored,
+            SizeAlone,
+            LanesOnOnly,
+            CutDown,
+            five
+        ]
+    );
+    assert_eq!(
+        of("03ff0000000b", "(P0.all) ", "(M2_NM,8)"),
+        [
+            OthersCarry,
+            CountIgnored,
+            SizeAlone,
+            NotUnderNm,
+            CutDown,
+            five
+        ]
+    );
+    // No predicate, no such predicate, 8.
+    assert_eq!(of("03ff00000008", "", "(M1,8)"), [five]);
+    assert_eq!(of("03ff00000007", "", "(M1,8)"), [WithoutPredicate, five]);
+    assert_eq!(
+        of("03ff00000001", "(P1) ", "(M1,8)"),
+        [OthersCarry, BeforePredicate, five]
+    );
+    assert_eq!(of("03ff00000020", "(!P0) ", "(M2,32)"), [Before8, five]);
+    // Four bytes: 32.
+    assert_eq!(of("03ff000000", "(!P0) ", "(M1,8)"), [FourBytesAs0]);
+    assert_eq!(
+        of("03ff000000", "(!P0) ", "(M5_NM,16)"),
+        [AtTheCount, FourBytesAs0]
+    );
+}
+
+#[test]
+fn mistakes_of_counts_and_other_tests() {
+    let five = FiveBytesAs14;
+    let of = |frame, text| on_bytes(frame, text);
+    // The operands are bytes, no UD: 4.
+    let gathered = "(!P0) GATHER_SCALED.4 (M1_NM,8) T0 0x0:ud v0.0 v1.0";
+    let both = [
+        OthersCarry,
+        CountIgnored,
+        AfterSurface,
+        AfterOperands,
+        NotUnderNm,
+        AnyAndAllOnly,
+        five,
+    ];
+    assert_eq!(of("03ff00000007", gathered), both);
+    let with_surface = both.into_iter().filter(|it| *it != AfterSurface);
+    assert_eq!(
+        of("03ff00000007\n0400", gathered),
+        with_surface.collect::<Vec<_>>()
+    );
+    assert_eq!(
+        of(
+            "03ff00000007",
+            "(P0.any) SHL (M1,8) v9(0,0)<1> 0x1:uw 0x1:uw"
+        ),
+        [OthersCarry, CountIgnored, AfterOperands, CutDown, five]
+    );
+    // v0 is too short for a register.
+    assert_eq!(
+        of(
+            "03ff00000007",
+            "(P0.any) raw_send (M1,8) 0x0 1 0 0x0:ud v0.0 v0.0"
+        ),
+        [
+            OthersCarry,
+            CountIgnored,
+            AfterOperands,
+            NotOfSend,
+            CutDown,
+            five
+        ]
+    );
+}
+
+#[test]
+fn mistakes_of_bad_counts() {
+    let five = FiveBytesAs14;
+    let all = of_frame;
+    let none = |frame| all(frame, "", "(M1,8)");
+    let named = |frame| all(frame, "(!P0) ", "(M1,8)");
+    assert_eq!(none("03ff00000000"), [NoElements, BadCountAs14, five]);
+    assert_eq!(named("03ff00000000"), [NoElements, BadCountAs14, five]);
+    assert_eq!(none("03ff00000021"), [Over32Elements, BadCountAs14, five]);
+    assert_eq!(named("03ff000000ff"), [Over32Elements, BadCountAs14, five]);
+    // Both kinds, another 13, a bad line behind.
+    assert_eq!(none("03ff00000000\n03ff00000021"), [BadCountAs14, five]);
+    assert_eq!(none("03ff00000000\n0801"), [BadCountAs14, five]);
+    assert_eq!(none("03ff00000000\nzz"), [BadCountAs14, five]);
+    assert_eq!(none("03ff00000020\nzz"), [five]);
+    assert_eq!(none("zz\n03ff00000000"), [] as [Mistake; 0]);
+    // Where 13 stands already.
+    assert_eq!(none("03ff000000\n0801"), [] as [Mistake; 0]);
 }

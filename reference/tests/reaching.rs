@@ -1,6 +1,6 @@
 //! The report's rare places: each is seen where a case reaches it and not seen beside it, and the fixed seed
 //! reaches all of them. It names every operand that a number can name, has every pair of faults in one operand, hands
-//! back every channel and lane, and shows every mistake.
+//! back every channel and lane, has predicates about as long as every exec byte needs, and shows every mistake.
 
 mod common;
 
@@ -11,8 +11,9 @@ use reference::case::{Case, Variable};
 use reference::case_file::read_case;
 use reference::case_writer::write_case;
 use reference::decode::decode;
-use reference::generate::mistakes::{Mistake, Refused};
+use reference::generate::mistakes::Mistake;
 use reference::generate::reach::{completed, reached, Place};
+use reference::generate::region_mistakes::Refused;
 use reference::generate::report::Report;
 use reference::generate::Generator;
 use reference::instruction::Instruction;
@@ -199,6 +200,11 @@ struct Seen {
     pairs_of_faults: BTreeSet<(usize, u8, u8)>,
     /// Whether Src0 was taken or named by 20 to 24, its width's code, the code of ExecSize.
     widths: BTreeSet<(bool, u16, u8)>,
+    /// The opcodes of instructions refused with 17, and how their predicates are named: mask kind, upper bits of the word.
+    short_opcodes: BTreeSet<u8>,
+    short_ways: BTreeSet<(bool, u16)>,
+    /// Whether an instruction was taken or refused with 17, its exec byte without NM, and its predicate's count.
+    counts: BTreeSet<(bool, u8, u8)>,
     /// 11 or 12 with its channel, and with its lane.
     channels: BTreeSet<(u8, u64)>,
     lanes: BTreeSet<(u8, u64)>,
@@ -213,6 +219,13 @@ impl Seen {
             if it.opcode == 0x24 && !it.src0.is_immediate() {
                 self.width(true, &it);
             }
+            self.count(true, &case, &it);
+        }
+        if answer.number == 17 {
+            let it = decode(&case.kernel, answer.position).instruction;
+            self.short_opcodes.insert(it.opcode);
+            self.short_ways.insert((it.no_mask(), it.pred >> 13));
+            self.count(false, &case, &it);
         }
         match answer.detail {
             Detail::None => {}
@@ -239,6 +252,13 @@ impl Seen {
                     }
                 }
             }
+        }
+    }
+
+    fn count(&mut self, taken: bool, case: &Case, it: &Instruction) {
+        if it.has_predicate() {
+            let count = case.predicates[it.predicate_id()].count;
+            self.counts.insert((taken, it.exec & 0x7f, count));
         }
     }
 
@@ -299,6 +319,21 @@ fn the_fixed_seed_reaches_the_rare_places() {
             let right = (2..=u16::from(exec_code) + 2).contains(&width) && width <= 6;
             let there = (right, width, exec_code);
             assert!(seen.widths.contains(&there), "{there:?}");
+        }
+    }
+    // 17 by each instruction, under NM or not, in every way of naming a predicate.
+    assert_eq!(seen.short_opcodes, [0x24, 0x4e, 0x5d, 0x78].into());
+    for way in [0, 1, 2, 4, 5, 6] {
+        assert!(seen.short_ways.contains(&(false, way)), "{way}");
+        assert!(seen.short_ways.contains(&(true, way)), "{way}");
+    }
+    // Every offset and ExecSize with just as many elements, one more, and one less.
+    for exec in (0..0x80u8).filter(|exec| exec & 15 < 6) {
+        let end = 4 * (exec >> 4) + (1 << (exec & 7));
+        for count in (1..=32).filter(|_| end <= 32) {
+            let there = (count >= end, exec, count);
+            let near = end.abs_diff(count) <= 1;
+            assert!(!near || seen.counts.contains(&there), "{there:?}");
         }
     }
     for number in [11, 12] {

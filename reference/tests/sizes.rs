@@ -3,7 +3,7 @@
 mod common;
 
 use common::*;
-use reference::case::{Case, Variable};
+use reference::case::{Case, Predicate, Variable};
 use reference::sizes::check;
 
 fn number(change: impl Fn(&mut Case)) -> u8 {
@@ -94,7 +94,10 @@ fn table_lengths() {
         );
     }
     for (length, expected) in [(64, 0), (65, 13)] {
-        assert_eq!(number(|case| case.predicates = vec![0; length]), expected);
+        assert_eq!(
+            number(|case| case.predicates = vec![Predicate::of_32(0); length]),
+            expected
+        );
     }
     for (surfaces, bytes, expected) in [(8, 1024, 0), (8, 1025, 13), (1, 1025, 13), (9, 0, 13)] {
         let change = |case: &mut Case| {

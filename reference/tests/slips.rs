@@ -4,6 +4,7 @@ mod common;
 
 use common::*;
 use reference::assemble::*;
+use reference::case::Predicate;
 
 /// Slip 1: "Testing alignment lane by lane before asking about doubt, so the number depends on a
 /// doubtful byte." Lane 0 is odd, lane 7 is tainted: 10, and the same for every value of the tainted
@@ -39,7 +40,7 @@ fn any_and_all_do_not_look_at_the_mask() {
     ] {
         let mut case = stage();
         case.execution_mask = 0x01;
-        case.predicates = vec![bits];
+        case.predicates = vec![Predicate::of_32(bits)];
         let draft = shl(
             0x03,
             pred,

@@ -6,7 +6,7 @@ mod wrong;
 use reference::batch::{read_entry, write_entry};
 use reference::bench::answer;
 use reference::difference::verdict_difference;
-use reference::generate::mistakes::{Mistake, Refused};
+use reference::generate::mistakes::{Judged, Mistake};
 use reference::generate::{Generator, Mode};
 use reference::refusal::Detail;
 use reference::verdict::verdict;
@@ -167,7 +167,7 @@ fn wrong_copies_are_caught() {
     for index in 0..COUNT {
         let file = generator.case(index).file;
         let answer = answer(&file);
-        for mistake in Refused::of(&file, &answer).map_or(vec![], |it| it.mistakes()) {
+        for mistake in Judged::of(&file, &answer).mistakes() {
             shown[mistake as usize] += 1;
         }
         regions += u64::from((20..=25).contains(&answer.number));

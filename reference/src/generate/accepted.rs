@@ -39,6 +39,11 @@ pub fn exec(random: &mut Random, code: u8) -> u8 {
     code | (k + no_mask) << 4
 }
 
+/// Offset + ExecSize of an exec byte: so many elements a predicate must have there.
+pub fn mask_end(exec: u8) -> u64 {
+    4 * u64::from((exec >> 4) & 7) + (1 << (exec & 7))
+}
+
 /// Row and column of an element number; "row and column are simply added up".
 pub fn row_and_column(random: &mut Random, variable: &Variable, element: u64) -> (u8, u8) {
     let in_a_row = 32 / size_of(variable);
@@ -62,6 +67,17 @@ pub fn two_registers(variable: &Variable, first: u64, last: u64) -> bool {
     high / 32 - low / 32 <= 1
 }
 
+/// A predicate word that names a predicate: bit by bit, any or all, inverse or not. The word 0 names none.
+pub fn naming(random: &mut Random, id: u16) -> u16 {
+    loop {
+        let combine = random.pick(&[0, 0, 1, 2]);
+        let word = id | combine << 13 | random.pick(&[0, 0x8000]);
+        if word != 0 {
+            return word;
+        }
+    }
+}
+
 impl Scene {
     pub fn variable(&self, index: u16) -> Variable {
         self.case.variables[usize::from(index)]
@@ -78,14 +94,19 @@ impl Scene {
         u64::from(variable.start) + bytes_of(variable) <= self.work
     }
 
-    /// A predicate word that names a predicate of the table, or none.
-    pub fn pred(&self, random: &mut Random) -> u16 {
-        let count = self.case.predicates.len() as u64;
-        if count == 0 || random.chance(45) {
+    /// A predicate word that names a predicate of the table long enough for an exec byte, or none.
+    pub fn pred(&self, random: &mut Random, exec: u8) -> u16 {
+        let count_of = |id: &u16| self.case.predicates[usize::from(*id)].count;
+        let mut fitting: Vec<u16> = (0..self.case.predicates.len() as u16)
+            .filter(|id| u64::from(count_of(id)) >= mask_end(exec))
+            .collect();
+        if fitting.is_empty() || random.chance(40) {
             return 0;
         }
-        let combine = random.pick(&[0, 0, 1, 2]);
-        (random.below(count) | combine << 13 | random.below(2) << 15) as u16
+        // The shortest more often than the rest.
+        fitting.sort_by_key(count_of);
+        let id = fitting[random.edge(fitting.len() as u64 - 1) as usize];
+        naming(random, id)
     }
 
     /// A General source of an integer type that fits.
@@ -181,7 +202,8 @@ impl Scene {
             src0 = own;
         }
         let src1 = self.source(random, 1 << code);
-        shl(exec(random, code), self.pred(random), &dst, &src0, &src1)
+        let exec = exec(random, code);
+        shl(exec, self.pred(random, exec), &dst, &src0, &src1)
     }
 
     /// A General scalar of a type.
@@ -251,9 +273,10 @@ impl Scene {
             };
             immediate(0, low)
         };
+        let exec = exec(random, code);
         let mut draft = gather(
-            exec(random, code),
-            self.pred(random),
+            exec,
+            self.pred(random, exec),
             random.below(3) as u8,
             surface,
             &offset,
@@ -290,9 +313,10 @@ impl Scene {
         } else {
             general(guarded.addresses, 0, random.below(4) as u8, SCALAR_REGION)
         };
+        let exec = exec(random, code);
         let mut draft = scatter(
-            exec(random, code),
-            self.pred(random),
+            exec,
+            self.pred(random, exec),
             channels,
             &address,
             &raw(guarded.offsets, 8 * first_lane as u16),
@@ -310,9 +334,10 @@ impl Scene {
         if guarded.constant as u32 != 0 {
             return None;
         }
+        let exec = exec(random, 3);
         Some(shl(
-            exec(random, 3),
-            self.pred(random),
+            exec,
+            self.pred(random, exec),
             &general(
                 guarded.halves,
                 random.pick(&[0, 2]),
@@ -342,9 +367,10 @@ impl Scene {
             immediate(0, random.next() as u32)
         };
         let code = random.below(6) as u8;
+        let exec = exec(random, code);
         let mut draft = raw_send(
-            exec(random, code),
-            self.pred(random),
+            exec,
+            self.pred(random, exec),
             num_src as u8,
             num_dst as u8,
             &desc,

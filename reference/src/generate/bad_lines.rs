@@ -43,7 +43,7 @@ fn good_lines(random: &mut Random, count: u64) -> Vec<u8> {
         let kind = random.pick(kinds);
         let bytes = match kind {
             2 => 5,
-            3 => 4,
+            3 => random.range(4, 5),
             _ => random.below(2),
         };
         lines.extend(frame(random, kind, bytes));
@@ -164,9 +164,9 @@ pub fn bad_line(random: &mut Random, mut lines: Vec<Vec<u8>>, way: u64) -> BadFi
             "variable not of 5 bytes"
         }
         19 => {
-            let bytes = random.pick(&[0, 1, 3, 5, 8]);
+            let bytes = random.pick(&[0, 1, 2, 3, 6, 6, 7, 8]);
             lines.insert(place, frame(random, 0x03, bytes));
-            "predicate not of 4 bytes"
+            "predicate not of 4 or 5 bytes"
         }
         20 => {
             lines.retain(|line| !line.starts_with(b"06"));

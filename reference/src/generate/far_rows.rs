@@ -42,7 +42,7 @@ pub fn in_row(random: &mut Random, row: u8, operand: FarOperand) -> Scene {
             let lanes = 1u16 << code;
             let column = random.edge(u64::from(in_a_row - lanes)) as u8;
             let exec = exec(random, code);
-            let pred = scene.pred(random);
+            let pred = scene.pred(random, exec);
             if let FarOperand::Destination = operand {
                 let dst = general(index, row, column, destination_region(1));
                 shl(exec, pred, &dst, &one(), &one())

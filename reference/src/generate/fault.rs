@@ -91,10 +91,11 @@ pub fn field_rank(slot: Slot) -> usize {
 
 /// "A run then tests 8; predicate 5; surface 5; each operand in order 5, 4 (type), 6, 7; 9; 10 over all
 /// lanes; 11 over all; 12 over all." "6 becomes 20 to 24 ..., tested in that order within an operand; a scalar's
-/// region is judged by 25 alone, in the same place."
+/// region is judged by 25 alone, in the same place." 17 stands "directly after the predicate's 5".
 pub const RANK_8: usize = 100;
 pub const RANK_PREDICATE: usize = 101;
-pub const RANK_SURFACE: usize = 102;
+pub const RANK_17: usize = 102;
+pub const RANK_SURFACE: usize = 103;
 /// Ten places for each operand.
 pub const RANK_OPERANDS: usize = 110;
 pub const RANK_9: usize = 150;

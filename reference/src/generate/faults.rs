@@ -1,13 +1,14 @@
 //! All faults of one kind of instruction, field by field and test by test; here those of the fields before
 //! the operands.
 
-use super::accepted::Kind;
+use super::accepted::{mask_end, naming, Kind};
 use super::address_faults::scatter_addresses;
 use super::fault::*;
 use super::operand_faults::{operands, raw_operand, vector_operand, Role};
 use super::random::Random;
-use super::scene::Scene;
+use super::scene::{bits, Scene};
 use crate::assemble::{Draft, Slot};
+use crate::case::Predicate;
 
 /// All faults of a kind of instruction.
 pub fn faults_of(kind: Kind) -> Vec<Fault> {
@@ -33,7 +34,26 @@ pub fn faults_of(kind: Kind) -> Vec<Fault> {
     faults.list
 }
 
-/// The fields before the operands: numbers 2, 3, 8 and the 5 of predicate and surface.
+/// Name a predicate that has too few elements, by 1 up to so many.
+fn short_predicate(random: &mut Random, scene: &mut Scene, draft: &mut Draft, furthest: u64) {
+    let mut exec = draft.get(Slot::Exec).unwrap()[0];
+    if mask_end(exec) == 1 {
+        // No predicate is shorter: another mask.
+        exec |= (random.range(1, 7) as u8) << 4;
+        draft.set(Slot::Exec, &[exec]);
+    }
+    // Where 8 stands, the predicate may have all its 32.
+    let longest = (mask_end(exec) - 1).min(32);
+    let fewer = random.below(furthest.min(longest));
+    let id = scene.case.predicates.len() as u16;
+    scene.case.predicates.push(Predicate {
+        bits: bits(random),
+        count: (longest - fewer) as u8,
+    });
+    draft.set(Slot::Pred, &word(naming(random, id)));
+}
+
+/// The fields before the operands: numbers 2, 3, 8, 17 and the 5 of predicate and surface.
 fn first_fields(faults: &mut Faults, kind: Kind) {
     let known = [0x24, 0x78, 0x4e, 0x5d];
     faults.field("opcode", 2, Slot::Opcode, None, move |random, _| loop {
@@ -130,12 +150,22 @@ fn first_fields(faults: &mut Faults, kind: Kind) {
         5,
         RANK_PREDICATE,
         None,
-        pred,
+        pred.clone(),
         |random, _, draft| {
             let id = random.pick(&[64, 255, 256, 4095]);
             draft.set(Slot::Pred, &word(id | random.pick(&[0, 0x2000, 0x8000])));
         },
     );
+    for (name, furthest) in [("predicate one element short", 1), ("predicate short", 32)] {
+        faults.run(
+            name,
+            17,
+            RANK_17,
+            None,
+            pred.clone(),
+            move |random, scene, draft| short_predicate(random, scene, draft, furthest),
+        );
+    }
     if kind == Kind::Gather {
         let surface = vec![Touch::Slot(Slot::Surface)];
         faults.run(

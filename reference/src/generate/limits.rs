@@ -7,6 +7,7 @@ use super::near_misses::{base_instruction, base_scene, give_form, prefix};
 use super::random::Random;
 use super::scene::{scene, variable, Scene, Size};
 use crate::assemble::*;
+use crate::case::Predicate;
 
 type Make = fn(&mut Random) -> Scene;
 
@@ -69,7 +70,9 @@ fn three_lanes(random: &mut Random) -> [usize; 3] {
 /// Turn all lanes off in one of several ways; gives exec byte and pred word for size 8.
 fn all_off(random: &mut Random, scene: &mut Scene) -> (u8, u16) {
     scene.case.predicates.truncate(63);
-    scene.case.predicates.push(0);
+    // M3 of size 8 needs 16.
+    let count = random.pick(&[16, 17, 32]);
+    scene.case.predicates.push(Predicate { bits: 0, count });
     let zero = scene.case.predicates.len() as u16 - 1;
     match random.below(5) {
         0 => {
@@ -82,7 +85,7 @@ fn all_off(random: &mut Random, scene: &mut Scene) -> (u8, u16) {
         2 => (0x83, zero | 0x4000),
         3 if zero != 0 => (0xa3, zero),
         _ => {
-            scene.case.predicates[usize::from(zero)] = u32::MAX;
+            scene.case.predicates[usize::from(zero)].bits = u32::MAX;
             (0x83, zero | 0xc000)
         }
     }
@@ -111,7 +114,11 @@ pub fn limits() -> Vec<Limit> {
             let mut scene = base_scene(r);
             let dst = byte_destination(&mut scene);
             while scene.case.predicates.len() < 64 {
-                scene.case.predicates.push(r.next() as u32);
+                // M2 of size 8 needs 12.
+                scene.case.predicates.push(Predicate {
+                    bits: r.next() as u32,
+                    count: r.pick(&[12, 13, 32]),
+                });
             }
             let how = r.pick(&[0, 0x2000, 0x4000, 0x8000, 0xa000, 0xc000]);
             let draft = shl(0x13, 63 | how, &dst, &one(), &one());
@@ -120,7 +127,10 @@ pub fn limits() -> Vec<Limit> {
         ("predicate 0 by any, all or inverse", 0, |r| {
             let mut scene = base_scene(r);
             let dst = byte_destination(&mut scene);
-            scene.case.predicates = vec![r.next() as u32];
+            scene.case.predicates = vec![Predicate {
+                bits: r.next() as u32,
+                count: r.pick(&[16, 17, 32]),
+            }];
             let how = r.pick(&[0x2000, 0x4000, 0x8000, 0xa000, 0xc000]);
             let draft = shl(0x04, how, &dst, &one(), &one());
             scene.case.kernel = draft.bytes();

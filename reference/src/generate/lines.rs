@@ -4,10 +4,16 @@ use super::random::Random;
 use crate::case::Case;
 use crate::case_writer::case_lines;
 
-/// The case's lines: taint frames of zeros and empty frames may be absent, frames may come in any order
-/// as long as those that repeat keep theirs.
+/// The case's lines: taint frames of zeros and empty frames may be absent, and so may a predicate's count of 32; frames may
+/// come in any order as long as those that repeat keep theirs.
 pub fn lines_of(random: &mut Random, case: &Case) -> Vec<Vec<u8>> {
     let mut lines = case_lines(case);
+    for line in &mut lines {
+        // "an old four-byte frame means 32"
+        if line.starts_with(b"03") && line.ends_with(b"20") && random.chance(50) {
+            line.truncate(10);
+        }
+    }
     lines.retain(|line| {
         let kind = &line[..2];
         let all_zero = line[2..].iter().all(|digit| *digit == b'0');

@@ -7,6 +7,7 @@ use super::first_pairs::one_lane;
 use super::largest_kernel::{self, refused_at_its_end};
 use super::limits::{limits, Limit};
 use super::lines::{file_of, lines_of};
+use super::predicate_counts::{self, one_count};
 use super::random::Random;
 use super::region_words::{self, one_field};
 use super::scene::{scene, Scene, Size};
@@ -46,7 +47,7 @@ impl Ways {
     /// How many ways there are.
     pub fn count(&self) -> usize {
         let faults: usize = self.faults.iter().map(Vec::len).sum();
-        let others = CUTS + LAST_BYTES + ONE_LANE + region_words::WAYS;
+        let others = CUTS + LAST_BYTES + ONE_LANE + region_words::WAYS + predicate_counts::WAYS;
         faults + others + self.tables.len() + self.limits.len()
     }
 
@@ -79,6 +80,11 @@ impl Ways {
             return near(random, &scene, &name, number, Some(detail));
         }
         way -= region_words::WAYS;
+        if way < predicate_counts::WAYS {
+            let (scene, name, number, detail) = one_count(random, way, round);
+            return near(random, &scene, &name, number, Some(detail));
+        }
+        way -= predicate_counts::WAYS;
         if way < self.tables.len() {
             let fault = &self.tables[way];
             let mut scene = base_scene(random);

@@ -43,12 +43,16 @@ fn any_frames(random: &mut Random) -> Vec<u8> {
     for _ in 0..random.below(8) {
         let kind = random.range(1, 10) as u8;
         let bytes = match (kind, random.below(8)) {
-            (2, 1..) => 5,
+            (2, 1..) | (3, 1..=3) => 5,
             (3 | 6, 1..) => 4,
             (5, _) => random.range(7, 40),
             _ => random.pick(&[0, 1, 8, 32, 64]),
         };
-        let body = random.bytes(bytes);
+        let mut body = random.bytes(bytes);
+        if kind == 3 && bytes == 5 {
+            // A good count more often than the rest.
+            body[4] = random.pick(&[1, 8, 16, 31, 32, 33, body[4]]);
+        }
         lines.push(line(kind, &[&body]));
     }
     file_of(random, &lines)

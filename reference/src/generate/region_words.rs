@@ -149,7 +149,7 @@ fn shl_with(
         });
     }
     let exec = exec(random, exec_code as u8);
-    let pred = scene.pred(random);
+    let pred = scene.pred(random, exec);
     let draft = shl(exec, pred, &operands[0], &operands[1], &operands[2]);
     let scene = with(random, scene, &draft);
     match meant {

@@ -2,7 +2,7 @@
 //! their instructions, the numbers that are answered, the operands that they name, the rare places that are reached, and
 //! the mistakes that show.
 
-use super::mistakes::{Mistake, Refused};
+use super::mistakes::{Judged, Mistake};
 use super::reach::{reached, Place};
 use super::{Generated, Mode};
 use crate::refusal::Detail;
@@ -44,7 +44,7 @@ impl Report {
         for place in reached(&case.file, answer) {
             *self.reached.entry(place).or_default() += 1;
         }
-        for mistake in Refused::of(&case.file, answer).map_or(vec![], |it| it.mistakes()) {
+        for mistake in Judged::of(&case.file, answer).mistakes() {
             *self.shown.entry(mistake).or_default() += 1;
         }
         self.completed += answer.completed as u64;

@@ -3,8 +3,9 @@
 //! The registers have two areas. The work area comes first and is free to be written. The guarded area
 //! after it holds the addresses and element offsets of scatters that stay inside the memory window.
 
+use super::accepted::{exec, mask_end};
 use super::random::Random;
-use crate::case::{Case, Variable};
+use crate::case::{Case, Predicate, Variable};
 use crate::element_type::{ALL, UD, UQ, UW};
 
 /// What the guarded area holds.
@@ -196,8 +197,25 @@ fn predicates(random: &mut Random, case: &mut Case, size: Size) {
         _ => random.range(1, 5),
     };
     for _ in 0..count {
-        case.predicates.push(bits(random));
+        let predicate = Predicate {
+            bits: bits(random),
+            count: any_count(random),
+        };
+        case.predicates.push(predicate);
     }
+}
+
+/// A predicate's count: 32, as many as some exec byte needs, or any.
+pub fn any_count(random: &mut Random) -> u8 {
+    let count = match random.below(4) {
+        0 => 32,
+        1 => random.range(1, 32),
+        _ => {
+            let code = random.below(6) as u8;
+            mask_end(exec(random, code))
+        }
+    };
+    count as u8
 }
 
 /// Bytes for the work area: some registers of any bytes, of small dwords, of zeros, of dwords near

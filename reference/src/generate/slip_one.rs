@@ -1,12 +1,13 @@
 //! Scatters on which slip 1 shows, "Testing alignment lane by lane before asking about doubt": an unaligned
 //! lane, and a tainted one behind it or the same.
 
-use super::accepted::Kind;
+use super::accepted::{mask_end, Kind};
 use super::fault::{word, word_of, Form};
 use super::near_misses::{base_instruction, base_scene, give_form, prefix, suffix};
 use super::random::Random;
 use super::scene::Scene;
 use crate::assemble::{Draft, Part, Slot};
+use crate::case::Predicate;
 
 #[derive(Clone, Copy, Debug, PartialEq, Eq)]
 enum Shape {
@@ -133,7 +134,10 @@ pub fn turn_lanes_on(
     } else {
         // The scene has fewer than 64. The inverse of the inverse bits, so that number 0 is a predicate too.
         let id = scene.case.predicates.len() as u16;
-        scene.case.predicates.push(!bits);
+        scene.case.predicates.push(Predicate {
+            bits: !bits,
+            count: (mask_end(exec) + random.edge(32 - mask_end(exec))) as u8,
+        });
         draft.set(Slot::Exec, &[exec | 0x80]);
         draft.set(Slot::Pred, &word(id | 0x8000));
     }

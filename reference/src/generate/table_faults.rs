@@ -1,8 +1,9 @@
 //! Number 13: tables and lengths that break a size, and the same at their limits.
 
 use super::random::Random;
-use super::scene::{taint, variable};
-use crate::case::Case;
+use super::scene::{any_count, bits, taint, variable};
+use crate::assemble::{destination_region, general, immediate, shl};
+use crate::case::{Case, Predicate};
 
 type Apply = fn(&mut Random, &mut Case);
 
@@ -47,6 +48,30 @@ fn add_variable(random: &mut Random, case: &mut Case, type_code: u8, start: usiz
 fn add_good_variable(case: &mut Case, type_code: u8, start: usize, count: usize) {
     case.variables
         .push(variable(type_code, start as u16, count as u16));
+}
+
+/// A good one, last in its table.
+fn add_predicate(random: &mut Random, case: &mut Case) {
+    let predicate = Predicate {
+        bits: bits(random),
+        count: any_count(random),
+    };
+    case.predicates.push(predicate);
+}
+
+/// Give a predicate a count: one that a further instruction names, or one that none names.
+fn set_count(random: &mut Random, case: &mut Case, named: bool, count: u8) {
+    add_predicate(random, case);
+    let last = case.predicates.len() as u16 - 1;
+    case.predicates[usize::from(last)].count = count;
+    if named {
+        // By any, so that number 0 is a predicate too.
+        let exec = random.pick(&[0x00, 0x03, 0x75, 0x80, 0xf4]);
+        let dst = general(0, 0, 0, destination_region(1));
+        let one = immediate(0, 1);
+        let naming = shl(exec, last | 0x2000, &dst, &one, &one);
+        case.kernel.splice(0..0, naming.bytes());
+    }
 }
 
 pub fn table_faults() -> Vec<TableFault> {
@@ -107,13 +132,43 @@ pub fn table_faults() -> Vec<TableFault> {
         }),
         ("64 predicates", 0, |r, c| {
             while c.predicates.len() < 64 {
-                c.predicates.push(r.next() as u32);
+                add_predicate(r, c);
             }
         }),
         ("65 predicates", 13, |r, c| {
             while c.predicates.len() < 65 {
-                c.predicates.push(r.next() as u32);
+                add_predicate(r, c);
             }
+        }),
+        ("a predicate of no elements, named", 13, |r, c| {
+            set_count(r, c, true, 0)
+        }),
+        ("a predicate of no elements, not named", 13, |r, c| {
+            set_count(r, c, false, 0)
+        }),
+        ("a predicate of 1 element, not named", 0, |r, c| {
+            set_count(r, c, false, 1)
+        }),
+        ("a predicate of 32 elements, not named", 0, |r, c| {
+            set_count(r, c, false, 32)
+        }),
+        ("a predicate of 33 elements, named", 13, |r, c| {
+            set_count(r, c, true, 33)
+        }),
+        ("a predicate of 33 elements, not named", 13, |r, c| {
+            set_count(r, c, false, 33)
+        }),
+        ("a predicate of more elements, named", 13, |r, c| {
+            let count = r.pick(&[34, 63, 64, 96, 127, 128, 160, 224, 254, 255]);
+            set_count(r, c, true, count)
+        }),
+        ("a predicate of more elements, not named", 13, |r, c| {
+            let count = r.pick(&[34, 63, 64, 96, 127, 128, 160, 224, 254, 255]);
+            set_count(r, c, false, count)
+        }),
+        ("the first predicate of a bad count", 13, |r, c| {
+            add_predicate(r, c);
+            c.predicates[0].count = r.pick(&[0, 33, 255]);
         }),
         ("8 surfaces", 0, |r, c| add_surfaces(r, c, 8, 3)),
         ("9 surfaces", 13, |r, c| add_surfaces(r, c, 9, 3)),

@@ -2,7 +2,9 @@
 
 use super::accepted::Kind;
 use super::bad_lines::{bad_line, BAD_LINE_WAYS};
-use super::fault::{field_rank, Fault, Touch, RANK_10, RANK_8, RANK_OPERANDS};
+use super::fault::{
+    field_rank, Fault, Touch, RANK_10, RANK_17, RANK_8, RANK_OPERANDS, RANK_PREDICATE,
+};
 use super::first_pairs::several_lanes;
 use super::lines::{file_of, lines_of};
 use super::near_misses::{base_instruction, base_scene, give_form, prefix, suffix, Ways, KINDS};
@@ -56,22 +58,23 @@ impl Ways {
         if number % 3 == 0 {
             return self.cut_at_the_fault(random, number / 3);
         }
-        match random.below(36) {
+        match random.below(42) {
             0..=11 => self.in_one_instruction(random),
             12 | 13 => self.with_a_cut(random),
             14 | 15 => self.in_two_instructions(random),
             16 => self.with_the_tables(random),
             17..=19 => self.line_and_tables(random),
             20 => two_lines(random),
-            21..=25 => {
+            21..=26 => {
                 let (scene, name, number) = unaligned_and_tainted(random);
                 let detail = (number == 10).then_some(Detail::None);
                 two(random, &scene, name, number, detail)
             }
-            26..=30 => {
+            27..=31 => {
                 let (scene, name, number, detail) = several(random);
                 two(random, &scene, name, number, Some(detail))
             }
+            32..=36 => self.short_predicate_and_another(random),
             _ => {
                 let (scene, name, number, detail) = several_lanes(random);
                 two(random, &scene, name, number, Some(detail))
@@ -104,16 +107,26 @@ impl Ways {
                 break (a, b);
             }
         };
-        let mut scene = base_scene(random);
-        let mut kernel = prefix(random, &scene);
-        let mut draft = base_instruction(random, &scene, KINDS[kind]);
-        apply(random, &mut scene, &mut draft, KINDS[kind], &[a, b]);
-        kernel.extend(draft.bytes());
-        kernel.extend(suffix(random, &scene));
-        scene.case.kernel = kernel;
-        let first = if a.rank <= b.rank { a } else { b };
-        let name = format!("{:?}: {} and {}", KINDS[kind], a.name, b.name);
-        two(random, &scene, name, first.number, first.detail())
+        both(random, KINDS[kind], a, b)
+    }
+
+    /// A predicate that is too short, and another fault of the same instruction, mostly one that is tested near it.
+    fn short_predicate_and_another(&self, random: &mut Random) -> Generated {
+        // A gather more often than the rest: its surface's 5 is the next test.
+        let kind = random.pick(&[0, 1, 1, 2, 3]);
+        let is_near = random.chance(75);
+        let first_operand = RANK_OPERANDS..RANK_OPERANDS + 10;
+        let (short, other) = loop {
+            let short = self.any_fault(random, kind);
+            let other = self.any_fault(random, kind);
+            let near = (RANK_8..RANK_OPERANDS).contains(&other.rank)
+                || first_operand.contains(&other.rank) && random.chance(5);
+            let names_it = other.touches.contains(&Touch::Slot(Slot::Pred));
+            if short.rank == RANK_17 && !names_it && (near || !is_near) {
+                break (short, other);
+            }
+        };
+        both(random, KINDS[kind], short, other)
     }
 
     /// A faulty field, and the kernel's end inside it or right after it.
@@ -186,7 +199,13 @@ impl Ways {
         apply(random, &mut scene, &mut draft, KINDS[first_kind], &[first]);
         kernel.extend(draft.bytes());
         let second_kind = random.below(2) as usize;
-        let second = self.any_fault(random, second_kind);
+        // A further predicate would be the one that the first instruction lacks.
+        let second = loop {
+            let second = self.any_fault(random, second_kind);
+            if first.rank != RANK_PREDICATE || second.rank != RANK_17 {
+                break second;
+            }
+        };
         let mut draft = base_instruction(random, &scene, KINDS[second_kind]);
         apply(
             random,
@@ -231,7 +250,7 @@ impl Ways {
         let mut lines = lines_of(random, &scene.case);
         let (line_name, file) = if random.chance(50) {
             // After everything that breaks the tables.
-            let last = random.pick(&["0b", "", "0", "0 ", "0A", "0300", "zz"]);
+            let last = random.pick(&["0b", "", "0", "0 ", "0A", "0300", "03ff00000008ff", "zz"]);
             lines.push(Vec::from(last));
             // An empty last line needs its 0x0a.
             let mut file = lines.join(&0x0a);
@@ -274,12 +293,29 @@ fn two_lines(random: &mut Random) -> Generated {
     }
 }
 
+/// One instruction with two faults.
+fn both(random: &mut Random, kind: Kind, a: &Fault, b: &Fault) -> Generated {
+    let mut scene = base_scene(random);
+    let mut kernel = prefix(random, &scene);
+    let mut draft = base_instruction(random, &scene, kind);
+    apply(random, &mut scene, &mut draft, kind, &[a, b]);
+    kernel.extend(draft.bytes());
+    kernel.extend(suffix(random, &scene));
+    scene.case.kernel = kernel;
+    let first = if a.rank <= b.rank { a } else { b };
+    let name = format!("{kind:?}: {} and {}", a.name, b.name);
+    two(random, &scene, name, first.number, first.detail())
+}
+
 /// Give the operands the forms that the faults need, then make the faults.
 fn apply(random: &mut Random, scene: &mut Scene, draft: &mut Draft, kind: Kind, faults: &[&Fault]) {
     for fault in faults {
         give_form(random, scene, draft, kind, fault.needs);
     }
-    for fault in faults {
+    // How many elements are too few depends on the exec byte, which the other fault may change.
+    let (last, first): (Vec<&Fault>, Vec<&Fault>) =
+        faults.iter().partition(|fault| fault.rank == RANK_17);
+    for fault in first.iter().chain(&last) {
         (fault.apply)(random, scene, draft);
     }
 }

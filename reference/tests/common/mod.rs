@@ -2,7 +2,7 @@
 #![allow(dead_code)]
 
 use reference::assemble::Draft;
-use reference::case::{Case, Variable};
+use reference::case::{Case, Predicate, Variable};
 use reference::refusal::Detail;
 use reference::run::{run, Answer};
 
@@ -23,8 +23,8 @@ pub fn start(variable: u16) -> usize {
     usize::from(variable) * 256
 }
 
-/// 2,048 register bytes of zeros, one variable of 256 bytes for each type, two predicates, a surface
-/// of ten bytes, a memory window of 64 bytes at 0x1000, every lane on, no taint.
+/// 2,048 register bytes of zeros, one variable of 256 bytes for each type, two predicates of 32, a
+/// surface of ten bytes, a memory window of 64 bytes at 0x1000, every lane on, no taint.
 pub fn stage() -> Case {
     let types = [
         (0, 64),
@@ -48,7 +48,7 @@ pub fn stage() -> Case {
         kernel: Vec::new(),
         registers: vec![0; 2048],
         variables,
-        predicates: vec![0x0000_0080, 0xffff_ffff],
+        predicates: vec![Predicate::of_32(0x80), Predicate::of_32(0xffff_ffff)],
         surfaces: vec![vec![
             0xa0, 0xa1, 0xa2, 0xa3, 0xa4, 0xa5, 0xa6, 0xa7, 0xa8, 0xa9,
         ]],

@@ -1,7 +1,7 @@
 //! Verdicts that are wrong on purpose: the mistakes that the report counts, by their names in the code, and others.
 
 use reference::bench::answer;
-use reference::generate::mistakes::{Mistake, Refused};
+use reference::generate::mistakes::{Judged, Mistake};
 use reference::programs::Interpreter;
 use reference::refusal::Detail;
 use reference::verdict::{line_of, verdict as right};
@@ -29,11 +29,8 @@ pub fn verdict(way: &str) -> Interpreter {
 }
 
 fn mistaken(case: &[u8], mistake: Mistake) -> Vec<u8> {
-    let answer = answer(case);
-    match Refused::of(case, &answer) {
-        Some(refused) => line_of(&mistake.answer(&refused)),
-        None => line_of(&answer),
-    }
+    let judged = Judged::of(case, &answer(case));
+    line_of(&mistake.answer(&judged))
 }
 
 /// As before request 2.
