@@ -1,17 +1,17 @@
 -- Which numbers a run's tests before data give.
 use Prim.Native.Nat.{ℕ, suc, _+_, _*_, _^_, _≤_}
-use mathlib.Core.Path.{_≡_, refl, sym, ap, subst, _∙_}
-use mathlib.Core.Bool.{Bool, true, false, cond, not, true≢false, _&&_, _||_}
+use mathlib.Core.Path.{_≡_, refl, ap, _∙_}
+use mathlib.Core.Bool.{Bool, true, false, cond, not, _&&_, _||_}
 use mathlib.Core.List.{List, [], _∷_, map}
-use lib.Dec.{ltb, leb, eqb}
+use lib.Dec.{ltb, leb}
 use lib.ListN.{length}
-use borrow.Author.Tests.{le-leb, eqb-true}
+use borrow.Author.Tests.{le-leb}
 use Rattle.details.specs.declared.Detail.{Detail}
 use Rattle.details.specs.declared.Detail.the-variants as detail
 use Rattle.details.specs.Details.{namesOperand}
 use Rattle.element_types.specs.Types.{sizeOf}
-use Rattle.channels.specs.Exec.{execSize, execOffset}
-use Rattle.channels.specs.Predicate.{hasPredicate, predicateId}
+use Rattle.channels.specs.Exec.{execSize}
+use Rattle.channels.specs.Predicate.{hasPredicate}
 use Rattle.tables.specs.Tables.{Tables}
 use Rattle.tables.specs.declared.PredicateRecord.{PredicateRecord}
 use Rattle.tables.specs.Variables.{Variables}

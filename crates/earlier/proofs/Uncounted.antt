@@ -1,7 +1,7 @@
 -- What a count changes is 17, which comes exactly where a lane would read past it, and nothing else; with all counts 32 every run is the one of
 -- before, since 8 comes first.
-use Prim.Native.Nat.{ℕ, zero, suc, _≤_, _<_}
-use mathlib.Core.Path.{_≡_, refl, sym, ap, subst, _∙_}
+use Prim.Native.Nat.{ℕ, zero, suc, _<_}
+use mathlib.Core.Path.{_≡_, refl, sym, ap, _∙_}
 use mathlib.Core.Bool.{Bool, true, false, cond, not, true≢false, _&&_}
 use mathlib.Core.List.{List}
 use native.Mathlib.Omega.{arith}
@@ -10,7 +10,7 @@ use lib.ListN.{length, getD, replicate, length-replicate, getD-replicate}
 use borrow.Author.Tests.{ltb-true, ltb-false, leb-true, le-leb, lt-leb, le-ltb, eq-eqb, eqb-true}
 use Rattle.details.specs.declared.Detail.the-variants as detail
 use Rattle.details.specs.Details.{namesOperand}
-use Rattle.cells.specs.Effect.{Effect, refused}
+use Rattle.cells.specs.Effect.{refused}
 use Rattle.reader.specs.Reply as reply
 use Rattle.reader.specs.Reply.{Reply, Read, onReply}
 use Rattle.channels.specs.Below.{everyBelow}
@@ -125,16 +125,6 @@ unfolding countGoodAt countGood
 good-32 n k h = rw (count-of-32 n k h)
 
 module _ (p : Predicates) (all : AllThirtyTwo p) where
-  predicates-good : predicatesGood p ≡ leb (length (p .bits)) 64
-  unfolding predicatesGood
-  predicates-good =
-      let n = length (p .bits) in
-      rw (all, length-replicate {A = ℕ} n 32, eq-eqb n n refl, every-holds (countGoodAt (replicate n 32)) n (good-32 n)) (told (leb n 64))
-    where
-      told : (q : Bool) → (q && true && true) ≡ q
-      told true = refl
-      told false = refl
-
   -- 8 comes first
   never-past : (c : Control) → pastCount p c ≡ false
   unfolding pastCount
@@ -154,6 +144,16 @@ module _ (p : Predicates) (all : AllThirtyTwo p) where
       told true e false present f = refl
       told true e true false f = refl
       told true e true true f = rw (count-of-32 n id (ltb-true id n f), le-ltb 32 end (leb-true end 32 e))
+
+  predicates-good : predicatesGood p ≡ leb (length (p .bits)) 64
+  unfolding predicatesGood
+  predicates-good =
+      let n = length (p .bits) in
+      rw (all, length-replicate {A = ℕ} n 32, eq-eqb n n refl, every-holds (countGoodAt (replicate n 32)) n (good-32 n)) (told (leb n 64))
+    where
+      told : (q : Bool) → (q && true && true) ≡ q
+      told true = refl
+      told false = refl
 
 module _ (x : Setup) (all : AllThirtyTwo (x .tables .predicates)) where
   checked-before : (i : Instruction) → checked (x .tables) i ≡ checkedUncounted (x .tables) i

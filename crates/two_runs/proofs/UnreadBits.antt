@@ -1,24 +1,23 @@
 -- "no bit at or past the count matters": two setups that differ in such bits alone have the same run, its answer, bytes and marks.
 use Prim.Native.Nat.{ℕ, zero, suc, _<_}
-use mathlib.Core.Path.{_≡_, refl, ap, subst, _∙_}
+use mathlib.Core.Path.{_≡_, refl, ap, _∙_}
 use mathlib.Core.Bool.{Bool, true, false, cond, not}
 use mathlib.Core.List.{List, [], _∷_}
 use native.Mathlib.Omega.{arith}
-use lib.Dec.{ltb, eqb}
-use lib.ListN.{length, getD}
+use lib.Dec.{ltb}
+use lib.ListN.{length}
 use borrow.Author.Tests.{ltb-false}
 use Rattle.details.specs.declared.Detail.{Detail}
 use Rattle.details.specs.declared.Detail.the-variants as detail
 use Rattle.details.specs.Details.{operandDetail}
 use Rattle.cells.specs.Over.{amongFrom, among}
-use Rattle.cells.specs.Effect.{Effect, refused, unless}
+use Rattle.cells.specs.Effect.{Effect, unless}
 use Rattle.reader.specs.Reply as reply
 use Rattle.reader.specs.Reply.{Reply, Read}
 use Rattle.channels.specs.Bits.{bit}
 use Rattle.channels.specs.Exec.{execSize}
 use Rattle.channels.specs.Predicate.{hasPredicate, predicateId}
 use Rattle.channels.specs.Lanes.{laneOn}
-use Rattle.tables.specs.declared.PredicateRecord.{PredicateRecord}
 use Rattle.tables.specs.Predicates.{Predicates, predicateAt, predicatesGood}
 use Rattle.tables.specs.Surfaces.{Surfaces}
 use Rattle.tables.specs.Tables.{Tables, tables, tablesGood}
@@ -29,9 +28,9 @@ use Rattle.decoder.specs.Decoding.{instructionAt}
 use Rattle.operands.specs.declared.Elements.{Elements}
 use Rattle.operands.specs.declared.Located.{Located}
 use Rattle.plan.specs.declared.Plan.{Plan}
-use Rattle.plan.specs.Control.{controlOf, lanesEnd, predicateFor, predicateRefusal, controlRefusal, bitsNamed}
+use Rattle.plan.specs.Control.{controlOf, lanesEnd, predicateRefusal, controlRefusal, bitsNamed}
 use Rattle.plan.specs.Plans.{refusedPlan, tested, testedFrom, shlPlan, gatherPlan, scatterPlan}
-use Rattle.plan.specs.Checked.{shlOperands, checkedShl, gatherOperands, checkedGatherOperands, surfacePart, checkedGather, scatterOperands, checkedScatter, checkedSend, checkedOperands, checked}
+use Rattle.plan.specs.Checked.{shlOperands, checkedShl, gatherOperands, checkedGatherOperands, surfacePart, checkedGather, scatterOperands, checkedScatter, checkedOperands, checked}
 use Rattle.plan.proofs.TestLaws.{elements-reach}
 use Rattle.staging.specs.Lanes.{lanesOn}
 use Rattle.shl.specs.Shl.{shlValue, shlMark, shlLane, shlEffect}
@@ -41,8 +40,7 @@ use Rattle.step.specs.declared.Constants.{Constants}
 use Rattle.step.specs.State.{Setup, State, lengthsOf}
 use Rattle.step.specs.Step.{Stepped, acted, planEffect, stepAt}
 use Rattle.step.proofs.StepOf.{stepOf}
-use Rattle.run.specs.Run.{Outcome, stopped, runFrom, runThrough, run}
-use Rattle.run.proofs.Whole.{run-is}
+use Rattle.run.specs.Run.{stopped, runFrom, run}
 use Rattle.two_runs.specs.TwoRuns.{SamePredicates, SameSetup}
 use Rattle.two_runs.proofs.ReadBits.{lane-alike}
 

@@ -1,6 +1,6 @@
 -- `plan::predicate_refusal` meets its contract: at each return, what the call and the tests on the way say picks the case of `Control`.
 use borrow.Author.Needs.{needs}
-use borrow.Author.Tests.{lt-ltb, le-ltb, not-true, not-false}
+use borrow.Author.Tests.{lt-ltb, le-ltb}
 use Rattle.plan.specs.Control.{predicateRefusal}
 use Rattle.plan.proofs.predicate_refusal.Statement.{statement}
 use Rattle.plan.proofs.predicate_refusal.Tie as tie
