@@ -57,25 +57,27 @@ fn lengths_of(line: &[u8]) -> Lengths {
     }
 }
 
-fn tables_good(line: &[u8], variables: &[u8], surfaces: &[u8]) -> bool {
-    let types = numbers::types_of(variables);
+fn tables_good(line: &[u8], variables: &[u8], predicates: &[u8], surfaces: &[u8]) -> bool {
+    let types = numbers::bytes_of(variables, 2, 0);
     let starts = numbers::words_of(variables, 3, 5, 0);
     let counts = numbers::words_of(variables, 5, 5, 1);
-    let predicates = [0u32; 257];
+    let predicate_bits = [0u32; 257];
+    let predicate_counts = numbers::bytes_of(predicates, 6, 32);
     let lengths = numbers::words_of(surfaces, 2, 2, 0);
     tables::tables_good(
         lengths_of(line),
         &types[..numbers::entries(line, 22)],
         &starts[..numbers::entries(line, 24)],
         &counts[..numbers::entries(line, 26)],
-        &predicates[..numbers::entries(line, 28)],
-        &lengths[..numbers::entries(line, 30)],
+        &predicate_bits[..numbers::entries(line, 28)],
+        &predicate_counts[..numbers::entries(line, 30)],
+        &lengths[..numbers::entries(line, 32)],
     )
 }
 
 // A line of the lengths lent and of the tables' numbers of entries.
-pub(crate) fn tables(line: &[u8], variables: &[u8], surfaces: &[u8]) {
-    if tables_good(line, variables, surfaces) {
+pub(crate) fn tables(line: &[u8], variables: &[u8], predicates: &[u8], surfaces: &[u8]) {
+    if tables_good(line, variables, predicates, surfaces) {
         output::text(b" 0\n");
     } else {
         output::text(b" 13\n");
@@ -155,16 +157,18 @@ fn planned(plan: Plan) {
 }
 
 fn plan_of(instruction: Instruction, variables: &[u8], predicates: &[u8], surfaces: &[u8]) -> Plan {
-    let types = numbers::types_of(variables);
+    let types = numbers::bytes_of(variables, 2, 0);
     let starts = numbers::words_of(variables, 3, 5, 0);
     let counts = numbers::words_of(variables, 5, 5, 1);
-    let bits = numbers::bits_of(predicates);
+    let predicate_bits = numbers::bits_of(predicates);
+    let predicate_counts = numbers::bytes_of(predicates, 6, 32);
     let lengths = numbers::words_of(surfaces, 2, 2, 0);
     plan::check(
         &types[..numbers::entries(variables, 0)],
         &starts[..numbers::entries(variables, 0)],
         &counts[..numbers::entries(variables, 0)],
-        &bits[..numbers::entries(predicates, 0)],
+        &predicate_bits[..numbers::entries(predicates, 0)],
+        &predicate_counts[..numbers::entries(predicates, 0)],
         &lengths[..numbers::entries(surfaces, 0)],
         instruction,
     )

@@ -19,7 +19,7 @@ fn answer_line(line: &[u8], variables: &[u8], predicates: &[u8], surfaces: &[u8]
         return answers::lanes(&line[1..]);
     }
     if kind == b't' {
-        return answers::tables(&line[1..], variables, surfaces);
+        return answers::tables(&line[1..], variables, predicates, surfaces);
     }
     if kind == b'k' {
         answers::instruction(&line[1..], variables, predicates, surfaces);

@@ -71,15 +71,17 @@ pub(crate) fn kernel_of(line: &[u8]) -> [u8; 64]
     kernel
 }
 
-// In a table's line the number of its entries comes first. The types of a line of variables, 0 behind the last one.
-pub(crate) fn types_of(line: &[u8]) -> [u8; 257]
+// In a table's line the number of its entries comes first; a variable has five bytes, and so has a predicate. A byte of each entry: the first
+// entry's at `first`, and `past` behind the last one.
+pub(crate) fn bytes_of(line: &[u8], first: usize, past: u8) -> [u8; 257]
+    requires { ⌜ first ≤ 16 ⌝ }
     ensures { λ r. ⌜ 257 ≡ length r ⌝ }
 {
     let count = size(line, 0);
-    let mut table = [0u8; 257];
+    let mut table = [past; 257];
     let mut i = 0;
     while i < 257 && i < count {
-        table[i] = byte(line, 5 * i + 2);
+        table[i] = byte(line, 5 * i + first);
         i += 1;
     }
     table
@@ -93,7 +95,7 @@ pub(crate) fn bits_of(line: &[u8]) -> [u32; 257]
     let mut table = [0u32; 257];
     let mut i = 0;
     while i < 257 && i < count {
-        table[i] = dword(line, 4 * i + 2);
+        table[i] = dword(line, 5 * i + 2);
         i += 1;
     }
     table

@@ -21,13 +21,17 @@ slice-aggregate-check-4 c = sym (length-take-le _ _ (omega arith))
 slice-aggregate-check-5 : tie.Need-slice-aggregate-check-5
 slice-aggregate-check-5 c = sym (length-take-le _ _ (omega arith))
 
+slice-aggregate-check-6 : tie.Need-slice-aggregate-check-6
+slice-aggregate-check-6 c = sym (length-take-le _ _ (omega arith))
+
 pub plan-of-spec : {M : Type 1} → statement M
 plan-of-spec =
     tie.close
-    (tie.spec (λ c κs. search needs) (λ c κs. search needs) (λ c κs. search needs) (λ c κs. search needs) (λ c κs. search needs)
+    (tie.spec (λ c κs. search needs) (λ c κs. search needs) (λ c κs. search needs) (λ c κs. search needs) (λ c κs. search needs) (λ c κs. search needs)
     (λ c κs. search needs) (λ c. search needs) slice-aggregate-check
     (λ c κs. search needs) (λ c. search needs) slice-aggregate-check-2
     (λ c κs. search needs) (λ c. search needs) slice-aggregate-check-3
     (λ c κs. search needs) (λ c. search needs) slice-aggregate-check-4
     (λ c κs. search needs) (λ c. search needs) slice-aggregate-check-5
+    (λ c κs. search needs) (λ c. search needs) slice-aggregate-check-6
     (λ c κs. search needs) (λ c. search needs))

@@ -21,13 +21,17 @@ slice-aggregate-tables-good-4 c = sym (length-take-le _ _ (omega arith))
 slice-aggregate-tables-good-5 : tie.Need-slice-aggregate-tables-good-5
 slice-aggregate-tables-good-5 c = sym (length-take-le _ _ (omega arith))
 
+slice-aggregate-tables-good-6 : tie.Need-slice-aggregate-tables-good-6
+slice-aggregate-tables-good-6 c = sym (length-take-le _ _ (omega arith))
+
 pub tables-good-spec : {M : Type 1} → statement M
 tables-good-spec =
     tie.close
-    (tie.spec (λ c κs. search needs) (λ c κs. search needs) (λ c κs. search needs) (λ c κs. search needs) (λ c κs. search needs)
+    (tie.spec (λ c κs. search needs) (λ c κs. search needs) (λ c κs. search needs) (λ c κs. search needs) (λ c κs. search needs) (λ c κs. search needs)
     (λ c κs. search needs) (λ c. search needs) slice-aggregate-tables-good
     (λ c κs. search needs) (λ c. search needs) slice-aggregate-tables-good-2
     (λ c κs. search needs) (λ c. search needs) slice-aggregate-tables-good-3
     (λ c κs. search needs) (λ c. search needs) slice-aggregate-tables-good-4
     (λ c κs. search needs) (λ c. search needs) slice-aggregate-tables-good-5
+    (λ c κs. search needs) (λ c. search needs) slice-aggregate-tables-good-6
     (λ c κs. search needs) (λ c. search needs))
