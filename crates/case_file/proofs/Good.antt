@@ -12,7 +12,7 @@ use Rattle.case_file.specs.BadLine.{contentGood}
 use Rattle.case_file.proofs.Plain as plain
 use Rattle.case_file.proofs.Plain.{Plain}
 
--- as many bytes as a predicate's content has, its count byte left out or not
+-- as many bytes as a predicate's content has, without its count byte or with it
 abbrev pub fourOrFive : List ℕ → Bool
 fourOrFive c = eqb (length c) 4 || eqb (length c) 5
 
