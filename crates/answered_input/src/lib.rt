@@ -22,12 +22,13 @@ fn answer_ended(
     starts: &[u16],
     counts: &[u16],
     predicate_values: &[u32],
+    predicate_counts: &[u8],
     surface_bytes: &[u8],
     surface_lengths: &[u16],
     form: Form,
     out: &mut [u8],
 ) -> usize
-    ensures { λ r. let t = lentTables types starts counts «predicate_values» «surface_bytes» «surface_lengths» in ⌜ Puts (endedOutput ended form (reading case (contents registers memory (now (kernel .entry)) «register_taint» «surface_taint» «memory_taint») (t .entry))) (now (out .entry)) (now (out .exit)) r ⌝ }
+    ensures { λ r. let t = lentTables types starts counts «predicate_values» «predicate_counts» «surface_bytes» «surface_lengths» in ⌜ Puts (endedOutput ended form (reading case (contents registers memory (now (kernel .entry)) «register_taint» «surface_taint» «memory_taint») (t .entry))) (now (out .entry)) (now (out .exit)) r ⌝ }
 {
     if !ended {
         return 0;
@@ -44,6 +45,7 @@ fn answer_ended(
         starts,
         counts,
         predicate_values,
+        predicate_counts,
         surface_bytes,
         surface_lengths,
         form,
@@ -66,6 +68,7 @@ pub fn answer_input(form: Form, out: &mut [u8]) -> usize
     let mut starts = [0u16; 256];
     let mut counts = [0u16; 256];
     let mut predicate_values = [0u32; 64];
+    let mut predicate_counts = [0u8; 64];
     let mut surface_bytes = [0u8; 8192];
     let mut surface_lengths = [0u16; 8];
     let read = input::read_all(
@@ -80,6 +83,7 @@ pub fn answer_input(form: Form, out: &mut [u8]) -> usize
         &mut starts,
         &mut counts,
         &mut predicate_values,
+        &mut predicate_counts,
         &mut surface_bytes,
         &mut surface_lengths,
     );
@@ -95,6 +99,7 @@ pub fn answer_input(form: Form, out: &mut [u8]) -> usize
         &mut starts,
         &mut counts,
         &mut predicate_values,
+        &mut predicate_counts,
         &mut surface_bytes,
         &mut surface_lengths,
         read.state,
@@ -112,6 +117,7 @@ pub fn answer_input(form: Form, out: &mut [u8]) -> usize
         &starts,
         &counts,
         &predicate_values,
+        &predicate_counts,
         &surface_bytes,
         &surface_lengths,
         form,

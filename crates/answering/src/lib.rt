@@ -69,6 +69,7 @@ fn run_case(
     starts: &[u16],
     counts: &[u16],
     predicate_values: &[u32],
+    predicate_counts: &[u8],
     surface_lengths: &[u16],
     surfaces: &[u8],
     surface_taint: &[u8],
@@ -77,19 +78,21 @@ fn run_case(
     memory: &mut [u8],
     memory_taint: &mut [u8],
 ) -> Answer
-    ensures { λ r. let t = lentTables types starts counts «predicate_values» surfaces «surface_lengths» in let s = lent registers «register_taint» surfaces «surface_taint» memory «memory_taint» in ⌜ (outcome r (s .exit) ≡ run (setupOf case (now (kernel .entry)) (t .entry)) (s .entry)) × (r .completed ≤ 4096) × (r .position ≤ 4096) ⌝ }
+    ensures { λ r. let t = lentTables types starts counts «predicate_values» «predicate_counts» surfaces «surface_lengths» in let s = lent registers «register_taint» surfaces «surface_taint» memory «memory_taint» in ⌜ (outcome r (s .exit) ≡ run (setupOf case (now (kernel .entry)) (t .entry)) (s .entry)) × (r .completed ≤ 4096) × (r .position ≤ 4096) ⌝ }
 {
     let constants = Constants {
         base: case.settings.base,
         mask: case.settings.mask,
     };
     let variables = frames::met_of(2, case);
+    let predicates = frames::met_of(3, case);
     run::run(
         line_blocks::first_bytes(kernel, frames::length_of(7, case)),
         line_blocks::first_bytes(types, variables),
         feeding::first_words(starts, variables),
         feeding::first_words(counts, variables),
-        feeding::first_dwords(predicate_values, frames::met_of(3, case)),
+        feeding::first_dwords(predicate_values, predicates),
+        line_blocks::first_bytes(predicate_counts, predicates),
         feeding::first_words(surface_lengths, frames::met_of(4, case)),
         constants,
         surfaces,
@@ -135,6 +138,7 @@ fn run_and_write(
     starts: &[u16],
     counts: &[u16],
     predicate_values: &[u32],
+    predicate_counts: &[u8],
     surface_lengths: &[u16],
     surfaces: &[u8],
     surface_taint: &[u8],
@@ -145,7 +149,7 @@ fn run_and_write(
     form: Form,
     out: &mut [u8],
 ) -> usize
-    ensures { λ r. let t = lentTables types starts counts «predicate_values» surfaces «surface_lengths» in let s = lent registers «register_taint» surfaces «surface_taint» memory «memory_taint» in ⌜ Puts (outcomeText form (case .settings .base) (run (setupOf case (now (kernel .entry)) (t .entry)) (s .entry))) (now (out .entry)) (now (out .exit)) r ⌝ }
+    ensures { λ r. let t = lentTables types starts counts «predicate_values» «predicate_counts» surfaces «surface_lengths» in let s = lent registers «register_taint» surfaces «surface_taint» memory «memory_taint» in ⌜ Puts (outcomeText form (case .settings .base) (run (setupOf case (now (kernel .entry)) (t .entry)) (s .entry))) (now (out .entry)) (now (out .exit)) r ⌝ }
 {
     let answer = run_case(
         case,
@@ -154,6 +158,7 @@ fn run_and_write(
         starts,
         counts,
         predicate_values,
+        predicate_counts,
         surface_lengths,
         surfaces,
         surface_taint,
@@ -208,12 +213,13 @@ fn answer_good(
     starts: &[u16],
     counts: &[u16],
     predicate_values: &[u32],
+    predicate_counts: &[u8],
     surface_bytes: &[u8],
     surface_lengths: &[u16],
     form: Form,
     out: &mut [u8],
 ) -> usize
-    ensures { λ r. let t = lentTables types starts counts «predicate_values» «surface_bytes» «surface_lengths» in ⌜ Puts (goodOutput form (reading case (contents registers memory (now (kernel .entry)) «register_taint» «surface_taint» «memory_taint») (t .entry))) (now (out .entry)) (now (out .exit)) r ⌝ }
+    ensures { λ r. let t = lentTables types starts counts «predicate_values» «predicate_counts» «surface_bytes» «surface_lengths» in ⌜ Puts (goodOutput form (reading case (contents registers memory (now (kernel .entry)) «register_taint» «surface_taint» «memory_taint») (t .entry))) (now (out .entry)) (now (out .exit)) r ⌝ }
 {
     let file = content_length(1, case);
     let window = content_length(5, case);
@@ -229,6 +235,7 @@ fn answer_good(
         starts,
         counts,
         predicate_values,
+        predicate_counts,
         surface_lengths,
         line_blocks::first_bytes(surface_bytes, frames::length_of(4, case)),
         line_blocks::first_bytes(&of_surfaces, frames::taint_length(9, 4, case)),
@@ -254,12 +261,13 @@ pub fn answer(
     starts: &[u16],
     counts: &[u16],
     predicate_values: &[u32],
+    predicate_counts: &[u8],
     surface_bytes: &[u8],
     surface_lengths: &[u16],
     form: Form,
     out: &mut [u8],
 ) -> usize
-    ensures { λ r. let t = lentTables types starts counts «predicate_values» «surface_bytes» «surface_lengths» in ⌜ Puts (caseOutput form (reading case (contents registers memory (now (kernel .entry)) «register_taint» «surface_taint» «memory_taint») (t .entry))) (now (out .entry)) (now (out .exit)) r ⌝ }
+    ensures { λ r. let t = lentTables types starts counts «predicate_values» «predicate_counts» «surface_bytes» «surface_lengths» in ⌜ Puts (caseOutput form (reading case (contents registers memory (now (kernel .entry)) «register_taint» «surface_taint» «memory_taint») (t .entry))) (now (out .entry)) (now (out .exit)) r ⌝ }
 {
     let verdict = frames::judge(case);
     if 0 < verdict.number {
@@ -277,6 +285,7 @@ pub fn answer(
         starts,
         counts,
         predicate_values,
+        predicate_counts,
         surface_bytes,
         surface_lengths,
         form,

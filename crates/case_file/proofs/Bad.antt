@@ -10,12 +10,13 @@ use borrow.Author.Tests.{lt-ltb, ne-eqb, leb-false}
 use Rattle.hex.proofs.DigitLaws.{cond-both}
 use Rattle.frames.specs.mirror.Reading.{Reading}
 use Rattle.frames.specs.mirror.Lines.{KINDS, next, badLine, metOf}
-use Rattle.frames.specs.mirror.Repeated.{variableRead, predicateRead}
+use Rattle.frames.specs.mirror.Repeated.{variableRead, predicateSized, predicateRead}
 use Rattle.frames.specs.mirror.Once.{Once, memoryRead, maskRead, onceRead}
 use Rattle.frames.specs.mirror.Frames.{frameRead}
 use Rattle.case_file.specs.Frames.{kindOf, contentOf}
 use Rattle.case_file.specs.BadLine.{repeats, contentGood}
 use Rattle.case_file.proofs.ByKind.{Kinds}
+use Rattle.case_file.proofs.Good.{fourOrFive}
 use Rattle.case_file.proofs.Counted.{Judges}
 
 module _ (r : Reading) where
@@ -43,8 +44,8 @@ module _ (r : Reading) where
   unfolding frameRead variableRead badLine
   variable-bad c e = rw e refl
 
-  predicate-bad : (c : List ℕ) → eqb (length c) 4 ≡ false → Bad 3 (3 ∷ c)
-  unfolding frameRead predicateRead badLine
+  predicate-bad : (c : List ℕ) → fourOrFive c ≡ false → Bad 3 (3 ∷ c)
+  unfolding frameRead predicateRead predicateSized badLine
   predicate-bad c e = rw e refl
 
   memory-bad : (c : List ℕ) → leb 8 (length c) ≡ false → Bad 5 (5 ∷ c)
@@ -80,7 +81,7 @@ module _ (g : Kinds) (n : ℕ) (r : Reading) (j : Judges g n (r .case)) where
   frame-bad (zero ∷ c) e = unlisted r 0 (0 ∷ c) refl refl refl refl refl refl refl refl refl refl
   frame-bad (suc zero ∷ c) e = second r 1 (1 ∷ c) refl refl refl (some 1 (omega arith) refl e)
   frame-bad (suc (suc zero) ∷ c) e = variable-bad r c (left-false (eqb (length c) 5) e)
-  frame-bad (suc (suc (suc zero)) ∷ c) e = predicate-bad r c (left-false (eqb (length c) 4) e)
+  frame-bad (suc (suc (suc zero)) ∷ c) e = predicate-bad r c (left-false (fourOrFive c) e)
   frame-bad (suc (suc (suc (suc zero))) ∷ c) e = absurd (true≢false e)
   frame-bad (suc (suc (suc (suc (suc zero)))) ∷ c) e =
       either-false (leb 8 (length c)) (eqb (length (g 5)) 0) (memory-bad r c) (λ m. second r 5 (5 ∷ c) refl refl refl (some 5 (omega arith) refl m)) e

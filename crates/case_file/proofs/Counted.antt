@@ -13,7 +13,7 @@ use Rattle.hex.proofs.DigitLaws.{cond-both}
 use Rattle.frames.specs.declared.Case.{Case}
 use Rattle.frames.specs.mirror.Reading.{Reading}
 use Rattle.frames.specs.mirror.Lines.{KINDS, next, goodLine, metOf, lengthOf, counted, sized, based, masked}
-use Rattle.frames.specs.mirror.Repeated.{Variables, variableRead, Predicates, predicateRead, Surfaces, surfaceRead}
+use Rattle.frames.specs.mirror.Repeated.{Variables, variableRead, Predicates, predicateSized, predicateRead, Surfaces, surfaceRead}
 use Rattle.frames.specs.mirror.Once.{contentRead, memoryRead, maskRead, onceRead}
 use Rattle.frames.specs.mirror.Frames.{frameRead}
 use Rattle.case_file.specs.Frames.{kindOf, contentOf}
@@ -22,7 +22,7 @@ use Rattle.case_file.proofs.ByKind.{Kinds, added, none-yet}
 use Rattle.case_file.proofs.Plain as plain
 use Rattle.case_file.proofs.Plain.{Plain, plain-listed, plain-once, either-true}
 use Rattle.case_file.proofs.Good as good
-use Rattle.case_file.proofs.Good.{Good}
+use Rattle.case_file.proofs.Good.{Good, fourOrFive}
 
 -- what a good frame of this kind makes of a case
 record Made (kind : ℕ) (c d : Case) : Type 0 where
@@ -79,11 +79,12 @@ module _ (r : Reading) where
       (ltb (metOf 2 (r .case)) (length (r .tables .types)) && ltb (metOf 2 (r .case)) (length (r .tables .starts)) && ltb (metOf 2 (r .case)) (length (r .tables .counts)))
       (λ _. again 2 _ (r .case) refl) (λ _. uncounted 2 (r .case) refl))
 
-  predicate-made : (c : List ℕ) → length c ≡ 4 → M 3 (frameRead 3 (3 ∷ c) r .case)
-  unfolding frameRead predicateRead repeats
-  predicate-made c four =
-      rw four
-      (cond-both (λ (p : Predicates). M 3 (p .case)) (ltb (metOf 3 (r .case)) (length (r .tables .predicates)))
+  predicate-made : (c : List ℕ) → fourOrFive c ≡ true → M 3 (frameRead 3 (3 ∷ c) r .case)
+  unfolding frameRead predicateRead predicateSized repeats
+  predicate-made c long =
+      rw long
+      (cond-both (λ (p : Predicates). M 3 (p .case))
+      (ltb (metOf 3 (r .case)) (length (r .tables .predicates)) && ltb (metOf 3 (r .case)) (length (r .tables .predicateCounts)))
       (λ _. again 3 _ (r .case) refl) (λ _. uncounted 3 (r .case) refl))
 
   surface-made : (c : List ℕ) → M 4 (frameRead 4 (4 ∷ c) r .case)
@@ -107,7 +108,7 @@ module _ (r : Reading) where
   unfolding frameRead onceRead contentRead memoryRead maskRead repeats
   frame-made f (good.content k p c) none = plain-made k p c (none (plain-once k p))
   frame-made f (good.variable c five) none = variable-made c five
-  frame-made f (good.predicate c four) none = predicate-made c four
+  frame-made f (good.predicate c long) none = predicate-made c long
   frame-made f (good.surface c) none = surface-made c
   frame-made f (good.memory c eight) none = rw (none refl, le-ltb (length c) 8 eight) (with-base 5 (r .case) _ (content-made 5 _ _) _)
   frame-made f (good.mask c four) none = rw (none refl, four) (with-mask 6 (r .case) _ (first 6 true (r .case)) _)

@@ -6,7 +6,7 @@ use lib.ListN.{length}
 use Rattle.frames.specs.declared.Case.{Case}
 use Rattle.frames.specs.mirror.Reading.{Contents, contents, Tables, tables, Reading, reading}
 use Rattle.case_file.specs.Frames.{firstOf}
-use Rattle.case_file.specs.Case.{typeOf, startOf, countOf, dwordOf, baseOf, memoryOf}
+use Rattle.case_file.specs.Case.{typeOf, startOf, countOf, dwordOf, predicateCountOf, baseOf, memoryOf}
 use Rattle.case_file.proofs.Padded.{padded}
 use Rattle.case_file.proofs.ByKind.{Kinds}
 
@@ -40,6 +40,7 @@ module _ (z : Contents) (t : Tables) where
       (padded (t .starts) (map startOf (g 2)))
       (padded (t .counts) (map countOf (g 2)))
       (padded (t .predicates) (map dwordOf (g 3)))
+      (padded (t .predicateCounts) (map predicateCountOf (g 3)))
       (padded (t .surfaces) (flatten (g 4)))
       (padded (t .lengths) (map length (g 4)))
 

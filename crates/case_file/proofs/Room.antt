@@ -10,15 +10,16 @@ use borrow.Author.Tests.{lt-ltb, le-leb, le-ltb, lt-leb}
 use Rattle.little_endian.specs.LittleEndian.{numberAt}
 use Rattle.frames.specs.mirror.Reading.{Contents, Tables}
 use Rattle.frames.specs.mirror.Lines.{next, goodLine, metOf, lengthOf, counted, sized, based, masked}
-use Rattle.frames.specs.mirror.Repeated.{variableRead, predicateRead, surfaceRead}
+use Rattle.frames.specs.mirror.Repeated.{variableRead, predicateSized, predicateCount, predicateRead, surfaceRead}
 use Rattle.frames.specs.mirror.Once.{contentRead, memoryRead, maskRead, onceRead}
 use Rattle.frames.specs.mirror.Frames.{frameRead}
 use Rattle.case_file.specs.Frames.{firstOf}
-use Rattle.case_file.specs.Case.{typeOf, startOf, countOf, dwordOf, baseOf, memoryOf}
+use Rattle.case_file.specs.Case.{typeOf, startOf, countOf, dwordOf, predicateCountOf, baseOf, memoryOf}
 use Rattle.case_file.proofs.Padded.{padded, fits-padded, stored-padded, fits-once, stored-once, no-room, length-table, set-table}
 use Rattle.case_file.proofs.ByKind.{Kinds, added, one-more}
 use Rattle.case_file.proofs.Plain as plain
 use Rattle.case_file.proofs.Plain.{Plain, bufferOf}
+use Rattle.case_file.proofs.Good.{fourOrFive}
 use Rattle.case_file.proofs.Loaded.{readingAt}
 
 -- the loader reads a content where it stands behind its kind
@@ -42,6 +43,10 @@ count-behind x c = number-behind 2 x c 3
 dword-behind : (x : ℕ) (c : List ℕ) → numberAt 4 (x ∷ c) 1 ≡ dwordOf c
 unfolding dwordOf
 dword-behind x c = number-behind 4 x c 0
+
+elements-behind : (x : ℕ) (c : List ℕ) → predicateCount (x ∷ c) ≡ predicateCountOf c
+unfolding predicateCount predicateCountOf
+elements-behind x c = refl
 
 base-behind : (x : ℕ) (c : List ℕ) → numberAt 8 (x ∷ c) 1 ≡ baseOf c
 unfolding baseOf
@@ -104,17 +109,18 @@ module _ (z : Contents) (t : Tables) (g : Kinds) (n : ℕ) (c : List ℕ) where
       let r : ltb (length (g 2)) (length l) ≡ false = le-ltb (length (g 2)) (length l) (omega (arith, h, length-table typeOf (t .types) (g 2) (omega (arith, h)))) in
       rw (five, r) refl
 
-  pub predicate-read : length c ≡ 4 → length (g 3) < length (t .predicates) → frameRead 3 (3 ∷ c) (readingAt z t g n) ≡ readingAt z t (added 3 c g) (next n)
-  unfolding frameRead predicateRead metOf counted goodLine
-  predicate-read four r =
-      rw (four, length-table dwordOf (t .predicates) (g 3) (omega (arith, r)), lt-ltb _ _ r, one-more (g 3) c, ← set-table dwordOf (t .predicates) (g 3) c r, dword-behind 3 c) refl
+  pub predicate-read : fourOrFive c ≡ true → length (g 3) < length (t .predicates) → length (g 3) < length (t .predicateCounts) →
+      frameRead 3 (3 ∷ c) (readingAt z t g n) ≡ readingAt z t (added 3 c g) (next n)
+  unfolding frameRead predicateRead predicateSized metOf counted goodLine
+  predicate-read long r₁ r₂ =
+      rw (long, length-table dwordOf (t .predicates) (g 3) (omega (arith, r₁)), length-table predicateCountOf (t .predicateCounts) (g 3) (omega (arith, r₂)), lt-ltb _ _ r₁, lt-ltb _ _ r₂, one-more (g 3) c, ← set-table dwordOf (t .predicates) (g 3) c r₁, ← set-table predicateCountOf (t .predicateCounts) (g 3) c r₂, dword-behind 3 c, elements-behind 3 c) refl
 
-  pub predicate-full : length c ≡ 4 → length (g 3) ≡ length (t .predicates) → frameRead 3 (3 ∷ c) (readingAt z t g n) .case .full ≡ true
-  unfolding frameRead predicateRead metOf counted goodLine
-  predicate-full four h =
+  pub predicate-full : fourOrFive c ≡ true → length (g 3) ≡ length (t .predicates) → frameRead 3 (3 ∷ c) (readingAt z t g n) .case .full ≡ true
+  unfolding frameRead predicateRead predicateSized metOf counted goodLine
+  predicate-full long h =
       let l = padded (t .predicates) (map dwordOf (g 3)) in
       let r : ltb (length (g 3)) (length l) ≡ false = le-ltb (length (g 3)) (length l) (omega (arith, h, length-table dwordOf (t .predicates) (g 3) (omega (arith, h)))) in
-      rw (four, r) refl
+      rw (long, r) refl
 
   pub surface-read : length c ≤ 1024 → length (g 4) < length (t .lengths) → length (flatten (g 4)) + length c ≤ length (t .surfaces) →
       frameRead 4 (4 ∷ c) (readingAt z t g n) ≡ readingAt z t (added 4 c g) (next n)

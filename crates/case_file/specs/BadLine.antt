@@ -12,7 +12,7 @@ use Rattle.case_file.specs.Frames.{kindOf, contentOf, ofKind}
 unfoldable pub contentGood : ℕ → List ℕ → Bool
 contentGood kind content =
     cond (eqb kind 0x02) (eqb (length content) 5)  -- "type ub, start uw, count uw"
-    (cond (eqb kind 0x03) (eqb (length content) 4)  -- "predicate ud"
+    (cond (eqb kind 0x03) (eqb (length content) 4 || eqb (length content) 5)  -- "predicate ud", "a further count byte"
     (cond (eqb kind 0x05) (leb 8 (length content))  -- "base uq and memory"
     (cond (eqb kind 0x06) (eqb (length content) 4)  -- "EM ud"
     (leb 0x01 kind && leb kind 0x0a))))  -- any bytes: registers, surface, kernel, marks

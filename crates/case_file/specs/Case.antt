@@ -1,7 +1,9 @@
 -- The case that the frames of a case file describe: what a run borrows. Document 01, "The bench table": "02, 03, 04 repeat, numbered from 0 in
 -- their order; others once at most; absent means empty, base 0, EM 0, marks all 0."
 use Prim.Native.Nat.{ℕ}
+use mathlib.Core.Bool.{cond}
 use mathlib.Core.List.{List, [], _∷_, map, flatten}
+use lib.Dec.{eqb}
 use lib.ListN.{length, getD, drop, replicate}
 use Rattle.little_endian.specs.LittleEndian.{numberAt}
 use Rattle.cells.specs.Buffer.{Buffer, buffer}
@@ -22,6 +24,10 @@ countOf content = numberAt 2 content 3
 unfoldable pub dwordOf : List ℕ → ℕ
 dwordOf content = numberAt 4 content 0
 
+-- document 02, request 3: "frame 03 takes a further count byte, and an old four-byte frame means 32"
+unfoldable pub predicateCountOf : List ℕ → ℕ
+predicateCountOf content = cond (eqb (length content) 5) (getD content 4 0) 32
+
 -- "05 base uq and memory"; of no content, "absent means empty, base 0"
 unfoldable pub baseOf : List ℕ → ℕ
 baseOf content = numberAt 8 content 0
@@ -40,7 +46,7 @@ caseSetup frames =
           starts = map startOf (ofKind 0x02 frames);
           counts = map countOf (ofKind 0x02 frames);
         };
-        predicates = record { bits = map dwordOf (ofKind 0x03 frames) };
+        predicates = record { bits = map dwordOf (ofKind 0x03 frames); counts = map predicateCountOf (ofKind 0x03 frames) };
         surfaces = record { lengths = map length (ofKind 0x04 frames) };
       };
       constants = record { base = baseOf (onlyOf 0x05 frames); mask = dwordOf (onlyOf 0x06 frames) };

@@ -30,7 +30,7 @@ returns c =
 pub answer-input-spec : {M : Type 1} → statement M
 answer-input-spec =
     tie.close
-    (tie.spec (λ c. refl) (λ c. refl) (λ c. refl) (λ c. refl) (λ c. refl) (λ c. refl) (λ c. refl) (λ c. refl) (λ c. refl) (λ c. refl) (λ c. refl) (λ c. refl) (λ c. refl) (λ c κs. tt)
+    (tie.spec (λ c. refl) (λ c. refl) (λ c. refl) (λ c. refl) (λ c. refl) (λ c. refl) (λ c. refl) (λ c. refl) (λ c. refl) (λ c. refl) (λ c. refl) (λ c. refl) (λ c. refl) (λ c. refl) (λ c κs. tt)
     (λ c. let b : tie.After-line2 = search c in sym (b .line2 .given))
     (λ c. let b : tie.After-registers2 = search c in sym (b .registers2 .given))
     (λ c. let b : tie.After-memory2 = search c in sym (b .memory2 .given))
@@ -42,6 +42,7 @@ answer-input-spec =
     (λ c. let b : tie.After-starts2 = search c in sym (b .starts2 .given))
     (λ c. let b : tie.After-counts2 = search c in sym (b .counts2 .given))
     (λ c. let b : tie.After-predicate-values2 = search c in sym (b .predicate-values2 .given))
+    (λ c. let b : tie.After-predicate-counts2 = search c in sym (b .predicate-counts2 .given))
     (λ c. let b : tie.After-surface-bytes2 = search c in sym (b .surface-bytes2 .given))
     (λ c. let b : tie.After-surface-lengths2 = search c in sym (b .surface-lengths2 .given))
     (λ c κs. tt)
@@ -50,6 +51,7 @@ answer-input-spec =
     (λ c. let b : tie.After-starts4 = search c in sym (b .starts4 .given))
     (λ c. let b : tie.After-counts4 = search c in sym (b .counts4 .given))
     (λ c. let b : tie.After-predicate-values4 = search c in sym (b .predicate-values4 .given))
+    (λ c. let b : tie.After-predicate-counts4 = search c in sym (b .predicate-counts4 .given))
     (λ c. let b : tie.After-surface-bytes4 = search c in sym (b .surface-bytes4 .given))
     (λ c. let b : tie.After-surface-lengths4 = search c in sym (b .surface-lengths4 .given))
     (λ c κs. tt)

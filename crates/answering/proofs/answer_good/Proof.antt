@@ -61,7 +61,7 @@ returns c =
     let file : tie.After-content-length = search window in
     let s = start file in
     let a = s .args in
-    good-written _ _ _ _ (a .case) _ _ _ _ _ _ _ _ _
+    good-written _ _ _ _ (a .case) _ _ _ _ _ _ _ _ _ _
     (state-cut (a .case) (a .t2) (a .t3) (a .kernel .now) (a .register-taint) (a .surface-taint) (a .memory-taint) (a .surface-bytes .now) _ _ _ _ _ _ _ _ _ _ _
     (s .good .1 .0 .1 .0 .1) (s .good .1 .1 .0 .1 .0 .1) (s .good .1 .1 .1 .1 .0 .1 .0 .1) (s .good .1 .1 .1 .1 .1 .1 .0 .1 .0 .1)
     (file .content-length .ensures) (window .content-length2 .ensures) (fileTaint .taint-length .ensures) (windowTaint .taint-length2 .ensures)

@@ -32,7 +32,7 @@ abbrev pub unread : Reading
 unread =
     reading nothing
     (contents (replicate 4096 0) (replicate 4096 0) (replicate 4096 0) (replicate 4096 0) (replicate 8192 0) (replicate 4096 0))
-    (tables (replicate 256 0) (replicate 256 0) (replicate 256 0) (replicate 64 0) (replicate 8192 0) (replicate 8 0))
+    (tables (replicate 256 0) (replicate 256 0) (replicate 256 0) (replicate 64 0) (replicate 64 0) (replicate 8192 0) (replicate 8 0))
 
 -- lines of at most 16,386 characters
 unfoldable pub benchOutput : Form → List ℕ → List ℕ
