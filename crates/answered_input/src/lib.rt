@@ -21,14 +21,14 @@ fn answer_ended(
     types: &[u8],
     starts: &[u16],
     counts: &[u16],
-    predicate_values: &[u32],
+    predicate_bits: &[u32],
     predicate_counts: &[u8],
     surface_bytes: &[u8],
     surface_lengths: &[u16],
     form: Form,
     out: &mut [u8],
 ) -> usize
-    ensures { λ r. let t = lentTables types starts counts «predicate_values» «predicate_counts» «surface_bytes» «surface_lengths» in ⌜ Puts (endedOutput ended form (reading case (contents registers memory (now (kernel .entry)) «register_taint» «surface_taint» «memory_taint») (t .entry))) (now (out .entry)) (now (out .exit)) r ⌝ }
+    ensures { λ r. let t = lentTables types starts counts «predicate_bits» «predicate_counts» «surface_bytes» «surface_lengths» in ⌜ Puts (endedOutput ended form (reading case (contents registers memory (now (kernel .entry)) «register_taint» «surface_taint» «memory_taint») (t .entry))) (now (out .entry)) (now (out .exit)) r ⌝ }
 {
     if !ended {
         return 0;
@@ -44,7 +44,7 @@ fn answer_ended(
         types,
         starts,
         counts,
-        predicate_values,
+        predicate_bits,
         predicate_counts,
         surface_bytes,
         surface_lengths,
@@ -67,7 +67,7 @@ pub fn answer_input(form: Form, out: &mut [u8]) -> usize
     let mut types = [0u8; 256];
     let mut starts = [0u16; 256];
     let mut counts = [0u16; 256];
-    let mut predicate_values = [0u32; 64];
+    let mut predicate_bits = [0u32; 64];
     let mut predicate_counts = [0u8; 64];
     let mut surface_bytes = [0u8; 8192];
     let mut surface_lengths = [0u16; 8];
@@ -82,7 +82,7 @@ pub fn answer_input(form: Form, out: &mut [u8]) -> usize
         &mut types,
         &mut starts,
         &mut counts,
-        &mut predicate_values,
+        &mut predicate_bits,
         &mut predicate_counts,
         &mut surface_bytes,
         &mut surface_lengths,
@@ -98,7 +98,7 @@ pub fn answer_input(form: Form, out: &mut [u8]) -> usize
         &mut types,
         &mut starts,
         &mut counts,
-        &mut predicate_values,
+        &mut predicate_bits,
         &mut predicate_counts,
         &mut surface_bytes,
         &mut surface_lengths,
@@ -116,7 +116,7 @@ pub fn answer_input(form: Form, out: &mut [u8]) -> usize
         &types,
         &starts,
         &counts,
-        &predicate_values,
+        &predicate_bits,
         &predicate_counts,
         &surface_bytes,
         &surface_lengths,

@@ -48,12 +48,12 @@ length-taint size kind c taint t h e = ap (λ (l : List ℕ). length l) e ∙ to
     told true = h
     told false = length-replicate {A = ℕ} size 0
 
-pub setup-cut : (c : Case) (kernel types starts counts predicates elements surfaces lengths k t s n p q l : List ℕ) (bytes variables words numbers : ℕ) →
+pub setup-cut : (c : Case) (kernel types starts counts bits elements surfaces lengths k t s n p q l : List ℕ) (bytes variables words numbers : ℕ) →
     bytes ≡ lengthOf 7 c → variables ≡ metOf 2 c → numbers ≡ metOf 3 c → words ≡ metOf 4 c →
-    k ≡ take bytes kernel → t ≡ take variables types → s ≡ take variables starts → n ≡ take variables counts → p ≡ take numbers predicates → q ≡ take numbers elements → l ≡ take words lengths →
-    setup k (whole.tables (record { types = t; starts = s; counts = n }) (record { bits = p; counts = q }) (record { lengths = l })) (record { base = c .settings .base; mask = c .settings .mask }) ≡ setupOf c kernel (tables types starts counts predicates elements surfaces lengths)
+    k ≡ take bytes kernel → t ≡ take variables types → s ≡ take variables starts → n ≡ take variables counts → p ≡ take numbers bits → q ≡ take numbers elements → l ≡ take words lengths →
+    setup k (whole.tables (record { types = t; starts = s; counts = n }) (record { bits = p; counts = q }) (record { lengths = l })) (record { base = c .settings .base; mask = c .settings .mask }) ≡ setupOf c kernel (tables types starts counts bits elements surfaces lengths)
 unfolding setupOf
-setup-cut c kernel types starts counts predicates elements surfaces lengths k t s n p q l bytes variables words numbers a b d e f g h i j m o =
+setup-cut c kernel types starts counts bits elements surfaces lengths k t s n p q l bytes variables words numbers a b d e f g h i j m o =
     rw (f, g, h, i, j, m, o, a, b, d, e)
 
 kernel-bytes : (c : Case) (kernel : List ℕ) (t : Tables) → Bytes kernel → Bytes (setupOf c kernel t .kernel)

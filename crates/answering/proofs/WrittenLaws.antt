@@ -61,12 +61,12 @@ module _ (f : Form) (out after : List ℕ) (used : ℕ) where
     refusal-verdict k h = rw k (short-puts (verdictLine number 0 position detail.None) out after used h)
 
   -- the run of a good case; its setup does not look at the surfaces' bytes
-  pub good-written : (c : Case) (b : Contents) (types starts counts predicates elements surfaces lengths cut : List ℕ) (s : State) →
+  pub good-written : (c : Case) (b : Contents) (types starts counts bits elements surfaces lengths cut : List ℕ) (s : State) →
       s ≡ stateOf c b surfaces →
-      Puts (outcomeText f (c .settings .base) (run (setupOf c (b .kernel) (tables types starts counts predicates elements cut lengths)) s)) out after used →
-      Puts (goodOutput f (reading c b (tables types starts counts predicates elements surfaces lengths))) out after used
+      Puts (outcomeText f (c .settings .base) (run (setupOf c (b .kernel) (tables types starts counts bits elements cut lengths)) s)) out after used →
+      Puts (goodOutput f (reading c b (tables types starts counts bits elements surfaces lengths))) out after used
   unfolding goodOutput setupOf
-  good-written c b types starts counts predicates elements surfaces lengths cut s e h = rw (← e) h
+  good-written c b types starts counts bits elements surfaces lengths cut s e h = rw (← e) h
 
   pub refused-written : (r : Reading) (v : Verdict) → v ≡ verdictOf (r .case) → 0 < v .number → Puts (refusalText f (v .number) (v .position)) out after used → Puts (caseOutput f r) out after used
   unfolding caseOutput

@@ -68,7 +68,7 @@ fn run_case(
     types: &[u8],
     starts: &[u16],
     counts: &[u16],
-    predicate_values: &[u32],
+    predicate_bits: &[u32],
     predicate_counts: &[u8],
     surface_lengths: &[u16],
     surfaces: &[u8],
@@ -78,7 +78,7 @@ fn run_case(
     memory: &mut [u8],
     memory_taint: &mut [u8],
 ) -> Answer
-    ensures { λ r. let t = lentTables types starts counts «predicate_values» «predicate_counts» surfaces «surface_lengths» in let s = lent registers «register_taint» surfaces «surface_taint» memory «memory_taint» in ⌜ (outcome r (s .exit) ≡ run (setupOf case (now (kernel .entry)) (t .entry)) (s .entry)) × (r .completed ≤ 4096) × (r .position ≤ 4096) ⌝ }
+    ensures { λ r. let t = lentTables types starts counts «predicate_bits» «predicate_counts» surfaces «surface_lengths» in let s = lent registers «register_taint» surfaces «surface_taint» memory «memory_taint» in ⌜ (outcome r (s .exit) ≡ run (setupOf case (now (kernel .entry)) (t .entry)) (s .entry)) × (r .completed ≤ 4096) × (r .position ≤ 4096) ⌝ }
 {
     let constants = Constants {
         base: case.settings.base,
@@ -91,7 +91,7 @@ fn run_case(
         line_blocks::first_bytes(types, variables),
         feeding::first_words(starts, variables),
         feeding::first_words(counts, variables),
-        feeding::first_dwords(predicate_values, predicates),
+        feeding::first_dwords(predicate_bits, predicates),
         line_blocks::first_bytes(predicate_counts, predicates),
         feeding::first_words(surface_lengths, frames::met_of(4, case)),
         constants,
@@ -137,7 +137,7 @@ fn run_and_write(
     types: &[u8],
     starts: &[u16],
     counts: &[u16],
-    predicate_values: &[u32],
+    predicate_bits: &[u32],
     predicate_counts: &[u8],
     surface_lengths: &[u16],
     surfaces: &[u8],
@@ -149,7 +149,7 @@ fn run_and_write(
     form: Form,
     out: &mut [u8],
 ) -> usize
-    ensures { λ r. let t = lentTables types starts counts «predicate_values» «predicate_counts» surfaces «surface_lengths» in let s = lent registers «register_taint» surfaces «surface_taint» memory «memory_taint» in ⌜ Puts (outcomeText form (case .settings .base) (run (setupOf case (now (kernel .entry)) (t .entry)) (s .entry))) (now (out .entry)) (now (out .exit)) r ⌝ }
+    ensures { λ r. let t = lentTables types starts counts «predicate_bits» «predicate_counts» surfaces «surface_lengths» in let s = lent registers «register_taint» surfaces «surface_taint» memory «memory_taint» in ⌜ Puts (outcomeText form (case .settings .base) (run (setupOf case (now (kernel .entry)) (t .entry)) (s .entry))) (now (out .entry)) (now (out .exit)) r ⌝ }
 {
     let answer = run_case(
         case,
@@ -157,7 +157,7 @@ fn run_and_write(
         types,
         starts,
         counts,
-        predicate_values,
+        predicate_bits,
         predicate_counts,
         surface_lengths,
         surfaces,
@@ -212,14 +212,14 @@ fn answer_good(
     types: &[u8],
     starts: &[u16],
     counts: &[u16],
-    predicate_values: &[u32],
+    predicate_bits: &[u32],
     predicate_counts: &[u8],
     surface_bytes: &[u8],
     surface_lengths: &[u16],
     form: Form,
     out: &mut [u8],
 ) -> usize
-    ensures { λ r. let t = lentTables types starts counts «predicate_values» «predicate_counts» «surface_bytes» «surface_lengths» in ⌜ Puts (goodOutput form (reading case (contents registers memory (now (kernel .entry)) «register_taint» «surface_taint» «memory_taint») (t .entry))) (now (out .entry)) (now (out .exit)) r ⌝ }
+    ensures { λ r. let t = lentTables types starts counts «predicate_bits» «predicate_counts» «surface_bytes» «surface_lengths» in ⌜ Puts (goodOutput form (reading case (contents registers memory (now (kernel .entry)) «register_taint» «surface_taint» «memory_taint») (t .entry))) (now (out .entry)) (now (out .exit)) r ⌝ }
 {
     let file = content_length(1, case);
     let window = content_length(5, case);
@@ -234,7 +234,7 @@ fn answer_good(
         types,
         starts,
         counts,
-        predicate_values,
+        predicate_bits,
         predicate_counts,
         surface_lengths,
         line_blocks::first_bytes(surface_bytes, frames::length_of(4, case)),
@@ -260,14 +260,14 @@ pub fn answer(
     types: &[u8],
     starts: &[u16],
     counts: &[u16],
-    predicate_values: &[u32],
+    predicate_bits: &[u32],
     predicate_counts: &[u8],
     surface_bytes: &[u8],
     surface_lengths: &[u16],
     form: Form,
     out: &mut [u8],
 ) -> usize
-    ensures { λ r. let t = lentTables types starts counts «predicate_values» «predicate_counts» «surface_bytes» «surface_lengths» in ⌜ Puts (caseOutput form (reading case (contents registers memory (now (kernel .entry)) «register_taint» «surface_taint» «memory_taint») (t .entry))) (now (out .entry)) (now (out .exit)) r ⌝ }
+    ensures { λ r. let t = lentTables types starts counts «predicate_bits» «predicate_counts» «surface_bytes» «surface_lengths» in ⌜ Puts (caseOutput form (reading case (contents registers memory (now (kernel .entry)) «register_taint» «surface_taint» «memory_taint») (t .entry))) (now (out .entry)) (now (out .exit)) r ⌝ }
 {
     let verdict = frames::judge(case);
     if 0 < verdict.number {
@@ -284,7 +284,7 @@ pub fn answer(
         types,
         starts,
         counts,
-        predicate_values,
+        predicate_bits,
         predicate_counts,
         surface_bytes,
         surface_lengths,

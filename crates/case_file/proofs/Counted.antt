@@ -84,7 +84,7 @@ module _ (r : Reading) where
   predicate-made c long =
       rw long
       (cond-both (λ (p : Predicates). M 3 (p .case))
-      (ltb (metOf 3 (r .case)) (length (r .tables .predicates)) && ltb (metOf 3 (r .case)) (length (r .tables .predicateCounts)))
+      (ltb (metOf 3 (r .case)) (length (r .tables .predicateBits)) && ltb (metOf 3 (r .case)) (length (r .tables .predicateCounts)))
       (λ _. again 3 _ (r .case) refl) (λ _. uncounted 3 (r .case) refl))
 
   surface-made : (c : List ℕ) → M 4 (frameRead 4 (4 ∷ c) r .case)

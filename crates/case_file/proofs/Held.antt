@@ -33,7 +33,7 @@ pub record Sizes (z : Contents) (t : Tables) : Type 0 where
   pub types : length (t .types) ≡ 256
   pub starts : length (t .starts) ≡ 256
   pub counts : length (t .counts) ≡ 256
-  pub predicates : length (t .predicates) ≡ 64
+  pub predicateBits : length (t .predicateBits) ≡ 64
   pub predicateCounts : length (t .predicateCounts) ≡ 64
   pub surfaces : length (t .surfaces) ≡ 8192
   pub lengths : length (t .lengths) ≡ 8
@@ -157,8 +157,8 @@ module _ (z : Contents) (t : Tables) (s : Sizes z t) (g : Kinds) (n : ℕ) (few 
       (λ x. (variable-full z t g n c five (omega (arith, x, few .variables-few, s .types)), broken.variables (one-over (g 2) c 256 (omega (arith, x)))))
   read-held f (good.predicate c long) q =
       held-by _ _ (length (g 3) + 1) 64
-      (λ x. (predicate-read z t g n c long (omega (arith, x, s .predicates)) (omega (arith, x, s .predicateCounts)), few-predicates g c few (omega (arith, x))))
-      (λ x. (predicate-full z t g n c long (omega (arith, x, few .predicates-few, s .predicates)), broken.predicates (one-over (g 3) c 64 (omega (arith, x)))))
+      (λ x. (predicate-read z t g n c long (omega (arith, x, s .predicateBits)) (omega (arith, x, s .predicateCounts)), few-predicates g c few (omega (arith, x))))
+      (λ x. (predicate-full z t g n c long (omega (arith, x, few .predicates-few, s .predicateBits)), broken.predicates (one-over (g 3) c 64 (omega (arith, x)))))
   read-held f (good.surface c) q = told (leb (length c) 1024) refl
     where
       told : (b : Bool) → leb (length c) 1024 ≡ b → Held z t (added 4 c g) (frameRead 4 (4 ∷ c) (readingAt z t g n))

@@ -11,3 +11,4 @@ pub mod Bad
 pub mod Lines
 pub mod Whole
 pub mod Same
+pub mod OldFrames

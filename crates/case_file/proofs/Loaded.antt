@@ -39,7 +39,7 @@ module _ (z : Contents) (t : Tables) where
       (padded (t .types) (map typeOf (g 2)))
       (padded (t .starts) (map startOf (g 2)))
       (padded (t .counts) (map countOf (g 2)))
-      (padded (t .predicates) (map dwordOf (g 3)))
+      (padded (t .predicateBits) (map dwordOf (g 3)))
       (padded (t .predicateCounts) (map predicateCountOf (g 3)))
       (padded (t .surfaces) (flatten (g 4)))
       (padded (t .lengths) (map length (g 4)))

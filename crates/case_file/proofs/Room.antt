@@ -109,17 +109,17 @@ module _ (z : Contents) (t : Tables) (g : Kinds) (n : ℕ) (c : List ℕ) where
       let r : ltb (length (g 2)) (length l) ≡ false = le-ltb (length (g 2)) (length l) (omega (arith, h, length-table typeOf (t .types) (g 2) (omega (arith, h)))) in
       rw (five, r) refl
 
-  pub predicate-read : fourOrFive c ≡ true → length (g 3) < length (t .predicates) → length (g 3) < length (t .predicateCounts) →
+  pub predicate-read : fourOrFive c ≡ true → length (g 3) < length (t .predicateBits) → length (g 3) < length (t .predicateCounts) →
       frameRead 3 (3 ∷ c) (readingAt z t g n) ≡ readingAt z t (added 3 c g) (next n)
   unfolding frameRead predicateRead predicateSized metOf counted goodLine
   predicate-read long r₁ r₂ =
-      rw (long, length-table dwordOf (t .predicates) (g 3) (omega (arith, r₁)), length-table predicateCountOf (t .predicateCounts) (g 3) (omega (arith, r₂)), lt-ltb _ _ r₁, lt-ltb _ _ r₂, one-more (g 3) c, ← set-table dwordOf (t .predicates) (g 3) c r₁, ← set-table predicateCountOf (t .predicateCounts) (g 3) c r₂, dword-behind 3 c, elements-behind 3 c) refl
+      rw (long, length-table dwordOf (t .predicateBits) (g 3) (omega (arith, r₁)), length-table predicateCountOf (t .predicateCounts) (g 3) (omega (arith, r₂)), lt-ltb _ _ r₁, lt-ltb _ _ r₂, one-more (g 3) c, ← set-table dwordOf (t .predicateBits) (g 3) c r₁, ← set-table predicateCountOf (t .predicateCounts) (g 3) c r₂, dword-behind 3 c, elements-behind 3 c) refl
 
-  pub predicate-full : fourOrFive c ≡ true → length (g 3) ≡ length (t .predicates) → frameRead 3 (3 ∷ c) (readingAt z t g n) .case .full ≡ true
+  pub predicate-full : fourOrFive c ≡ true → length (g 3) ≡ length (t .predicateBits) → frameRead 3 (3 ∷ c) (readingAt z t g n) .case .full ≡ true
   unfolding frameRead predicateRead predicateSized metOf counted goodLine
   predicate-full long h =
-      let l = padded (t .predicates) (map dwordOf (g 3)) in
-      let r : ltb (length (g 3)) (length l) ≡ false = le-ltb (length (g 3)) (length l) (omega (arith, h, length-table dwordOf (t .predicates) (g 3) (omega (arith, h)))) in
+      let l = padded (t .predicateBits) (map dwordOf (g 3)) in
+      let r : ltb (length (g 3)) (length l) ≡ false = le-ltb (length (g 3)) (length l) (omega (arith, h, length-table dwordOf (t .predicateBits) (g 3) (omega (arith, h)))) in
       rw (long, r) refl
 
   pub surface-read : length c ≤ 1024 → length (g 4) < length (t .lengths) → length (flatten (g 4)) + length c ≤ length (t .surfaces) →

@@ -69,7 +69,7 @@ module _ (z : Contents) (t : Tables) (frames : List (List ℕ)) (n : ℕ) where
   setup-same : loader.setupOf (caseAt g n) (contentsAt z t g .kernel) (tablesAt z t g) ≡ caseSetup frames
   unfolding loader.setupOf caseSetup metOf lengthOf
   setup-same =
-      rw (take-padded (z .kernel) (firstOf (g 7)), take-table typeOf (t .types) (g 2), take-table startOf (t .starts) (g 2), take-table countOf (t .counts) (g 2), take-table dwordOf (t .predicates) (g 3), take-table predicateCountOf (t .predicateCounts) (g 3), take-table {A = List ℕ} length (t .lengths) (g 4)) refl
+      rw (take-padded (z .kernel) (firstOf (g 7)), take-table typeOf (t .types) (g 2), take-table startOf (t .starts) (g 2), take-table countOf (t .counts) (g 2), take-table dwordOf (t .predicateBits) (g 3), take-table predicateCountOf (t .predicateCounts) (g 3), take-table {A = List ℕ} length (t .lengths) (g 4)) refl
 
   state-same : Few g → loader.stateOf (caseAt g n) (contentsAt z t g) (tablesAt z t g .surfaces) ≡ caseState frames
   unfolding loader.stateOf caseState metOf lengthOf taintOf taintLength
@@ -119,7 +119,7 @@ module _ (f : Form) (z : Contents) (t : Tables) (s : Sizes z t) where
   at-start =
       record {
         judges = record { places = refl; met = λ k _ _. none-met k; bad = refl; lines = refl };
-        held = inl (record { lines = 0; same = sym (rw (padded-none (z .registers), padded-none (z .memory), padded-none (z .kernel), padded-none (z .registerTaint), padded-none (z .surfaceTaint), padded-none (z .memoryTaint), padded-none (t .types), padded-none (t .starts), padded-none (t .counts), padded-none (t .predicates), padded-none (t .predicateCounts), padded-none (t .surfaces), padded-none (t .lengths)) refl); few = record { registers-small = omega arith; memory-small = omega arith; variables-few = omega arith; predicates-few = omega arith; surfaces-few = omega arith; bytes-small = omega arith } });
+        held = inl (record { lines = 0; same = sym (rw (padded-none (z .registers), padded-none (z .memory), padded-none (z .kernel), padded-none (z .registerTaint), padded-none (z .surfaceTaint), padded-none (z .memoryTaint), padded-none (t .types), padded-none (t .starts), padded-none (t .counts), padded-none (t .predicateBits), padded-none (t .predicateCounts), padded-none (t .surfaces), padded-none (t .lengths)) refl); few = record { registers-small = omega arith; memory-small = omega arith; variables-few = omega arith; predicates-few = omega arith; surfaces-few = omega arith; bytes-small = omega arith } });
       }
 
   lines-output : (lines : List (List ℕ)) → caseOutput f (linesRead 16386 lines start) ≡ judgedText f (firstBad [] lines) (map hexBytes lines)
@@ -148,7 +148,7 @@ sizes =
       types = length-replicate {A = ℕ} 256 0;
       starts = length-replicate {A = ℕ} 256 0;
       counts = length-replicate {A = ℕ} 256 0;
-      predicates = length-replicate {A = ℕ} 64 0;
+      predicateBits = length-replicate {A = ℕ} 64 0;
       predicateCounts = length-replicate {A = ℕ} 64 0;
       surfaces = length-replicate {A = ℕ} 8192 0;
       lengths = length-replicate {A = ℕ} 8 0;

@@ -5,12 +5,7 @@ use mathlib.Core.Bool.{Bool, true, false, not, _&&_, _||_, Bool·beq}
 use Rattle.channels.specs.Bits.{bit}
 use Rattle.channels.specs.Below.{someBelow, everyBelow}
 use Rattle.channels.specs.Lanes.{anyBit, allBits}
-
--- tests that agree everywhere agree below a number
-some-same : (n : ℕ) (p q : ℕ → Bool) → ((k : ℕ) → p k ≡ q k) → someBelow n p ≡ someBelow n q
-unfolding someBelow
-some-same zero p q e = refl
-some-same (suc n) p q e = rw (some-same n p q e, e n)
+use Rattle.channels.proofs.BelowAlike.{some-alike}
 
 not-or : (a b : Bool) → not (a || not b) ≡ (not a && b)
 not-or true b = refl
@@ -33,9 +28,9 @@ is-false false = refl
 
 pub some-true : (size offset bits : ℕ) → someBelow size (λ k. Bool·beq (bit bits (k + offset)) true) ≡ anyBit size offset bits
 unfolding anyBit
-some-true size offset bits = some-same size _ _ (λ k. is-true (bit bits (k + offset)))
+some-true size offset bits = some-alike _ _ size (λ k _. is-true (bit bits (k + offset)))
 
 pub none-false : (size offset bits : ℕ) → not (someBelow size (λ k. Bool·beq (bit bits (k + offset)) false)) ≡ allBits size offset bits
 unfolding allBits
 none-false size offset bits =
-    ap not (some-same size _ _ (λ k. is-false (bit bits (k + offset)))) ∙ none-fails size (λ k. bit bits (k + offset))
+    ap not (some-alike _ _ size (λ k _. is-false (bit bits (k + offset)))) ∙ none-fails size (λ k. bit bits (k + offset))

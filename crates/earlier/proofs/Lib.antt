@@ -3,3 +3,4 @@ pub mod Given
 pub mod NoSix
 pub mod OneRegionRun
 pub mod Uncounted
+pub mod UncountedRun

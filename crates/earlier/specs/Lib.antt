@@ -2,3 +2,4 @@ pub mod OneRegionRule
 pub mod OneRegionRun
 pub mod Given
 pub mod Uncounted
+pub mod PastCount

@@ -1,6 +1,6 @@
 -- The number of the first failing test before data, with document 01's one rule of regions, 6, in the place of 20 to 25. Document 01, "The numbers
 -- given back": "A run then tests 8; predicate 5; surface 5; each operand in order 5, 4 (type), 6, 7; 9". The tests of exec byte and pred word are
--- those of now.
+-- those of now, 17 among them.
 use Prim.Native.Nat.{ℕ, zero, suc}
 use mathlib.Core.Bool.{cond, not}
 use mathlib.Core.List.{List, [], _∷_, map}

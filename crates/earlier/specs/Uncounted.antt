@@ -1,11 +1,10 @@
 -- The run before predicates had counts (document 02, request 3): no definition here asks for one. Of a predicate its bits were known, and its only
 -- test was 5. Document 01, "The numbers given back": "A run then tests 8; predicate 5; surface 5; ..".
 use Prim.Native.Nat.{ℕ}
-use mathlib.Core.Path.{_≡_}
 use mathlib.Core.Bool.{Bool, cond, _&&_}
 use mathlib.Core.List.{List}
 use lib.Dec.{ltb, leb}
-use lib.ListN.{length, getD, replicate}
+use lib.ListN.{length, getD}
 use Rattle.details.specs.declared.Detail.the-variants as detail
 use Rattle.cells.specs.Effect.{refused}
 use Rattle.reader.specs.Reply.{onReply}
@@ -16,7 +15,6 @@ use Rattle.decoder.specs.Decoding.{instructionAt}
 use Rattle.tables.specs.declared.Lengths.{Lengths}
 use Rattle.tables.specs.Lengths.{lengthsGood}
 use Rattle.tables.specs.Variables.{variablesGood}
-use Rattle.tables.specs.Predicates.{Predicates}
 use Rattle.tables.specs.Surfaces.{surfacesGood}
 use Rattle.tables.specs.Tables.{Tables}
 use Rattle.plan.specs.declared.Plan.{Plan}
@@ -61,15 +59,3 @@ runUncounted x s =
     cond (tablesUncounted (lengthsOf x s) (x .tables))
     (runFrom (stepUncounted x) (length (x .kernel)) (length (x .kernel)) 0 0 s)
     (stopped 13 0 0 s)
-
--- "an old four-byte frame means 32": every count is 32
-abbrev pub AllThirtyTwo : Predicates → Type 0
-AllThirtyTwo p = p .counts ≡ replicate (length (p .bits)) 32
-
--- 17: 8 does not stand, a predicate is named and in its table, and "offset plus ExecSize over the count"
-unfoldable pub pastCount : Predicates → Control → Bool
-pastCount p control =
-    leb (lanesEnd (control .exec)) 32
-    && hasPredicate (control .pred)
-    && ltb (predicateId (control .pred)) (length (p .bits))
-    && ltb (getD (p .counts) (predicateId (control .pred)) 0) (lanesEnd (control .exec))

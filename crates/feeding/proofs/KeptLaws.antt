@@ -14,7 +14,7 @@ pub record Kept (r s : Reading) : Type 0 where
   pub types : length (s .tables .types) ≡ length (r .tables .types)
   pub starts : length (s .tables .starts) ≡ length (r .tables .starts)
   pub counts : length (s .tables .counts) ≡ length (r .tables .counts)
-  pub predicates : length (s .tables .predicates) ≡ length (r .tables .predicates)
+  pub predicateBits : length (s .tables .predicateBits) ≡ length (r .tables .predicateBits)
   pub predicateCounts : length (s .tables .predicateCounts) ≡ length (r .tables .predicateCounts)
   pub surfaces : length (s .tables .surfaces) ≡ length (r .tables .surfaces)
   pub lengths : length (s .tables .lengths) ≡ length (r .tables .lengths)
@@ -31,7 +31,7 @@ Told r s =
     × ((length (s .tables .types) ≡ length (r .tables .types))
     × ((length (s .tables .starts) ≡ length (r .tables .starts))
     × ((length (s .tables .counts) ≡ length (r .tables .counts))
-    × ((length (s .tables .predicates) ≡ length (r .tables .predicates))
+    × ((length (s .tables .predicateBits) ≡ length (r .tables .predicateBits))
     × ((length (s .tables .predicateCounts) ≡ length (r .tables .predicateCounts))
     × ((length (s .tables .surfaces) ≡ length (r .tables .surfaces))
     × ((length (s .tables .lengths) ≡ length (r .tables .lengths))
@@ -40,7 +40,7 @@ Told r s =
 -- with no call on the way
 pub kept-none : (r : Reading) (case : Case) → Kept r (only case r)
 kept-none r case =
-    record { registers = refl; memory = refl; kernel = refl; registerTaint = refl; surfaceTaint = refl; memoryTaint = refl; types = refl; starts = refl; counts = refl; predicates = refl; predicateCounts = refl; surfaces = refl; lengths = refl }
+    record { registers = refl; memory = refl; kernel = refl; registerTaint = refl; surfaceTaint = refl; memoryTaint = refl; types = refl; starts = refl; counts = refl; predicateBits = refl; predicateCounts = refl; surfaces = refl; lengths = refl }
 
 pub kept-more : (q r s : Reading) → Kept q r → Told r s → Kept q s
 kept-more q r s k t =
@@ -54,7 +54,7 @@ kept-more q r s k t =
       types = t .1 .1 .1 .1 .1 .1 .0 ∙ k .types;
       starts = t .1 .1 .1 .1 .1 .1 .1 .0 ∙ k .starts;
       counts = t .1 .1 .1 .1 .1 .1 .1 .1 .0 ∙ k .counts;
-      predicates = t .1 .1 .1 .1 .1 .1 .1 .1 .1 .0 ∙ k .predicates;
+      predicateBits = t .1 .1 .1 .1 .1 .1 .1 .1 .1 .0 ∙ k .predicateBits;
       predicateCounts = t .1 .1 .1 .1 .1 .1 .1 .1 .1 .1 .0 ∙ k .predicateCounts;
       surfaces = t .1 .1 .1 .1 .1 .1 .1 .1 .1 .1 .1 .0 ∙ k .surfaces;
       lengths = t .1 .1 .1 .1 .1 .1 .1 .1 .1 .1 .1 .1 .0 ∙ k .lengths;

@@ -77,13 +77,13 @@ pub fn feed(
     types: &mut [u8],
     starts: &mut [u16],
     counts: &mut [u16],
-    predicate_values: &mut [u32],
+    predicate_bits: &mut [u32],
     predicate_counts: &mut [u8],
     surface_bytes: &mut [u8],
     surface_lengths: &mut [u16],
     state: State,
 ) -> State
-    ensures { λ r. let b = lentContents registers memory kernel «register_taint» «surface_taint» «memory_taint» in let t = lentTables types starts counts «predicate_values» «predicate_counts» «surface_bytes» «surface_lengths» in ⌜ machine (now (line .exit)) r (b .exit) (t .exit) ≡ fed (now (block .entry)) (machine (now (line .entry)) state (b .entry) (t .entry)) ⌝ }
+    ensures { λ r. let b = lentContents registers memory kernel «register_taint» «surface_taint» «memory_taint» in let t = lentTables types starts counts «predicate_bits» «predicate_counts» «surface_bytes» «surface_lengths» in ⌜ machine (now (line .exit)) r (b .exit) (t .exit) ≡ fed (now (block .entry)) (machine (now (line .entry)) state (b .entry) (t .entry)) ⌝ }
 {
     let mut used = state.used;
     let mut long = state.long;
@@ -109,7 +109,7 @@ pub fn feed(
             types,
             starts,
             counts,
-            predicate_values,
+            predicate_bits,
             predicate_counts,
             surface_bytes,
             surface_lengths,
@@ -142,13 +142,13 @@ pub fn finish(
     types: &mut [u8],
     starts: &mut [u16],
     counts: &mut [u16],
-    predicate_values: &mut [u32],
+    predicate_bits: &mut [u32],
     predicate_counts: &mut [u8],
     surface_bytes: &mut [u8],
     surface_lengths: &mut [u16],
     state: State,
 ) -> State
-    ensures { λ r. let b = lentContents registers memory kernel «register_taint» «surface_taint» «memory_taint» in let t = lentTables types starts counts «predicate_values» «predicate_counts» «surface_bytes» «surface_lengths» in ⌜ machine (now (line .entry)) r (b .exit) (t .exit) ≡ finished (machine (now (line .entry)) state (b .entry) (t .entry)) ⌝ }
+    ensures { λ r. let b = lentContents registers memory kernel «register_taint» «surface_taint» «memory_taint» in let t = lentTables types starts counts «predicate_bits» «predicate_counts» «surface_bytes» «surface_lengths» in ⌜ machine (now (line .entry)) r (b .exit) (t .exit) ≡ finished (machine (now (line .entry)) state (b .entry) (t .entry)) ⌝ }
 {
     if !is_begun(state) {
         return state;
@@ -164,7 +164,7 @@ pub fn finish(
         types,
         starts,
         counts,
-        predicate_values,
+        predicate_bits,
         predicate_counts,
         surface_bytes,
         surface_lengths,

@@ -23,17 +23,17 @@ module _ (line : List ℕ) (case c : Case) (o : Contents) (t : Tables) (hex : Bo
   module _ (good : not hex ≡ false) (kind : ℕ) (f : kind ≡ getD (hexBytes line) 0 0) where
     pub variable-frame : (types starts counts : List ℕ) → kind ≡ 2 →
         variables c types starts counts ≡ variableRead (hexBytes line) (variables case (t .types) (t .starts) (t .counts)) →
-        reading c o (tables types starts counts (t .predicates) (t .predicateCounts) (t .surfaces) (t .lengths)) ≡ lineRead line (reading case o t)
+        reading c o (tables types starts counts (t .predicateBits) (t .predicateCounts) (t .surfaces) (t .lengths)) ≡ lineRead line (reading case o t)
     unfolding lineRead frameRead
     variable-frame types starts counts k e = rw (le-ltb 0 (case .bad) none, ← h, not-false hex good, ← f, k, ← e)
 
-    pub predicate-frame : (values counts : List ℕ) → kind ≡ 3 → predicates c values counts ≡ predicateRead (hexBytes line) (predicates case (t .predicates) (t .predicateCounts)) →
-        reading c o (tables (t .types) (t .starts) (t .counts) values counts (t .surfaces) (t .lengths)) ≡ lineRead line (reading case o t)
+    pub predicate-frame : (bits counts : List ℕ) → kind ≡ 3 → predicates c bits counts ≡ predicateRead (hexBytes line) (predicates case (t .predicateBits) (t .predicateCounts)) →
+        reading c o (tables (t .types) (t .starts) (t .counts) bits counts (t .surfaces) (t .lengths)) ≡ lineRead line (reading case o t)
     unfolding lineRead frameRead
-    predicate-frame values counts k e = rw (le-ltb 0 (case .bad) none, ← h, not-false hex good, ← f, k, ← e)
+    predicate-frame bits counts k e = rw (le-ltb 0 (case .bad) none, ← h, not-false hex good, ← f, k, ← e)
 
     pub surface-frame : (buffer lengths : List ℕ) → kind ≡ 4 → surfaces c buffer lengths ≡ surfaceRead (hexBytes line) (surfaces case (t .surfaces) (t .lengths)) →
-        reading c o (tables (t .types) (t .starts) (t .counts) (t .predicates) (t .predicateCounts) buffer lengths) ≡ lineRead line (reading case o t)
+        reading c o (tables (t .types) (t .starts) (t .counts) (t .predicateBits) (t .predicateCounts) buffer lengths) ≡ lineRead line (reading case o t)
     unfolding lineRead frameRead
     surface-frame buffer lengths k e = rw (le-ltb 0 (case .bad) none, ← h, not-false hex good, ← f, k, ← e)
 

@@ -187,14 +187,14 @@ fn predicate_count(line: &[u8]) -> u8
     }
 }
 
-fn put_predicate(line: &[u8], values: &mut [u32], counts: &mut [u8], case: Case) -> Case
-    ensures { λ r. ⌜ predicates r (now (values .exit)) (now (counts .exit)) ≡ predicateRead (hexBytes (now (line .entry))) (predicates case (now (values .entry)) (now (counts .entry))) ⌝ }
+fn put_predicate(line: &[u8], bits: &mut [u32], counts: &mut [u8], case: Case) -> Case
+    ensures { λ r. ⌜ predicates r (now (bits .exit)) (now (counts .exit)) ≡ predicateRead (hexBytes (now (line .entry))) (predicates case (now (bits .entry)) (now (counts .entry))) ⌝ }
 {
     if predicate_sized(line) {
         let p = met_of(3, case);
-        if p < values.len() {
+        if p < bits.len() {
             if p < counts.len() {
-                values[p] = hex::dword(line, 1);
+                bits[p] = hex::dword(line, 1);
                 counts[p] = predicate_count(line);
                 count(3, p + 1, good_line(true, case))
             } else {
@@ -314,13 +314,13 @@ pub fn take_line(
     types: &mut [u8],
     starts: &mut [u16],
     counts: &mut [u16],
-    predicate_values: &mut [u32],
+    predicate_bits: &mut [u32],
     predicate_counts: &mut [u8],
     surface_bytes: &mut [u8],
     surface_lengths: &mut [u16],
     case: Case,
 ) -> Case
-    ensures { λ r. let b = lentContents registers memory kernel «register_taint» «surface_taint» «memory_taint» in let t = lentTables types starts counts «predicate_values» «predicate_counts» «surface_bytes» «surface_lengths» in ⌜ reading r (b .exit) (t .exit) ≡ lineRead (now (line .entry)) (reading case (b .entry) (t .entry)) ⌝ }
+    ensures { λ r. let b = lentContents registers memory kernel «register_taint» «surface_taint» «memory_taint» in let t = lentTables types starts counts «predicate_bits» «predicate_counts» «surface_bytes» «surface_lengths» in ⌜ reading r (b .exit) (t .exit) ≡ lineRead (now (line .entry)) (reading case (b .entry) (t .entry)) ⌝ }
 {
     if 0 < case.bad {
         return case;
@@ -333,7 +333,7 @@ pub fn take_line(
         return put_variable(line, types, starts, counts, case);
     }
     if kind == 3 {
-        return put_predicate(line, predicate_values, predicate_counts, case);
+        return put_predicate(line, predicate_bits, predicate_counts, case);
     }
     if kind == 4 {
         return put_surface(line, surface_bytes, surface_lengths, case);

@@ -69,12 +69,12 @@ pub fn read_all(
     types: &mut [u8],
     starts: &mut [u16],
     counts: &mut [u16],
-    predicate_values: &mut [u32],
+    predicate_bits: &mut [u32],
     predicate_counts: &mut [u8],
     surface_bytes: &mut [u8],
     surface_lengths: &mut [u16],
 ) -> Input
-    ensures { λ r. let b = lentContents registers memory kernel «register_taint» «surface_taint» «memory_taint» in let t = lentTables types starts counts «predicate_values» «predicate_counts» «surface_bytes» «surface_lengths» in ⌜ Reads (r .ended) (machine (now (line .entry)) fresh (b .entry) (t .entry)) (machine (now (line .exit)) (r .state) (b .exit) (t .exit)) ⌝ }
+    ensures { λ r. let b = lentContents registers memory kernel «register_taint» «surface_taint» «memory_taint» in let t = lentTables types starts counts «predicate_bits» «predicate_counts» «surface_bytes» «surface_lengths» in ⌜ Reads (r .ended) (machine (now (line .entry)) fresh (b .entry) (t .entry)) (machine (now (line .exit)) (r .state) (b .exit) (t .exit)) ⌝ }
 {
     let mut block = [0u8; 65536];
     let mut state = feeding::start();
@@ -101,7 +101,7 @@ pub fn read_all(
             types,
             starts,
             counts,
-            predicate_values,
+            predicate_bits,
             predicate_counts,
             surface_bytes,
             surface_lengths,

@@ -51,7 +51,7 @@ horizontal-small region = omega arith
 
 -- ---- the rules of a role, by their tests
 
-at-most : (a b : ℕ) → leb a b ≡ not (ltb b a)
+pub at-most : (a b : ℕ) → leb a b ≡ not (ltb b a)
 at-most a b = told (ltb b a) refl
   where
     told : (q : Bool) → ltb b a ≡ q → leb a b ≡ not q

@@ -1,7 +1,7 @@
 -- The number of the first test that an instruction fails, 0 where it fails none. Document 01, "The numbers given back": "Each number is given
 -- exactly then, and the earliest in this order stands. .. Decoding needs no tables and goes by field .. A run then tests 8; predicate 5;
--- surface 5; each operand in order 5, 4 (type), 6, 7; 9; 10 over all lanes; 11 over all; 12 over all." In the place of 6 stand 20 to 25 (document 02,
--- request 2).
+-- surface 5; each operand in order 5, 4 (type), 6, 7; 9; 10 over all lanes; 11 over all; 12 over all." In the place of 6 stand 20 to 25, and 17
+-- "directly after the predicate's 5" (document 02, requests 2 and 3).
 use Prim.Native.Nat.{ℕ, zero, suc}
 use mathlib.Core.Bool.{Bool, cond}
 use lib.ListN.{length}

@@ -2,6 +2,7 @@
 use mathlib.Core.Path.{_≡_, refl, ap}
 use mathlib.Core.Bool.{Bool, true, false, _&&_}
 use Prim.Native.Nat.{ℕ, zero, suc, _+_, _<_}
+use native.Mathlib.Omega.{arith}
 use native.Mathlib.Numerals.{add-one}
 use native.Mathlib.Nat.{not-suc-le-zero}
 use borrow.Author.Count.{below-more}
@@ -33,6 +34,11 @@ module _ (good : ℕ → Bool) where
   every-each (suc n) e k h =
       below-more (λ (j : ℕ). good j ≡ true) n (every-each n (left (everyBelow n good) (good n) e)) (right (everyBelow n good) (good n) e) k
       (rw (add-one n) h)
+
+  pub every-holds : (n : ℕ) → ((k : ℕ) → k < n → good k ≡ true) → everyBelow n good ≡ true
+  unfolding everyBelow
+  every-holds zero h = refl
+  every-holds (suc n) h = rw (every-holds n (λ k l. h k (omega (arith, l))), h n (omega arith))
 
   pub every-fails : (n k : ℕ) → k < n → good k ≡ false → everyBelow n good ≡ false
   unfolding everyBelow

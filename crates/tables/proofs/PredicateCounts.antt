@@ -1,14 +1,14 @@
--- A good table of predicates: as many counts as bits, each from 1 to 32.
+-- A table of predicates is good exactly where it has at most 64 of them and as many counts as bits, each from 1 to 32.
 use mathlib.Core.Path.{_≡_}
 use mathlib.Core.Bool.{true}
 use Prim.Native.Nat.{ℕ, _≤_, _<_}
 use lib.Dec.{leb, eqb}
 use lib.ListN.{length, getD}
-use borrow.Author.Tests.{leb-true, eqb-true}
+use borrow.Author.Tests.{leb-true, eqb-true, le-leb, eq-eqb}
 use Rattle.channels.specs.Below.{everyBelow}
 use Rattle.tables.specs.Predicates.{Predicates, countGood, countGoodAt, predicatesGood}
 use Rattle.tables.proofs.All.{All3, left, right, all3}
-use Rattle.tables.proofs.Every.{every-each}
+use Rattle.tables.proofs.Every.{every-each, every-holds}
 
 pub good-count : (count : ℕ) → countGood count ≡ true → (1 ≤ count) × (count ≤ 32)
 unfolding countGood
@@ -28,3 +28,13 @@ module _ (t : Predicates) (good : predicatesGood t ≡ true) where
   pub count-within : (k : ℕ) → k < length (t .bits) → (1 ≤ getD (t .counts) k 0) × (getD (t .counts) k 0 ≤ 32)
   unfolding countGoodAt
   count-within k h = good-count (getD (t .counts) k 0) (every-each (countGoodAt (t .counts)) (length (t .counts)) (tests .third) k (rw counts-length h))
+
+count-good : (count : ℕ) → (1 ≤ count) × (count ≤ 32) → countGood count ≡ true
+unfolding countGood
+count-good count h = rw (le-leb 1 count (h .0), le-leb count 32 (h .1))
+
+pub predicates-good : (t : Predicates) → length (t .bits) ≤ 64 → length (t .counts) ≡ length (t .bits)
+    → ((k : ℕ) → k < length (t .bits) → (1 ≤ getD (t .counts) k 0) × (getD (t .counts) k 0 ≤ 32)) → predicatesGood t ≡ true
+unfolding predicatesGood countGoodAt
+predicates-good t few same within =
+    rw (le-leb _ 64 few, eq-eqb _ _ same, every-holds (countGoodAt (t .counts)) (length (t .counts)) (λ k h. count-good (getD (t .counts) k 0) (within k (rw same at h))))

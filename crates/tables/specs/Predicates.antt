@@ -16,7 +16,7 @@ pub record Predicates : Type 0 where
 abbrev pub predicates : List ℕ → List ℕ → Predicates
 predicates bits counts = record { bits = bits; counts = counts }
 
--- the record of a predicate; one that is not in the table has neither bits nor elements
+-- the record of a predicate; past the ends of the table's lists bits and count are 0
 unfoldable pub predicateAt : Predicates → ℕ → PredicateRecord
 predicateAt t k = record { present = ltb k (length (t .bits)); bits = getD (t .bits) k 0; count = getD (t .counts) k 0 }
 

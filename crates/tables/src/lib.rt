@@ -1,4 +1,4 @@
-// What the caller's tables and lengths must satisfy before a run begins (refusal 13), and where a surface lies.
+// What the caller's tables and lengths must satisfy before a run begins (refusal 13), a predicate looked up, and where a surface lies.
 ghost use mathlib.Core.Path.{_≡_};
 ghost use Prim.Native.Nat.{_+_, _<_, _≤_};
 ghost use lib.ListN.{length, getD};
@@ -139,7 +139,7 @@ fn variables_good(registers: usize, types: &[u8], starts: &[u16], counts: &[u16]
     every_variable_good(registers, types, starts, counts)
 }
 
-// A predicate of the table: its bits, and how many of them are its elements. One that is not in the table has neither.
+// Whether a predicate is in the table, its bits, and how many of them are its elements.
 pub struct PredicateRecord {
     pub present: bool,
     pub bits: u32,

@@ -1,4 +1,3 @@
-pub mod ReadBits
 pub mod UnreadBits
 pub mod Theorem
 pub mod Plain

@@ -1,5 +1,5 @@
 -- Demand 3, one claim about whole runs: for every kernel, tables, base and mask, two runs whose marks are equal and whose unmarked bytes
--- agree give the same answer, whatever it is, and end with equal marks and equal unmarked bytes; their predicates may differ at or past the counts.
+-- agree give the same answer, whatever it is, and end with equal marks and equal unmarked bytes; their predicates may differ in bits at or past their counts.
 use mathlib.Core.Path.{_≡_, refl, sym, ap, subst, _∙_}
 use mathlib.Core.Bool.{Bool, true, false, cond}
 use lib.ListN.{length, getD}
@@ -69,8 +69,8 @@ module _ (x : Setup) where
       rw (run-is x s, run-is x u, ← lengths-same x {s = s} {u = u} a) (judged-same s u a (tablesGood (lengthsOf x s) (x .tables)) refl)
 
 pub two-runs : (x y : Setup) (s u : State) → TwoRuns x y s u
-two-runs x y s u same a = subst (λ (r : Outcome). SameRun (run x s) r) (unread-bits x y same u) (one-setup x s u a)
+two-runs x y s u same a = subst (λ (r : Outcome). SameRun (run x s) r) (unread-bits x y u same) (one-setup x s u a)
 
--- equal tables, as a case of it
+-- every setup is so to itself: equal tables are a case of the claim
 pub same-setup : (x : Setup) → SameSetup x x
 same-setup x = record { kernel = refl; variables = refl; predicates = record { size = refl; counts = refl; elements = λ id k h. refl }; surfaces = refl; constants = refl }

@@ -1,5 +1,5 @@
 -- "no bit at or past the count matters": two setups that differ in such bits alone have the same run, its answer, bytes and marks.
-use Prim.Native.Nat.{ℕ, zero, suc, _<_}
+use Prim.Native.Nat.{ℕ, suc, _<_}
 use mathlib.Core.Path.{_≡_, refl, ap, _∙_}
 use mathlib.Core.Bool.{Bool, true, false, cond, not}
 use mathlib.Core.List.{List, [], _∷_}
@@ -10,7 +10,7 @@ use borrow.Author.Tests.{ltb-false}
 use Rattle.details.specs.declared.Detail.{Detail}
 use Rattle.details.specs.declared.Detail.the-variants as detail
 use Rattle.details.specs.Details.{operandDetail}
-use Rattle.cells.specs.Over.{amongFrom, among}
+use Rattle.cells.specs.Over.{among}
 use Rattle.cells.specs.Effect.{Effect, unless}
 use Rattle.reader.specs.Reply as reply
 use Rattle.reader.specs.Reply.{Reply, Read}
@@ -18,6 +18,7 @@ use Rattle.channels.specs.Bits.{bit}
 use Rattle.channels.specs.Exec.{execSize}
 use Rattle.channels.specs.Predicate.{hasPredicate, predicateId}
 use Rattle.channels.specs.Lanes.{laneOn}
+use Rattle.channels.proofs.ReadBits.{lane-alike}
 use Rattle.tables.specs.Predicates.{Predicates, predicateAt, predicatesGood}
 use Rattle.tables.specs.Surfaces.{Surfaces}
 use Rattle.tables.specs.Tables.{Tables, tables, tablesGood}
@@ -36,20 +37,15 @@ use Rattle.staging.specs.Lanes.{lanesOn}
 use Rattle.shl.specs.Shl.{shlValue, shlMark, shlLane, shlEffect}
 use Rattle.gather.specs.Gather.{isRead, gatheredByte, gatheredMark, gatherWrites, gatherLane, gatherEffect}
 use Rattle.scatter.specs.Scatter.{channelsOn, target, sourceByte, scatterPair, firstOffending, scatterEffect}
+use Rattle.scatter.proofs.AmongAlike.{among-alike}
 use Rattle.step.specs.declared.Constants.{Constants}
 use Rattle.step.specs.State.{Setup, State, lengthsOf}
 use Rattle.step.specs.Step.{Stepped, acted, planEffect, stepAt}
 use Rattle.step.proofs.StepOf.{stepOf}
 use Rattle.run.specs.Run.{stopped, runFrom, run}
-use Rattle.two_runs.specs.TwoRuns.{SamePredicates, SameSetup}
-use Rattle.two_runs.proofs.ReadBits.{lane-alike}
+use Rattle.two_runs.specs.TwoRuns.{SamePredicates, UnreadBits}
 
 -- ---- an instruction, by the bits of its predicate
-
-among-alike : (p q : ℕ → Bool) → ((k : ℕ) → p k ≡ q k) → (n k : ℕ) → amongFrom p k n ≡ amongFrom q k n
-unfolding amongFrom
-among-alike p q h zero k = refl
-among-alike p q h (suc n) k = rw (h k, among-alike p q h n (suc k))
 
 -- bits that put the same lanes on, whatever the mask
 abbrev SameLanes : Control → ℕ → ℕ → Type 0
@@ -57,8 +53,7 @@ SameLanes control a b = (mask n : ℕ) → laneOn (control .exec) (control .pred
 
 lanes-alike : (control : Control) (a b : ℕ) → SameLanes control a b → (mask : ℕ)
     → among (laneOn (control .exec) (control .pred) mask a) (execSize (control .exec)) ≡ among (laneOn (control .exec) (control .pred) mask b) (execSize (control .exec))
-unfolding among
-lanes-alike control a b h mask = among-alike _ _ (h mask) (execSize (control .exec)) 0
+lanes-alike control a b h mask = among-alike _ _ (execSize (control .exec)) (λ n _. h mask n)
 
 module _ (c : Constants) (s : State) where
   -- two plans that have one effect
@@ -169,8 +164,8 @@ module _ (x : Setup) (other : Predicates) (same : SamePredicates (x .tables .pre
       rw (← good-alike s)
       (ap (λ (f : ℕ → State → Stepped). cond (tablesGood (lengthsOf x s) (x .tables)) (runFrom f (length (x .kernel)) (length (x .kernel)) 0 0 s) (stopped 13 0 0 s)) (λ j at u. step-alike at u j))
 
-pub unread-bits : (x y : Setup) → SameSetup x y → (s : State) → run x s ≡ run y s
-unread-bits x y same s =
+pub unread-bits : (x y : Setup) (s : State) → UnreadBits x y s
+unread-bits x y s same =
     let p = y .tables .predicates in
     others-alike x p (same .predicates) s
     ∙ ap (λ (z : Setup). run z s) (λ j. record { kernel = same .kernel j; tables = record { variables = same .variables j; predicates = p; surfaces = same .surfaces j }; constants = same .constants j })

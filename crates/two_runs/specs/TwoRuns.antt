@@ -40,6 +40,10 @@ pub record SameSetup (x y : Setup) : Type 0 where
   pub surfaces : x .tables .surfaces ≡ y .tables .surfaces
   pub constants : x .constants ≡ y .constants
 
+-- "no bit at or past the count matters": equal answers, bytes and marks
+abbrev pub UnreadBits : Setup → Setup → State → Type 0
+UnreadBits x y s = SameSetup x y → run x s ≡ run y s
+
 -- the claim
 abbrev pub TwoRuns : Setup → Setup → State → State → Type 0
 TwoRuns x y s u = SameSetup x y → Agrees s u → SameRun (run x s) (run y u)

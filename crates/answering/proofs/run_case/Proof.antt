@@ -15,8 +15,8 @@ returns c =
     let lengths : tie.After-first-words3 = search ran in
     let surfaces : tie.After-met-of3 = search lengths in
     let elements : tie.After-first-bytes3 = search surfaces in
-    let values : tie.After-first-dwords = search elements in
-    let counts : tie.After-first-words2 = search values in
+    let bits : tie.After-first-dwords = search elements in
+    let counts : tie.After-first-words2 = search bits in
     let starts : tie.After-first-words = search counts in
     let types : tie.After-first-bytes2 = search starts in
     let kernel : tie.After-first-bytes = search types in
@@ -26,9 +26,9 @@ returns c =
     let known = entry variables in
     let a = known .before .args in
     run-cut (a .case) (a .kernel .now) _ _ _ _
-    (setup-cut (a .case) (a .kernel .now) (a .types .now) (a .starts .now) (a .counts .now) (a .predicate-values .now) (a .predicate-counts .now) (a .surfaces .now) (a .surface-lengths .now) _ _ _ _ _ _ _ _ _ _ _
+    (setup-cut (a .case) (a .kernel .now) (a .types .now) (a .starts .now) (a .counts .now) (a .predicate-bits .now) (a .predicate-counts .now) (a .surfaces .now) (a .surface-lengths .now) _ _ _ _ _ _ _ _ _ _ _
     (size .length-of .ensures) (variables .met-of .ensures) (predicates .met-of2 .ensures) (surfaces .met-of3 .ensures)
-    (kernel .first-bytes .ensures) (types .first-bytes2 .ensures) (starts .first-words .ensures) (counts .first-words2 .ensures) (values .first-dwords .ensures) (elements .first-bytes3 .ensures) (lengths .first-words3 .ensures))
+    (kernel .first-bytes .ensures) (types .first-bytes2 .ensures) (starts .first-words .ensures) (counts .first-words2 .ensures) (bits .first-dwords .ensures) (elements .first-bytes3 .ensures) (lengths .first-words3 .ensures))
     (λ k. omega (arith, known .shared-slice-known .given k))
     (ran .run .ensures)
 

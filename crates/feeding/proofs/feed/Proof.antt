@@ -9,13 +9,13 @@ use Rattle.feeding.proofs.feed.Statement.{statement}
 use Rattle.feeding.proofs.feed.Tie as tie
 
 abbrev Inv-loop : tie.InvT-loop
-Inv-loop block line₀ registers₀ memory₀ kernel₀ register-taint₀ surface-taint₀ memory-taint₀ types₀ starts₀ counts₀ predicate-values₀ predicate-counts₀ surface-bytes₀ surface-lengths₀ used₀ long₀ case₀ i₀ line registers memory kernel register-taint surface-taint memory-taint types starts counts predicate-values predicate-counts surface-bytes surface-lengths used long case i =
+Inv-loop block line₀ registers₀ memory₀ kernel₀ register-taint₀ surface-taint₀ memory-taint₀ types₀ starts₀ counts₀ predicate-bits₀ predicate-counts₀ surface-bytes₀ surface-lengths₀ used₀ long₀ case₀ i₀ line registers memory kernel register-taint surface-taint memory-taint types starts counts predicate-bits predicate-counts surface-bytes surface-lengths used long case i =
     Fed block i
-    (machine line₀ (state used₀ long₀ case₀) (contents registers₀ memory₀ kernel₀ register-taint₀ surface-taint₀ memory-taint₀) (tables types₀ starts₀ counts₀ predicate-values₀ predicate-counts₀ surface-bytes₀ surface-lengths₀))
-    (machine line (state used long case) (contents registers memory kernel register-taint surface-taint memory-taint) (tables types starts counts predicate-values predicate-counts surface-bytes surface-lengths))
+    (machine line₀ (state used₀ long₀ case₀) (contents registers₀ memory₀ kernel₀ register-taint₀ surface-taint₀ memory-taint₀) (tables types₀ starts₀ counts₀ predicate-bits₀ predicate-counts₀ surface-bytes₀ surface-lengths₀))
+    (machine line (state used long case) (contents registers memory kernel register-taint surface-taint memory-taint) (tables types starts counts predicate-bits predicate-counts surface-bytes surface-lengths))
 
 abbrev μ-loop : tie.MeasureT-loop
-μ-loop block line₀ registers₀ memory₀ kernel₀ register-taint₀ surface-taint₀ memory-taint₀ types₀ starts₀ counts₀ predicate-values₀ predicate-counts₀ surface-bytes₀ surface-lengths₀ used₀ long₀ case₀ i₀ line registers memory kernel register-taint surface-taint memory-taint types starts counts predicate-values predicate-counts surface-bytes surface-lengths used long case i = length block - i
+μ-loop block line₀ registers₀ memory₀ kernel₀ register-taint₀ surface-taint₀ memory-taint₀ types₀ starts₀ counts₀ predicate-bits₀ predicate-counts₀ surface-bytes₀ surface-lengths₀ used₀ long₀ case₀ i₀ line registers memory kernel register-taint surface-taint memory-taint types starts counts predicate-bits predicate-counts surface-bytes surface-lengths used long case i = length block - i
 
 loop-holds : tie.Need-loop-holds Inv-loop μ-loop
 loop-holds c = none-fed _ _ _ (c .read-on .ensures)
@@ -102,7 +102,7 @@ feed-spec =
     (λ c. c .before .loop .inv .kept .types)
     (λ c. c .before .loop .inv .kept .starts)
     (λ c. c .before .loop .inv .kept .counts)
-    (λ c. c .before .loop .inv .kept .predicates)
+    (λ c. c .before .loop .inv .kept .predicateBits)
     (λ c. c .before .loop .inv .kept .predicateCounts)
     (λ c. c .before .loop .inv .kept .surfaces)
     (λ c. c .before .loop .inv .kept .lengths)

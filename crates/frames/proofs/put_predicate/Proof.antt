@@ -12,21 +12,21 @@ returns c =
     let count : tie.After-predicate-count = search good in
     let value : tie.After-dword = search count in
     let counts : tie.Then3 = search value in
-    let values : tie.Then2 = search counts in
-    let p : tie.After-met-of = search values in
+    let bits : tie.Then2 = search counts in
+    let p : tie.After-met-of = search bits in
     let sized : tie.Then1 = search p in
     let asked : tie.After-predicate-sized = search sized in
-    rw (← asked .predicate-sized .ensures, sized .if1 .taken, ← p .met-of .ensures, lt-ltb _ _ (values .if2 .taken), lt-ltb _ _ (counts .if3 .taken), ← value .dword .ensures, ← count .predicate-count .ensures, ← good .good-line .ensures, ← c .count .ensures)
+    rw (← asked .predicate-sized .ensures, sized .if1 .taken, ← p .met-of .ensures, lt-ltb _ _ (bits .if2 .taken), lt-ltb _ _ (counts .if3 .taken), ← value .dword .ensures, ← count .predicate-count .ensures, ← good .good-line .ensures, ← c .count .ensures)
 
 returns-2 : tie.Need-returns-2
 unfolding predicateRead
 returns-2 c =
     let full : tie.Else3 = search c in
-    let values : tie.Then2 = search full in
-    let p : tie.After-met-of = search values in
+    let bits : tie.Then2 = search full in
+    let p : tie.After-met-of = search bits in
     let sized : tie.Then1 = search p in
     let asked : tie.After-predicate-sized = search sized in
-    rw (← asked .predicate-sized .ensures, sized .if1 .taken, ← p .met-of .ensures, lt-ltb _ _ (values .if2 .taken), le-ltb _ _ (full .if3 .left), ← c .good-line2 .ensures)
+    rw (← asked .predicate-sized .ensures, sized .if1 .taken, ← p .met-of .ensures, lt-ltb _ _ (bits .if2 .taken), le-ltb _ _ (full .if3 .left), ← c .good-line2 .ensures)
 
 returns-3 : tie.Need-returns-3
 unfolding predicateRead

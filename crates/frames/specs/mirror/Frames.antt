@@ -13,13 +13,13 @@ use Rattle.frames.specs.mirror.Once.{Once, once, onceRead}
 
 -- the reading with what a frame made of its part
 abbrev pub withVariables : Reading → Variables → Reading
-withVariables r v = reading (v .case) (r .contents) (tables (v .types) (v .starts) (v .counts) (r .tables .predicates) (r .tables .predicateCounts) (r .tables .surfaces) (r .tables .lengths))
+withVariables r v = reading (v .case) (r .contents) (tables (v .types) (v .starts) (v .counts) (r .tables .predicateBits) (r .tables .predicateCounts) (r .tables .surfaces) (r .tables .lengths))
 
 abbrev pub withPredicates : Reading → Predicates → Reading
-withPredicates r p = reading (p .case) (r .contents) (tables (r .tables .types) (r .tables .starts) (r .tables .counts) (p .values) (p .counts) (r .tables .surfaces) (r .tables .lengths))
+withPredicates r p = reading (p .case) (r .contents) (tables (r .tables .types) (r .tables .starts) (r .tables .counts) (p .bits) (p .counts) (r .tables .surfaces) (r .tables .lengths))
 
 abbrev pub withSurfaces : Reading → Surfaces → Reading
-withSurfaces r s = reading (s .case) (r .contents) (tables (r .tables .types) (r .tables .starts) (r .tables .counts) (r .tables .predicates) (r .tables .predicateCounts) (s .bytes) (s .lengths))
+withSurfaces r s = reading (s .case) (r .contents) (tables (r .tables .types) (r .tables .starts) (r .tables .counts) (r .tables .predicateBits) (r .tables .predicateCounts) (s .bytes) (s .lengths))
 
 abbrev pub withOnce : Reading → Once → Reading
 withOnce r o = reading (o .case) (o .contents) (r .tables)
@@ -28,7 +28,7 @@ withOnce r o = reading (o .case) (o .contents) (r .tables)
 unfoldable pub frameRead : ℕ → List ℕ → Reading → Reading
 frameRead kind bytes r =
     cond (eqb kind 2) (withVariables r (variableRead bytes (variables (r .case) (r .tables .types) (r .tables .starts) (r .tables .counts))))
-    (cond (eqb kind 3) (withPredicates r (predicateRead bytes (predicates (r .case) (r .tables .predicates) (r .tables .predicateCounts))))
+    (cond (eqb kind 3) (withPredicates r (predicateRead bytes (predicates (r .case) (r .tables .predicateBits) (r .tables .predicateCounts))))
     (cond (eqb kind 4) (withSurfaces r (surfaceRead bytes (surfaces (r .case) (r .tables .surfaces) (r .tables .lengths))))
     (withOnce r (onceRead kind bytes (once (r .case) (r .contents))))))
 

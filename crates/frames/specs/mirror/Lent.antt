@@ -17,8 +17,8 @@ lentContents registers memory kernel registerTaint surfaceTaint memoryTaint =
     }
 
 abbrev pub lentTables : Slice → Slice → Slice → Slice → Slice → Slice → Slice → Both Tables Tables
-lentTables types starts counts predicates predicateCounts surfaces lengths =
+lentTables types starts counts predicateBits predicateCounts surfaces lengths =
     record {
-      entry = tables (now (types .entry)) (now (starts .entry)) (now (counts .entry)) (now (predicates .entry)) (now (predicateCounts .entry)) (now (surfaces .entry)) (now (lengths .entry));
-      exit = tables (now (types .exit)) (now (starts .exit)) (now (counts .exit)) (now (predicates .exit)) (now (predicateCounts .exit)) (now (surfaces .exit)) (now (lengths .exit));
+      entry = tables (now (types .entry)) (now (starts .entry)) (now (counts .entry)) (now (predicateBits .entry)) (now (predicateCounts .entry)) (now (surfaces .entry)) (now (lengths .entry));
+      exit = tables (now (types .exit)) (now (starts .exit)) (now (counts .exit)) (now (predicateBits .exit)) (now (predicateCounts .exit)) (now (surfaces .exit)) (now (lengths .exit));
     }

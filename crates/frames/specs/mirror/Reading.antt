@@ -18,7 +18,7 @@ pub record Tables : Type 0 where
   pub types : List ℕ
   pub starts : List ℕ
   pub counts : List ℕ
-  pub predicates : List ℕ
+  pub predicateBits : List ℕ
   pub predicateCounts : List ℕ
   pub surfaces : List ℕ
   pub lengths : List ℕ
@@ -33,8 +33,8 @@ contents registers memory kernel registerTaint surfaceTaint memoryTaint =
     record { registers = registers; memory = memory; kernel = kernel; registerTaint = registerTaint; surfaceTaint = surfaceTaint; memoryTaint = memoryTaint }
 
 abbrev pub tables : List ℕ → List ℕ → List ℕ → List ℕ → List ℕ → List ℕ → List ℕ → Tables
-tables types starts counts predicates predicateCounts surfaces lengths =
-    record { types = types; starts = starts; counts = counts; predicates = predicates; predicateCounts = predicateCounts; surfaces = surfaces; lengths = lengths }
+tables types starts counts predicateBits predicateCounts surfaces lengths =
+    record { types = types; starts = starts; counts = counts; predicateBits = predicateBits; predicateCounts = predicateCounts; surfaces = surfaces; lengths = lengths }
 
 abbrev pub reading : Case → Contents → Tables → Reading
 reading case contents tables = record { case = case; contents = contents; tables = tables }

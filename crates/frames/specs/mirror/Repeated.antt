@@ -34,11 +34,11 @@ variableRead bytes v =
 
 pub record Predicates : Type 0 where
   pub case : Case
-  pub values : List ℕ
+  pub bits : List ℕ
   pub counts : List ℕ
 
 abbrev pub predicates : Case → List ℕ → List ℕ → Predicates
-predicates case values counts = record { case = case; values = values; counts = counts }
+predicates case bits counts = record { case = case; bits = bits; counts = counts }
 
 -- four bytes, or five: "a further count byte"
 unfoldable pub predicateSized : List ℕ → Bool
@@ -52,12 +52,12 @@ predicateCount bytes = cond (eqb (length (drop 1 bytes)) 5) (getD bytes 5 0) 32
 unfoldable pub predicateRead : List ℕ → Predicates → Predicates
 predicateRead bytes p =
     cond (predicateSized bytes)
-    (cond (ltb (metOf 3 (p .case)) (length (p .values)) && ltb (metOf 3 (p .case)) (length (p .counts)))
+    (cond (ltb (metOf 3 (p .case)) (length (p .bits)) && ltb (metOf 3 (p .case)) (length (p .counts)))
     (predicates (counted 3 (metOf 3 (p .case) + 1) (goodLine true (p .case)))
-    (set (p .values) (metOf 3 (p .case)) (numberAt 4 bytes 1))
+    (set (p .bits) (metOf 3 (p .case)) (numberAt 4 bytes 1))
     (set (p .counts) (metOf 3 (p .case)) (predicateCount bytes)))
-    (predicates (goodLine false (p .case)) (p .values) (p .counts)))
-    (predicates (badLine (p .case)) (p .values) (p .counts))
+    (predicates (goodLine false (p .case)) (p .bits) (p .counts)))
+    (predicates (badLine (p .case)) (p .bits) (p .counts))
 
 pub record Surfaces : Type 0 where
   pub case : Case

@@ -12,14 +12,14 @@ use Rattle.input.proofs.read_all.Statement.{statement}
 use Rattle.input.proofs.read_all.Tie as tie
 
 abbrev Inv-loop : tie.InvT-loop
-Inv-loop line₀ registers₀ memory₀ kernel₀ register-taint₀ surface-taint₀ memory-taint₀ types₀ starts₀ counts₀ predicate-values₀ predicate-counts₀ surface-bytes₀ surface-lengths₀ block₀ state₀ turns₀ line registers memory kernel register-taint surface-taint memory-taint types starts counts predicate-values predicate-counts surface-bytes surface-lengths block state turns =
+Inv-loop line₀ registers₀ memory₀ kernel₀ register-taint₀ surface-taint₀ memory-taint₀ types₀ starts₀ counts₀ predicate-bits₀ predicate-counts₀ surface-bytes₀ surface-lengths₀ block₀ state₀ turns₀ line registers memory kernel register-taint surface-taint memory-taint types starts counts predicate-bits predicate-counts surface-bytes surface-lengths block state turns =
     SoFar
-    (machine line₀ fresh (contents registers₀ memory₀ kernel₀ register-taint₀ surface-taint₀ memory-taint₀) (tables types₀ starts₀ counts₀ predicate-values₀ predicate-counts₀ surface-bytes₀ surface-lengths₀))
-    (machine line state (contents registers memory kernel register-taint surface-taint memory-taint) (tables types starts counts predicate-values predicate-counts surface-bytes surface-lengths))
+    (machine line₀ fresh (contents registers₀ memory₀ kernel₀ register-taint₀ surface-taint₀ memory-taint₀) (tables types₀ starts₀ counts₀ predicate-bits₀ predicate-counts₀ surface-bytes₀ surface-lengths₀))
+    (machine line state (contents registers memory kernel register-taint surface-taint memory-taint) (tables types starts counts predicate-bits predicate-counts surface-bytes surface-lengths))
     × (length block ≡ 65536)
 
 abbrev μ-loop : tie.MeasureT-loop
-μ-loop line₀ registers₀ memory₀ kernel₀ register-taint₀ surface-taint₀ memory-taint₀ types₀ starts₀ counts₀ predicate-values₀ predicate-counts₀ surface-bytes₀ surface-lengths₀ block₀ state₀ turns₀ line registers memory kernel register-taint surface-taint memory-taint types starts counts predicate-values predicate-counts surface-bytes surface-lengths block state turns =
+μ-loop line₀ registers₀ memory₀ kernel₀ register-taint₀ surface-taint₀ memory-taint₀ types₀ starts₀ counts₀ predicate-bits₀ predicate-counts₀ surface-bytes₀ surface-lengths₀ block₀ state₀ turns₀ line registers memory kernel register-taint surface-taint memory-taint types starts counts predicate-bits predicate-counts surface-bytes surface-lengths block state turns =
     turns
 
 -- the turn's start, from its call
@@ -85,7 +85,7 @@ read-all-spec =
     (λ c. stops c .loop .inv .0 .kept .types)
     (λ c. stops c .loop .inv .0 .kept .starts)
     (λ c. stops c .loop .inv .0 .kept .counts)
-    (λ c. stops c .loop .inv .0 .kept .predicates)
+    (λ c. stops c .loop .inv .0 .kept .predicateBits)
     (λ c. stops c .loop .inv .0 .kept .predicateCounts)
     (λ c. stops c .loop .inv .0 .kept .surfaces)
     (λ c. stops c .loop .inv .0 .kept .lengths)
@@ -100,7 +100,7 @@ read-all-spec =
     (λ c. c .before .loop .inv .0 .kept .types)
     (λ c. c .before .loop .inv .0 .kept .starts)
     (λ c. c .before .loop .inv .0 .kept .counts)
-    (λ c. c .before .loop .inv .0 .kept .predicates)
+    (λ c. c .before .loop .inv .0 .kept .predicateBits)
     (λ c. c .before .loop .inv .0 .kept .predicateCounts)
     (λ c. c .before .loop .inv .0 .kept .surfaces)
     (λ c. c .before .loop .inv .0 .kept .lengths)

@@ -1,26 +1,14 @@
 -- Which bits of a predicate decide about lanes: those below offset + ExecSize, and no others.
-use Prim.Native.Nat.{ℕ, zero, suc, _+_, _<_}
+use Prim.Native.Nat.{ℕ, _+_, _<_}
 use mathlib.Core.Path.{_≡_, refl}
 use mathlib.Core.Bool.{Bool, true, false, _&&_}
 use native.Mathlib.Omega.{arith}
 use lib.Dec.{ltb}
 use borrow.Author.Tests.{ltb-true}
 use Rattle.channels.specs.Bits.{bit}
-use Rattle.channels.specs.Below.{someBelow, everyBelow}
 use Rattle.channels.specs.Exec.{execSize, execOffset}
 use Rattle.channels.specs.Lanes.{anyBit, allBits, combined, predicateAgrees, maskAllows, laneOn}
-
--- tests that agree below a number
-module _ (p q : ℕ → Bool) where
-  some-alike : (n : ℕ) → ((k : ℕ) → k < n → p k ≡ q k) → someBelow n p ≡ someBelow n q
-  unfolding someBelow
-  some-alike zero h = refl
-  some-alike (suc n) h = rw (some-alike n (λ k l. h k (omega (arith, l))), h n (omega arith))
-
-  every-alike : (n : ℕ) → ((k : ℕ) → k < n → p k ≡ q k) → everyBelow n p ≡ everyBelow n q
-  unfolding everyBelow
-  every-alike zero h = refl
-  every-alike (suc n) h = rw (every-alike n (λ k l. h k (omega (arith, l))), h n (omega arith))
+use Rattle.channels.proofs.BelowAlike.{some-alike, every-alike}
 
 module _ (exec a b : ℕ) (alike : (k : ℕ) → k < execOffset exec + execSize exec → bit a k ≡ bit b k) where
   lane-bit : (n : ℕ) → n < execSize exec → bit a (n + execOffset exec) ≡ bit b (n + execOffset exec)
