@@ -5,14 +5,18 @@ use mathlib.Core.Path.{_≡_, refl, ap, subst, _∙_}
 use mathlib.Core.Logic.{_≢_}
 use mathlib.Core.Bool.{Bool, true, false, cond, false≢true, _&&_}
 use native.Mathlib.Omega.{arith}
-use lib.Dec.{ltb, leb}
+use lib.Dec.{ltb, leb, eqb}
 use lib.ListN.{length, getD, replicate, length-replicate, getD-replicate}
 use borrow.Author.Tests.{ltb-true, leb-true, le-ltb, eq-eqb}
 use Rattle.details.specs.declared.Detail.the-variants as detail
 use Rattle.cells.specs.Effect.{refused, unless}
 use Rattle.reader.specs.Reply as reply
 use Rattle.reader.specs.Reply.{Reply, Read, onReply}
+use Rattle.channels.specs.Below.{everyBelow}
 use Rattle.channels.specs.Predicate.{hasPredicate, predicateId}
+use Rattle.tables.specs.Lengths.{lengthsGood}
+use Rattle.tables.specs.Variables.{variablesGood}
+use Rattle.tables.specs.Surfaces.{surfacesGood}
 use Rattle.tables.specs.Predicates.{Predicates, countGood, countGoodAt, predicatesGood}
 use Rattle.tables.specs.Tables.{tablesGood}
 use Rattle.tables.proofs.Every.{every-holds}
@@ -73,7 +77,10 @@ module _ (x : Setup) where
   -- tables that are good were so without counts
   tables-still : (s : State) → tablesGood (lengthsOf x s) (x .tables) ≡ true → tablesUncounted (lengthsOf x s) (x .tables) ≡ true
   unfolding tablesGood tablesUncounted predicatesGood
-  tables-still s = still _ _ _ _ _ _
+  tables-still s =
+      let l = lengthsOf x s in
+      let p = x .tables .predicates in
+      still (lengthsGood l) (variablesGood (l .registers) (x .tables .variables)) (leb (length (p .bits)) 64) (eqb (length (p .counts)) (length (p .bits))) (everyBelow (length (p .counts)) (countGoodAt (p .counts))) (surfacesGood (l .surfaces) (x .tables .surfaces))
     where
       still : (a b f g h d : Bool) → (a && b && (f && g && h) && d) ≡ true → (a && b && f && d) ≡ true
       still true true true true true d e = e
