@@ -31,7 +31,8 @@ use Rattle.operands.specs.Variables.{inTable, variableAt}
 use Rattle.operands.specs.Elements.{immediateElement, refusedOperand}
 use Rattle.operands.specs.Operands.{immediateOf, locatedImmediate, locatedVector, rawGood}
 use Rattle.plan.specs.declared.Plan.{Plan}
-use Rattle.plan.specs.Control.{controlOf, lanesEnd, predicateFor, predicateRefusal, controlRefusal, bitsNamed}
+use Rattle.controls.specs.Control.{lanesEnd, predicateFor, predicateRefusal, controlRefusal, bitsNamed}
+use Rattle.plan.specs.Control.{controlOf}
 use Rattle.plan.specs.Plans.{refusedPlan, tested, testedFrom, shlPlan, gatherPlan, scatterPlan}
 use Rattle.plan.specs.Checked.{shlDst, shlSrc0, shlSrc1, checkedShl, gatherOffset, gatherElementOffset, gatherDst, checkedGatherOperands, surfacePart, checkedGather, scatterAddress, scatterElementOffset, scatterSrc, checkedScatter, sendDesc, sendSrc, sendDst, checkedSend, checkedOperands, checked}
 use Rattle.plan.specs.Places.{Asked, vector, raw, located, operandsOf}
@@ -143,5 +144,5 @@ control-given p c = told (ltb 32 (lanesEnd (c .exec))) (hasPredicate (c .pred)) 
 pub checked-given : (t : Tables) (i : Instruction) → isGiven (checked t i .number) ≡ true
 unfolding checked
 checked-given t i =
-    let p = predicateFor (t .predicates) i in
+    let p = predicateFor (t .predicates) (controlOf i) in
     tested-given (λ (n : ℕ). isGiven n ≡ true) _ _ _ (control-given p (controlOf i)) (still-given _ (instruction-given t (bitsNamed p (controlOf i .pred)) i))

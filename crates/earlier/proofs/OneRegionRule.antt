@@ -31,7 +31,8 @@ use Rattle.operands.specs.Allowed.{typeAllowed}
 use Rattle.operands.specs.Variables.{inTable, variableAt}
 use Rattle.operands.specs.Operands.{locatedVector, locatedRaw}
 use Rattle.plan.specs.declared.Plan.{Plan}
-use Rattle.plan.specs.Control.{controlOf, predicateFor, controlRefusal, bitsNamed}
+use Rattle.controls.specs.Control.{predicateFor, controlRefusal, bitsNamed}
+use Rattle.plan.specs.Control.{controlOf}
 use Rattle.plan.specs.Plans.{refusedPlan, tested, testedFrom, shlPlan, gatherPlan, scatterPlan}
 use Rattle.plan.specs.Checked.{shlDst, shlSrc0, shlSrc1, checkedShl, gatherOffset, gatherElementOffset, gatherDst, checkedGatherOperands, surfacePart, checkedGather, scatterAddress, scatterElementOffset, scatterSrc, checkedScatter, sendDesc, sendSrc, sendDst, checkedSend, checkedOperands, checked}
 use Rattle.plan.specs.Places.{Asked, vector, raw, located, operandsOf}
@@ -129,6 +130,6 @@ module _ (t : Tables) (bits : ℕ) where
 pub checked-before : (t : Tables) (i : Instruction) → asBefore (checked t i .number) ≡ numberBefore t i
 unfolding checked numberBefore
 checked-before t i =
-    let p = predicateFor (t .predicates) i in
+    let p = predicateFor (t .predicates) (controlOf i) in
     tested-before (controlRefusal p (controlOf i)) _ _ (surfaceNumber t i ∷ operandNumbers (t .variables) i) (lastNumber i) (instruction-before t (bitsNamed p (controlOf i .pred)) i)
     ∙ ap (λ (n : ℕ). firstRefusal (n ∷ surfaceNumber t i ∷ operandNumbers (t .variables) i) (lastNumber i)) (stays _ (control-unnamed p (controlOf i)))

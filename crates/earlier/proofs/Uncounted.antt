@@ -16,7 +16,8 @@ use Rattle.field_groups.specs.declared.Control.{Control}
 use Rattle.decoder.specs.declared.Instruction.{Instruction}
 use Rattle.regions.proofs.SplitLaws.{at-most}
 use Rattle.plan.specs.declared.Plan.{Plan}
-use Rattle.plan.specs.Control.{controlOf, lanesEnd, predicateFor, predicateRefusal, controlRefusal, bitsNamed}
+use Rattle.controls.specs.Control.{lanesEnd, predicateFor, predicateRefusal, controlRefusal, bitsNamed}
+use Rattle.plan.specs.Control.{controlOf}
 use Rattle.plan.specs.Plans.{refusedPlan, tested}
 use Rattle.plan.specs.Checked.{checkedOperands, checked}
 use Rattle.plan.proofs.TestLaws.{refusal-number}
@@ -25,7 +26,7 @@ use Rattle.earlier.specs.Uncounted.{controlUncounted, bitsUncounted, che
 use Rattle.earlier.specs.PastCount.{pastCount}
 use Rattle.earlier.proofs.Given.{tested-given, instruction-given}
 
-pub control-counted : (t : Predicates) (i : Instruction) → controlRefusal (predicateFor t i) (controlOf i) ≡ cond (pastCount t (controlOf i)) 17 (controlUncounted (t .bits) (controlOf i))
+pub control-counted : (t : Predicates) (i : Instruction) → controlRefusal (predicateFor t (controlOf i)) (controlOf i) ≡ cond (pastCount t (controlOf i)) 17 (controlUncounted (t .bits) (controlOf i))
 unfolding controlRefusal predicateRefusal predicateAt pastCount controlUncounted
 control-counted t i =
     let id = predicateId (controlOf i .pred) in

@@ -24,7 +24,8 @@ use Rattle.field_groups.specs.declared.Control.{Control}
 use Rattle.decoder.specs.declared.Instruction.{Instruction}
 use Rattle.decoder.specs.Decoding.{instructionAt}
 use Rattle.plan.specs.declared.Plan.{Plan}
-use Rattle.plan.specs.Control.{controlOf, lanesEnd, predicateFor, controlRefusal}
+use Rattle.controls.specs.Control.{lanesEnd, predicateFor, controlRefusal}
+use Rattle.plan.specs.Control.{controlOf}
 use Rattle.plan.specs.Plans.{refusedPlan}
 use Rattle.plan.specs.Checked.{checked}
 use Rattle.step.specs.State.{Setup, State, lengthsOf}
@@ -134,7 +135,7 @@ module _ (p : Predicates) (all : AllThirtyTwo p) where
       told true e true true f = rw (count-of-32 n id (ltb-true id n f), le-ltb 32 end (leb-true end 32 e))
 
   -- the control's number is document 01's
-  pub control-uncounted : (i : Instruction) → controlRefusal (predicateFor p i) (controlOf i) ≡ controlUncounted (p .bits) (controlOf i)
+  pub control-uncounted : (i : Instruction) → controlRefusal (predicateFor p (controlOf i)) (controlOf i) ≡ controlUncounted (p .bits) (controlOf i)
   control-uncounted i = control-counted p i ∙ ap (λ (q : Bool). cond q 17 (controlUncounted (p .bits) (controlOf i))) (never-past (controlOf i))
 
   predicates-good : predicatesGood p ≡ leb (length (p .bits)) 64

@@ -24,7 +24,8 @@ use Rattle.operands.specs.declared.TypeRule.{TypeRule}
 use Rattle.operands.specs.Allowed.{typeAllowed}
 use Rattle.operands.specs.Variables.{inTable, variableAt}
 use Rattle.operands.specs.Operands.{locatedImmediate, locatedRaw}
-use Rattle.plan.specs.Control.{controlOf, predicateFor, controlRefusal}
+use Rattle.controls.specs.Control.{predicateFor, controlRefusal}
+use Rattle.plan.specs.Control.{controlOf}
 use Rattle.plan.specs.Places.{Asked, vector, raw, operandsOf}
 
 -- "4 (type), 6, 7": 6 where document 01's rule of the region's parameters (`regionAllowed`) does not hold
@@ -71,7 +72,7 @@ lastNumber (instruction.Scatter i) = 0
 
 unfoldable pub numberBefore : Tables → Instruction → ℕ
 numberBefore t i =
-    firstRefusal (controlRefusal (predicateFor (t .predicates) i) (controlOf i) ∷ surfaceNumber t i ∷ operandNumbers (t .variables) i) (lastNumber i)
+    firstRefusal (controlRefusal (predicateFor (t .predicates) (controlOf i)) (controlOf i) ∷ surfaceNumber t i ∷ operandNumbers (t .variables) i) (lastNumber i)
 
 -- "6 becomes 20 to 24 .. 25", turned back
 unfoldable pub asBefore : ℕ → ℕ

@@ -6,7 +6,7 @@ use lib.ListN.{length, getD, replicate}
 use Rattle.channels.specs.Predicate.{hasPredicate, predicateId}
 use Rattle.field_groups.specs.declared.Control.{Control}
 use Rattle.tables.specs.Predicates.{Predicates}
-use Rattle.plan.specs.Control.{lanesEnd}
+use Rattle.controls.specs.Control.{lanesEnd}
 
 -- 8 does not stand, a predicate is named and in its table, and "offset plus ExecSize over the count"
 unfoldable pub pastCount : Predicates → Control → Bool

@@ -18,7 +18,8 @@ use Rattle.tables.specs.Variables.{variablesGood}
 use Rattle.tables.specs.Surfaces.{surfacesGood}
 use Rattle.tables.specs.Tables.{Tables}
 use Rattle.plan.specs.declared.Plan.{Plan}
-use Rattle.plan.specs.Control.{controlOf, lanesEnd}
+use Rattle.controls.specs.Control.{lanesEnd}
+use Rattle.plan.specs.Control.{controlOf}
 use Rattle.plan.specs.Plans.{tested}
 use Rattle.plan.specs.Checked.{checkedOperands}
 use Rattle.step.specs.State.{Setup, State, lengthsOf}

@@ -29,11 +29,13 @@ use Rattle.plan.specs.declared.Operation.{Operation}
 use Rattle.plan.specs.declared.Operation.the-variants as operation
 use Rattle.plan.specs.declared.Part.{Part}
 use Rattle.plan.specs.declared.Plan.{Plan}
-use Rattle.plan.specs.Control.{controlOf, predicateFor, controlRefusal}
+use Rattle.controls.specs.Control.{predicateFor, controlRefusal}
+use Rattle.plan.specs.Control.{controlOf}
 use Rattle.plan.specs.Needed.{elementsNeeded, scatterNeeded}
 use Rattle.plan.specs.Plans.{tested, shlPlan, gatherPlan, scatterPlan}
 use Rattle.plan.specs.Checked.{shlDst, shlSrc0, shlSrc1, checkedShl, gatherOffset, gatherElementOffset, gatherDst, checkedGatherOperands, surfacePart, checkedGather, scatterAddress, scatterElementOffset, scatterSrc, checkedScatter, checkedSend, checkedOperands, checked}
-use Rattle.plan.proofs.TestLaws.{refusal-number, accepted-then, lanes-fit}
+use Rattle.controls.proofs.PassedLaws.{lanes-fit}
+use Rattle.plan.proofs.TestLaws.{refusal-number, accepted-then}
 
 -- an operation, its control, and the types of its two sources and of its payload
 pub record Keeps (o : Operation) (c : Control) (sources payloads : TypeRule) (p : Plan) : Type 0 where
@@ -113,6 +115,6 @@ module _ (t : Tables) where
   pub plan-keeps : (i : Instruction) → checked t i .number ≡ 0 → KeepsFor i (checked t i)
   unfolding checked
   plan-keeps i =
-      let p = predicateFor (t .predicates) i in
+      let p = predicateFor (t .predicates) (controlOf i) in
       accepted-then (KeepsFor i) (controlRefusal p (controlOf i)) _ _
       (λ e. operands-keep _ i (omega (arith, lanes-fit p (controlOf i) e)))

@@ -18,7 +18,8 @@ use Rattle.decoder.specs.declared.Instruction.{Instruction}
 use Rattle.decoder.specs.declared.Instruction.the-variants as instruction
 use Rattle.regions.proofs.ReachLaws.{cond-either}
 use Rattle.plan.specs.declared.Plan.{Plan}
-use Rattle.plan.specs.Control.{controlOf, lanesEnd, predicateFor, predicateRefusal, controlRefusal, bitsNamed}
+use Rattle.controls.specs.Control.{lanesEnd, predicateFor, predicateRefusal, controlRefusal, bitsNamed}
+use Rattle.plan.specs.Control.{controlOf}
 use Rattle.plan.specs.Plans.{refusedPlan, tested, testedFrom, shlPlan, gatherPlan, scatterPlan}
 use Rattle.plan.specs.Checked.{checkedShl, checkedGatherOperands, checkedGather, checkedScatter, checkedSend, checkedOperands, checked, shlDst, shlSrc0, shlSrc1, gatherOffset, gatherElementOffset, gatherDst, scatterAddress, scatterElementOffset, scatterSrc, sendDesc, sendSrc, sendDst}
 use Rattle.plan.specs.Places.{Asked, operandsOf, located, here, later, Names, nothing, operand, NamesOf}
@@ -77,7 +78,7 @@ control-unnamed p c =
 pub plan-names : (t : Tables) (i : Instruction) → NamesOf t i (checked t i)
 unfolding checked tested
 plan-names t i =
-    let p = predicateFor (t .predicates) i in
+    let p = predicateFor (t .predicates) (controlOf i) in
     cond-either (NamesOf t i) (ltb 0 (controlRefusal p (controlOf i)))
     (λ _. plain-names (t .variables) (controlOf i .exec) 1 (controlRefusal p (controlOf i)) (operandsOf i) (control-unnamed p (controlOf i)))
     (λ _. checked-names t (bitsNamed p (controlOf i .pred)) i)

@@ -29,11 +29,13 @@ use Rattle.plan.specs.declared.Operation.{Operation}
 use Rattle.plan.specs.declared.Operation.the-variants as operation
 use Rattle.plan.specs.declared.Part.{Part}
 use Rattle.plan.specs.declared.Plan.{Plan}
-use Rattle.plan.specs.Control.{controlOf, predicateFor, controlRefusal, bitsNamed}
+use Rattle.controls.specs.Control.{predicateFor, controlRefusal, bitsNamed}
+use Rattle.plan.specs.Control.{controlOf}
 use Rattle.plan.specs.Needed.{elementsNeeded, scatterNeeded}
 use Rattle.plan.specs.Plans.{shlPlan, gatherPlan, scatterPlan}
 use Rattle.plan.specs.Checked.{shlDst, shlSrc0, shlSrc1, checkedShl, gatherOffset, gatherElementOffset, gatherDst, checkedGatherOperands, surfacePart, checkedGather, scatterAddress, scatterElementOffset, scatterSrc, checkedScatter, sendDesc, sendSrc, sendDst, checkedSend, checkedOperands, checked}
-use Rattle.plan.proofs.TestLaws.{refusal-number, accepted-then, lanes-fit}
+use Rattle.controls.proofs.PassedLaws.{lanes-fit}
+use Rattle.plan.proofs.TestLaws.{refusal-number, accepted-then}
 
 -- the lanes of a plan
 abbrev pub lanesOf : Plan → ℕ
@@ -178,6 +180,6 @@ module _ (l : Lengths) (t : Tables) (good : tablesGood l t ≡ true) where
   pub plan-sound : (i : Instruction) → checked t i .number ≡ 0 → Sound (l .registers) (l .surfaces) (checked t i)
   unfolding checked
   plan-sound i =
-      let p = predicateFor (t .predicates) i in
+      let p = predicateFor (t .predicates) (controlOf i) in
       accepted-then (Sound (l .registers) (l .surfaces)) (controlRefusal p (controlOf i)) _ _
       (λ e. operands-sound (bitsNamed p (controlOf i .pred)) i (lanes-fit p (controlOf i) e))

@@ -10,9 +10,11 @@ use Rattle.tables.specs.Tables.{Tables}
 use Rattle.field_groups.specs.declared.Control.{Control}
 use Rattle.decoder.specs.declared.Instruction.{Instruction}
 use Rattle.plan.specs.declared.Plan.{Plan}
-use Rattle.plan.specs.Control.{controlOf, lanesEnd, predicateFor, controlRefusal}
+use Rattle.controls.specs.Control.{lanesEnd, predicateFor, controlRefusal}
+use Rattle.plan.specs.Control.{controlOf}
 use Rattle.plan.specs.Checked.{checked}
-use Rattle.plan.proofs.TestLaws.{accepted-then, elements-reach}
+use Rattle.controls.proofs.PassedLaws.{elements-reach}
+use Rattle.plan.proofs.TestLaws.{accepted-then}
 
 pub record Reaches (t : Predicates) (control : Control) : Type 0 where
   pub present : predicateId (control .pred) < length (t .bits)
@@ -27,5 +29,5 @@ control-reaches t control z has =
 pub accepted-reaches : (t : Tables) (i : Instruction) → checked t i .number ≡ 0 → hasPredicate (controlOf i .pred) ≡ true → Reaches (t .predicates) (controlOf i)
 unfolding checked
 accepted-reaches t i =
-    accepted-then (λ (p : Plan). hasPredicate (controlOf i .pred) ≡ true → Reaches (t .predicates) (controlOf i)) (controlRefusal (predicateFor (t .predicates) i) (controlOf i)) _ _
+    accepted-then (λ (p : Plan). hasPredicate (controlOf i .pred) ≡ true → Reaches (t .predicates) (controlOf i)) (controlRefusal (predicateFor (t .predicates) (controlOf i)) (controlOf i)) _ _
     (λ z _. control-reaches (t .predicates) (controlOf i) z)

@@ -24,7 +24,8 @@ use Rattle.tables.specs.Variables.{Variables}
 use Rattle.operands.specs.Operands.{locatedVector, locatedRaw}
 use Rattle.plan.specs.declared.Part.{Part}
 use Rattle.plan.specs.declared.Plan.{Plan}
-use Rattle.plan.specs.Control.{controlOf, predicateFor, controlRefusal, bitsNamed}
+use Rattle.controls.specs.Control.{predicateFor, controlRefusal, bitsNamed}
+use Rattle.plan.specs.Control.{controlOf}
 use Rattle.plan.specs.Needed.{elementsNeeded, scatterNeeded, registersNeeded, blockBytes}
 use Rattle.plan.specs.Plans.{refusedPlan, tested, testedFrom, shlPlan, gatherPlan, scatterPlan}
 
@@ -120,5 +121,5 @@ checkedOperands t bits (instruction.RawSend i) = checkedSend (t .variables) i
 -- 8, the predicate's 5 and 17 come first
 unfoldable pub checked : Tables → Instruction → Plan
 checked t i =
-    tested (controlRefusal (predicateFor (t .predicates) i) (controlOf i)) detail.None
-    (checkedOperands t (bitsNamed (predicateFor (t .predicates) i) (controlOf i .pred)) i)
+    tested (controlRefusal (predicateFor (t .predicates) (controlOf i)) (controlOf i)) detail.None
+    (checkedOperands t (bitsNamed (predicateFor (t .predicates) (controlOf i)) (controlOf i .pred)) i)

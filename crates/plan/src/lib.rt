@@ -9,12 +9,11 @@ use field_groups::Control;
 use operands::Elements;
 use operands::TypeRule;
 use regions::Role;
-use tables::PredicateRecord;
 ghost use mathlib.Core.Path.{_≡_};
 ghost use Rattle.details.specs.Details.{operandDetail};
 ghost use Rattle.tables.specs.Tables.{tables};
 ghost use Rattle.tables.specs.Borrowed.{variableTable, predicateTable, surfaceTable};
-ghost use Rattle.plan.specs.Control.{controlOf, lanesEnd, predicateRefusal, controlRefusal, bitsNamed};
+ghost use Rattle.plan.specs.Control.{controlOf};
 ghost use Rattle.plan.specs.Needed.{elementsNeeded, enabledBelow, channelStride, scatterNeeded, registersNeeded, blockBytes};
 ghost use Rattle.plan.specs.Plans.{refusedPlan, shlPlan, gatherPlan, scatterPlan};
 ghost use Rattle.plan.specs.Checked.{checkedShl, checkedGatherOperands, surfacePart, checkedGather, checkedScatter, checkedSend, checked};
@@ -97,51 +96,6 @@ fn control_of(instruction: Instruction) -> Control
         Instruction::Gather(i) => i.control,
         Instruction::Scatter(i) => i.control,
         Instruction::RawSend(i) => i.control,
-    }
-}
-
-// Offset plus ExecSize.
-fn lanes_end(exec: u8) -> u16
-    ensures { λ r. ⌜ r ≡ lanesEnd exec ⌝ }
-{
-    let lanes = channels::split(exec);
-    (lanes.offset as u16) + (lanes.size as u16)
-}
-
-// 5, then 17, of the predicate that a pred word names.
-fn predicate_refusal(predicate: PredicateRecord, exec: u8) -> u8
-    ensures { λ r. ⌜ r ≡ predicateRefusal predicate exec ⌝ }
-{
-    if !predicate.present {
-        return 5;
-    }
-    if (predicate.count as u16) < lanes_end(exec) {
-        17
-    } else {
-        0
-    }
-}
-
-// 8, then those of the predicate, if one is named.
-fn control_refusal(predicate: PredicateRecord, control: Control) -> u8
-    ensures { λ r. ⌜ r ≡ controlRefusal predicate control ⌝ }
-{
-    if 32 < lanes_end(control.exec) {
-        return 8;
-    }
-    if channels::has_predicate(control.pred) {
-        return predicate_refusal(predicate, control.exec);
-    }
-    0
-}
-
-fn bits_named(predicate: PredicateRecord, pred: u16) -> u32
-    ensures { λ r. ⌜ r ≡ bitsNamed predicate pred ⌝ }
-{
-    if channels::has_predicate(pred) {
-        predicate.bits
-    } else {
-        0
     }
 }
 
@@ -512,11 +466,11 @@ pub fn check(
     let control = control_of(instruction);
     let id = channels::predicate_id(control.pred);
     let predicate = tables::predicate_at(predicate_bits, predicate_counts, id);
-    let number = control_refusal(predicate, control);
+    let number = controls::control_refusal(predicate, control);
     if 0 < number {
         return refused(number, Detail::None);
     }
-    let bits = bits_named(predicate, control.pred);
+    let bits = controls::bits_named(predicate, control.pred);
     match instruction {
         Instruction::Shl(i) => check_shl(types, starts, counts, bits, i),
         Instruction::Gather(i) => check_gather(types, starts, counts, surfaces, bits, i),

@@ -29,10 +29,11 @@ use Rattle.decoder.specs.Decoding.{instructionAt}
 use Rattle.operands.specs.declared.Elements.{Elements}
 use Rattle.operands.specs.declared.Located.{Located}
 use Rattle.plan.specs.declared.Plan.{Plan}
-use Rattle.plan.specs.Control.{controlOf, lanesEnd, predicateRefusal, controlRefusal, bitsNamed}
+use Rattle.controls.specs.Control.{lanesEnd, predicateRefusal, controlRefusal, bitsNamed}
+use Rattle.plan.specs.Control.{controlOf}
 use Rattle.plan.specs.Plans.{refusedPlan, tested, testedFrom, shlPlan, gatherPlan, scatterPlan}
 use Rattle.plan.specs.Checked.{shlOperands, checkedShl, gatherOperands, checkedGatherOperands, surfacePart, checkedGather, scatterOperands, checkedScatter, checkedOperands, checked}
-use Rattle.plan.proofs.TestLaws.{elements-reach}
+use Rattle.controls.proofs.PassedLaws.{elements-reach}
 use Rattle.staging.specs.Lanes.{lanesOn}
 use Rattle.shl.specs.Shl.{shlValue, shlMark, shlLane, shlEffect}
 use Rattle.gather.specs.Gather.{isRead, gatheredByte, gatheredMark, gatherWrites, gatherLane, gatherEffect}

@@ -25,7 +25,8 @@ use Rattle.operands.specs.Elements.{registerElements, lowBytes, immediateElemen
 use Rattle.operands.specs.Operands.{generalOf, locatedGeneral, immediateOf, locatedImmediate, locatedVector, rawGood, rawOf, locatedRaw}
 use Rattle.operands.specs.Variables.{inTable, variableAt}
 use Rattle.plan.specs.Checked.{shlDst, shlSrc0, shlSrc1, checkedShl, gatherOffset, gatherElementOffset, gatherDst, checkedGatherOperands, surfacePart, checkedGather, scatterAddress, scatterElementOffset, scatterSrc, checkedScatter, sendDesc, sendSrc, sendDst, checkedSend, checkedOperands, checked}
-use Rattle.plan.specs.Control.{controlOf, predicateRefusal, controlRefusal, bitsNamed}
+use Rattle.controls.specs.Control.{predicateRefusal, controlRefusal, bitsNamed}
+use Rattle.plan.specs.Control.{controlOf}
 use Rattle.plan.specs.Needed.{elementsNeeded, enabledBelow, channelStride, scatterNeeded, registersNeeded, blockBytes}
 use Rattle.plan.specs.Plans.{refusedPlan, tested, shlPlan, gatherPlan, scatterPlan}
 use Rattle.cells.specs.Buffer.{isTainted, markOf, anyTainted}

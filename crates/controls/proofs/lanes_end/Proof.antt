@@ -1,9 +1,9 @@
--- `plan::lanes_end` meets its contract: the sum of the two parts that `split` gives.
+-- `controls::lanes_end` meets its contract: the sum of the two parts that `split` gives.
 use mathlib.Core.Path.{ap}
 use borrow.Author.Needs.{needs}
 use Rattle.channels.specs.declared.Exec.{Exec}
-use Rattle.plan.proofs.lanes_end.Statement.{statement}
-use Rattle.plan.proofs.lanes_end.Tie as tie
+use Rattle.controls.proofs.lanes_end.Statement.{statement}
+use Rattle.controls.proofs.lanes_end.Tie as tie
 
 returns : tie.Need-returns
 returns c =

@@ -1,12 +1,12 @@
--- `plan::control_refusal` meets its contract: at each return, what the calls and tests on the way say picks the case of `Control`.
+-- `controls::control_refusal` meets its contract: at each return, what the calls and tests on the way say picks the case of `Control`.
 use mathlib.Core.Path.{_≡_, sym, _∙_}
 use mathlib.Core.Bool.{true, false}
 use borrow.Author.Needs.{needs}
 use borrow.Author.Tests.{lt-ltb, le-ltb}
 use Rattle.channels.specs.Predicate.{hasPredicate}
-use Rattle.plan.specs.Control.{controlRefusal}
-use Rattle.plan.proofs.control_refusal.Statement.{statement}
-use Rattle.plan.proofs.control_refusal.Tie as tie
+use Rattle.controls.specs.Control.{controlRefusal}
+use Rattle.controls.proofs.control_refusal.Statement.{statement}
+use Rattle.controls.proofs.control_refusal.Tie as tie
 
 returns : tie.Need-returns
 unfolding controlRefusal

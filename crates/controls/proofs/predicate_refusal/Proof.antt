@@ -1,13 +1,13 @@
--- `plan::predicate_refusal` meets its contract: at each return, what the call and the tests on the way say picks the case of `Control`.
+-- `controls::predicate_refusal` meets its contract: at each return, what the call and the tests on the way say picks the case of `Control`.
 use mathlib.Core.Path.{_≡_, subst}
 use mathlib.Core.Bool.{true, false}
 use Prim.Native.Nat.{ℕ}
 use lib.Dec.{ltb}
 use borrow.Author.Needs.{needs}
 use borrow.Author.Tests.{lt-ltb, le-ltb}
-use Rattle.plan.specs.Control.{lanesEnd, predicateRefusal}
-use Rattle.plan.proofs.predicate_refusal.Statement.{statement}
-use Rattle.plan.proofs.predicate_refusal.Tie as tie
+use Rattle.controls.specs.Control.{lanesEnd, predicateRefusal}
+use Rattle.controls.proofs.predicate_refusal.Statement.{statement}
+use Rattle.controls.proofs.predicate_refusal.Tie as tie
 
 returns : tie.Need-returns
 unfolding predicateRefusal
