@@ -5,12 +5,8 @@ use mathlib.Core.List.{List, [], _∷_, map}
 use Prim.Native.Nat.{ℕ}
 use lib.ListN.{length, replicate}
 use Rattle.case_file.specs.Frames.{ofKind}
+use Rattle.case_file.specs.OldFrames.{AllFour}
 use Rattle.case_file.specs.Case.{dwordOf, predicateCountOf, caseSetup}
-
--- contents of four bytes each
-abbrev pub AllFour : List (List ℕ) → Type 0
-AllFour [] = Unit
-AllFour (c ∷ cs) = (length c ≡ 4) × AllFour cs
 
 old-count : (c : List ℕ) → length c ≡ 4 → predicateCountOf c ≡ 32
 unfolding predicateCountOf

@@ -5,3 +5,4 @@ pub mod Output
 pub mod Verdict
 pub mod Forms
 pub mod SameAnswer
+pub mod OldFrames

@@ -1,11 +1,11 @@
 -- Which numbers a run's tests before data give.
 use Prim.Native.Nat.{ℕ, suc, _+_, _*_, _^_, _≤_}
-use mathlib.Core.Path.{_≡_, refl, ap, _∙_}
-use mathlib.Core.Bool.{Bool, true, false, cond, not, _&&_, _||_}
+use mathlib.Core.Path.{_≡_, refl, sym, ap, _∙_}
+use mathlib.Core.Bool.{Bool, true, false, cond, not, true≢false, _&&_, _||_}
 use mathlib.Core.List.{List, [], _∷_, map}
-use lib.Dec.{ltb, leb}
+use lib.Dec.{ltb, leb, eqb}
 use lib.ListN.{length}
-use borrow.Author.Tests.{le-leb}
+use borrow.Author.Tests.{le-leb, eqb-true}
 use Rattle.details.specs.declared.Detail.{Detail}
 use Rattle.details.specs.declared.Detail.the-variants as detail
 use Rattle.details.specs.Details.{namesOperand}
@@ -52,6 +52,14 @@ small-given n h = rw (le-leb n 5 h) (told (namesOperand n))
     told : (q : Bool) → (q || true || (leb 7 n && leb n 13)) ≡ true
     told true = refl
     told false = refl
+
+-- a number that passes a test is none that fails it
+pub passes-not : (test : ℕ → Bool) (k : ℕ) → test k ≡ false → (n : ℕ) → test n ≡ true → eqb n k ≡ false
+passes-not test k fails n passes = asked (eqb n k) refl
+  where
+    asked : (q : Bool) → eqb n k ≡ q → q ≡ false
+    asked false e = refl
+    asked true e = absurd (true≢false (sym passes ∙ (ap test (eqb-true n k e) ∙ fails)))
 
 -- what was given before is given now
 pub still-given : (n : ℕ) → isGivenUncounted n ≡ true → isGiven n ≡ true

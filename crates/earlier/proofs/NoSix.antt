@@ -1,9 +1,8 @@
 -- 6 is given no more: an instruction's tests before data give one of 20 to 25 exactly where document 01's one rule gives 6.
 use Prim.Native.Nat.{ℕ}
-use mathlib.Core.Path.{_≡_, refl, sym, ap, subst, _∙_}
-use mathlib.Core.Bool.{Bool, true, false, cond, true≢false}
+use mathlib.Core.Path.{_≡_, refl, sym, subst}
+use mathlib.Core.Bool.{Bool, true, false, cond}
 use lib.Dec.{eqb}
-use borrow.Author.Tests.{eqb-true}
 use Rattle.details.specs.Details.{namesOperand}
 use Rattle.tables.specs.Tables.{Tables}
 use Rattle.decoder.specs.declared.Instruction.{Instruction}
@@ -11,18 +10,11 @@ use Rattle.plan.specs.Checked.{checked}
 use Rattle.earlier.specs.OneRegionRule.{numberBefore, asBefore}
 use Rattle.earlier.specs.Given.{isGivenUncounted, isGiven}
 use Rattle.earlier.proofs.OneRegionRule.{checked-before}
-use Rattle.earlier.proofs.Given.{checked-given}
+use Rattle.earlier.proofs.Given.{passes-not, checked-given}
 
 six-is-none : isGiven 6 ≡ false
 unfolding isGiven isGivenUncounted namesOperand
 six-is-none = refl
-
-not-six : (n : ℕ) → isGiven n ≡ true → eqb n 6 ≡ false
-not-six n g = asked (eqb n 6) refl
-  where
-    asked : (q : Bool) → eqb n 6 ≡ q → q ≡ false
-    asked false e = refl
-    asked true e = absurd (true≢false (sym g ∙ (ap isGiven (eqb-true n 6 e) ∙ six-is-none)))
 
 -- an instruction is refused by one of 20 to 25 exactly where the one rule refused it by 6
 pub six-exactly : (t : Tables) (i : Instruction) → namesOperand (checked t i .number) ≡ eqb (numberBefore t i) 6
@@ -31,4 +23,4 @@ six-exactly t i = subst (λ (n : ℕ). namesOperand (checked t i .number) ≡ eq
   where
     told : (q : Bool) → namesOperand (checked t i .number) ≡ q → q ≡ eqb (cond q 6 (checked t i .number)) 6
     told true e = refl
-    told false e = sym (not-six (checked t i .number) (checked-given t i))
+    told false e = sym (passes-not isGiven 6 six-is-none (checked t i .number) (checked-given t i))

@@ -1,12 +1,12 @@
 -- What a predicate's count changes of an instruction: 17, which is given exactly where a lane would read past it, and nothing else.
 use Prim.Native.Nat.{ℕ}
 use mathlib.Core.Path.{_≡_, refl, sym, ap, _∙_}
-use mathlib.Core.Bool.{Bool, true, false, cond, not, true≢false, _&&_}
+use mathlib.Core.Bool.{Bool, true, false, cond, not, _&&_}
 use mathlib.Core.List.{List}
 use native.Mathlib.Omega.{arith}
 use lib.Dec.{ltb, leb, eqb}
 use lib.ListN.{length, getD}
-use borrow.Author.Tests.{eq-eqb, eqb-true}
+use borrow.Author.Tests.{eq-eqb}
 use Rattle.details.specs.declared.Detail.the-variants as detail
 use Rattle.details.specs.Details.{namesOperand}
 use Rattle.channels.specs.Predicate.{hasPredicate, predicateId}
@@ -24,7 +24,7 @@ use Rattle.plan.proofs.TestLaws.{refusal-number}
 use Rattle.earlier.specs.Given.{isGivenUncounted}
 use Rattle.earlier.specs.Uncounted.{controlUncounted, bitsUncounted, checkedUncounted}
 use Rattle.earlier.specs.PastCount.{pastCount}
-use Rattle.earlier.proofs.Given.{tested-given, instruction-given}
+use Rattle.earlier.proofs.Given.{passes-not, tested-given, instruction-given}
 
 pub control-counted : (t : Predicates) (i : Instruction) → controlRefusal (predicateFor t (controlOf i)) (controlOf i) ≡ cond (pastCount t (controlOf i)) 17 (controlUncounted (t .bits) (controlOf i))
 unfolding controlRefusal predicateRefusal predicateAt pastCount controlUncounted
@@ -79,17 +79,10 @@ seventeen-is-none : isGivenUncounted 17 ≡ false
 unfolding isGivenUncounted namesOperand
 seventeen-is-none = refl
 
-not-seventeen : (n : ℕ) → isGivenUncounted n ≡ true → eqb n 17 ≡ false
-not-seventeen n g = asked (eqb n 17) refl
-  where
-    asked : (q : Bool) → eqb n 17 ≡ q → q ≡ false
-    asked false e = refl
-    asked true e = absurd (true≢false (sym g ∙ (ap isGivenUncounted (eqb-true n 17 e) ∙ seventeen-is-none)))
-
 -- 17 is given exactly there
 pub seventeen-exactly : (t : Tables) (i : Instruction) → eqb (checked t i .number) 17 ≡ pastCount (t .predicates) (controlOf i)
 seventeen-exactly t i = ap (λ (p : Plan). eqb (p .number) 17) (checked-counted t i) ∙ told (pastCount (t .predicates) (controlOf i))
   where
     told : (q : Bool) → eqb (cond q (refusedPlan 17 detail.None) (checkedUncounted t i) .number) 17 ≡ q
     told true = eq-eqb _ 17 (refusal-number 17 detail.None)
-    told false = not-seventeen (checkedUncounted t i .number) (uncounted-given t i)
+    told false = passes-not isGivenUncounted 17 seventeen-is-none (checkedUncounted t i .number) (uncounted-given t i)

@@ -138,9 +138,9 @@ module _ (p : Predicates) (all : AllThirtyTwo p) where
   pub control-uncounted : (i : Instruction) → controlRefusal (predicateFor p (controlOf i)) (controlOf i) ≡ controlUncounted (p .bits) (controlOf i)
   control-uncounted i = control-counted p i ∙ ap (λ (q : Bool). cond q 17 (controlUncounted (p .bits) (controlOf i))) (never-past (controlOf i))
 
-  predicates-good : predicatesGood p ≡ leb (length (p .bits)) 64
+  counts-judged : predicatesGood p ≡ leb (length (p .bits)) 64
   unfolding predicatesGood
-  predicates-good =
+  counts-judged =
       let n = length (p .bits) in
       rw (all, length-replicate {A = ℕ} n 32, eq-eqb n n refl, every-holds (countGoodAt (replicate n 32)) n (good-32 n)) (told (leb n 64))
     where
@@ -162,7 +162,7 @@ module _ (x : Setup) (all : AllThirtyTwo (x .tables .predicates)) where
 
   tables-uncounted : (s : State) → tablesGood (lengthsOf x s) (x .tables) ≡ tablesUncounted (lengthsOf x s) (x .tables)
   unfolding tablesGood tablesUncounted
-  tables-uncounted s = rw (predicates-good (x .tables .predicates) all)
+  tables-uncounted s = rw (counts-judged (x .tables .predicates) all)
 
   -- of every run, 13 included
   pub run-uncounted : (s : State) → run x s ≡ runUncounted x s
