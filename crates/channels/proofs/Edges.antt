@@ -5,7 +5,7 @@ use mathlib.Core.List.{List, [], _∷_}
 use mathlib.Core.Bool.{Bool, cond}
 use Rattle.channels.specs.Bits.{bit, bitField}
 use Rattle.channels.specs.Below.{someBelow, everyBelow}
-use Rattle.channels.specs.Exec.{execSize, maskControl, maskNumber, execOffset, noMask}
+use Rattle.channels.specs.Exec.{execReserved, execSize, maskControl, maskNumber, execOffset, noMask}
 use Rattle.channels.specs.Predicate.{hasPredicate, predicateCombine, predicateInverse}
 use Rattle.channels.specs.Lanes.{anyBit, allBits, combined, inverted, predicateAgrees, maskAllows, laneOn}
 
@@ -23,5 +23,5 @@ lanes-at-edges : (lanes 0x03 0xa000 0xff 0x80 ≡ [])
     × (lanes 0x02 0x8000 0x0e 0x02 ≡ 3 ∷ 2 ∷ [])
     × (lanes 0x92 0x0001 0x00 0x51 ≡ 2 ∷ 0 ∷ [])
     × (lanes 0x02 0x0000 0xf5 0x00 ≡ 2 ∷ 0 ∷ [])
-unfolding passing bit bitField someBelow everyBelow execSize maskControl maskNumber execOffset noMask hasPredicate predicateCombine predicateInverse anyBit allBits combined inverted predicateAgrees maskAllows laneOn
+unfolding passing bit bitField someBelow everyBelow execReserved execSize maskControl maskNumber execOffset noMask hasPredicate predicateCombine predicateInverse anyBit allBits combined inverted predicateAgrees maskAllows laneOn
 lanes-at-edges = (refl, refl, refl, refl)

@@ -1,10 +1,12 @@
 // Which lanes of an instruction are on: by its exec byte, its pred word, the execution mask and the predicate's bits.
+mod exec_table;
+
 ghost use mathlib.Core.Path.{_≡_};
 ghost use mathlib.Core.Bool.{Bool·beq};
 ghost use Prim.Native.Nat.{ℕ, _+_};
 ghost use Rattle.channels.specs.Bits.{bit};
 ghost use Rattle.channels.specs.Below.{someBelow};
-ghost use Rattle.channels.specs.Exec.{execReserved, execOf};
+ghost use Rattle.channels.specs.Exec.{execOf};
 ghost use Rattle.channels.specs.Predicate.{hasPredicate, predicateId, predicateCombine, predicateReserved, predicateInverse};
 ghost use Rattle.channels.specs.Lanes.{inverted};
 ghost use Rattle.channels.specs.mirror.Prepared.{combinedPredicate, predicateOf, lanesOf, agreesAt, isOn};
@@ -34,25 +36,16 @@ pub struct Lanes {
     pub predicate: Predicate,
 }
 
-// Bit 3 is not named, and codes 6 and 7 are no sizes.
-fn exec_reserved(exec: u8) -> bool
-    ensures { λ r. ⌜ r ≡ execReserved exec ⌝ }
-{
-    exec / 8 % 2 == 1 || 6 <= exec % 8
-}
-
-// What the exec byte means; decoder, encoder and runs ask it here.
+// What the exec byte means; decoder, encoder, texts and runs ask it here, and nothing else looks at its bits.
 pub fn split(exec: u8) -> Exec
     ensures { λ r. ⌜ r ≡ execOf exec ⌝ }
 {
-    // M1..M8, then M1_NM..M8_NM
-    let control = exec / 16;
-    let k = control % 8 + 1;
+    let code = exec_table::entry(exec);
     Exec {
-        reserved: exec_reserved(exec),
-        size: 1 << (exec % 8),
-        offset: 4 * (k - 1),
-        unmasked: 8 <= control,
+        reserved: code == 0,
+        size: (code % 64) as u8,
+        offset: (code / 64 % 64) as u8,
+        unmasked: 4096 <= code,
     }
 }
 

@@ -19,7 +19,7 @@ use Rattle.tables.specs.Variables.{variablesGood}
 use Rattle.tables.specs.Surfaces.{surfacesGood}
 use Rattle.tables.specs.Predicates.{Predicates, countGood, countGoodAt, predicatesGood}
 use Rattle.tables.specs.Tables.{tablesGood}
-use Rattle.tables.proofs.Every.{every-holds}
+use Rattle.channels.proofs.Every.{every-holds}
 use Rattle.field_groups.specs.declared.Control.{Control}
 use Rattle.decoder.specs.declared.Instruction.{Instruction}
 use Rattle.decoder.specs.Decoding.{instructionAt}

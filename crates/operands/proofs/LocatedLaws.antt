@@ -8,7 +8,7 @@ use lib.Dec.{ltb, leb, eqb}
 use lib.ListN.{length, getD}
 use borrow.Author.Tests.{ltb-true, leb-true, not-false}
 use Rattle.element_types.specs.Types.{sizeOf}
-use Rattle.tables.proofs.All.{right}
+use Rattle.channels.proofs.All.{right}
 use Rattle.tables.proofs.Placement.{Placed}
 use Rattle.channels.specs.Exec.{execSize}
 use Rattle.field_groups.specs.declared.General.{General}

@@ -11,10 +11,12 @@ use Rattle.formats.specs.Format.{pair, through, blank}
 use Rattle.formats.specs.Words.{words, wordAt, oneOf, before, after}
 use Rattle.formats.specs.Numerals.{digitsOf}
 use Rattle.formats.specs.Numbers.{number}
+use Rattle.channels.specs.declared.Exec.{Exec}
+use Rattle.channels.specs.Exec.{execOf}
 use Rattle.field_groups.specs.declared.Raw.{Raw}
 use Rattle.field_groups.specs.declared.Immediate.{Immediate}
 use Rattle.text_parts.specs.mirror.Predicate.{openings, endings, groupEndings, ending, idAndEnding, predicate}
-use Rattle.text_parts.specs.mirror.Exec.{maskEndings, sizes, scatterSizes, maskParts, mask, execFrom, exec, scatterExec}
+use Rattle.text_parts.specs.mirror.Exec.{maskEndings, sizes, scatterSizes, maskParts, mask, maskPlace, sizePlace, execFrom, exec, scatterExec}
 use Rattle.text_parts.specs.mirror.Fields.{decimal}
 use Rattle.text_parts.specs.mirror.Raw.{rawParts, raw}
 use Rattle.text_parts.specs.mirror.Immediate.{types, wideTypes, typeBehind, placeOf, immediateParts, immediate}
@@ -39,13 +41,14 @@ pub mask-text : (m : ℕ) → mask .print m ≡ wordAt (words (text "(M|")) 0 ++
 unfolding mask maskParts through before pair number oneOf
 mask-text m = refl
 
-pub exec-text : (e : ℕ) → exec .print e ≡ mask .print (e / 16) ++ wordAt (words sizes) (e % 16)
-unfolding exec execFrom through pair oneOf
-exec-text e = ap (λ (k : ℕ). mask .print (e / 16) ++ wordAt (words sizes) k) (sub-zero (e % 16))
+module _ (byte m z : ℕ) (e : Exec) (split : e ≡ execOf byte) (mask-is : m ≡ maskPlace e) (size-is : z ≡ sizePlace (e .size)) where
+  pub exec-text : exec .print byte ≡ mask .print m ++ wordAt (words sizes) z
+  unfolding exec execFrom through pair oneOf
+  exec-text = rw (mask-is, size-is, split, sub-zero)
 
-pub scatter-exec-text : (e k : ℕ) → k ≡ e % 16 - 3 → scatterExec .print e ≡ mask .print (e / 16) ++ wordAt (words scatterSizes) k
-unfolding scatterExec execFrom through pair oneOf
-scatter-exec-text e k p = rw p
+  pub scatter-exec-text : (k : ℕ) → k ≡ z - 3 → scatterExec .print byte ≡ mask .print m ++ wordAt (words scatterSizes) k
+  unfolding scatterExec execFrom through pair oneOf
+  scatter-exec-text k p = rw (p, mask-is, size-is, split)
 
 -- ---- numbers, raw operands, immediates
 

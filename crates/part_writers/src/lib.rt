@@ -1,4 +1,5 @@
 // Parts of an instruction's line, written into a lent buffer. What does not fit is lost.
+use channels::Exec;
 use field_groups::Immediate;
 use field_groups::Raw;
 use formats::Base;
@@ -12,7 +13,7 @@ ghost use Rattle.formats.specs.Words.{words, wordAt};
 ghost use Rattle.formats.specs.Numerals.{digitsOf};
 ghost use Rattle.formats.specs.Writing.{wrote, written};
 ghost use Rattle.text_parts.specs.mirror.Predicate.{ending, predicate};
-ghost use Rattle.text_parts.specs.mirror.Exec.{mask, exec, scatterExec};
+ghost use Rattle.text_parts.specs.mirror.Exec.{mask, maskPlace, sizePlace, exec, scatterExec};
 ghost use Rattle.text_parts.specs.mirror.Raw.{raw};
 ghost use Rattle.text_parts.specs.mirror.Immediate.{typeBehind, placeOf, immediate};
 
@@ -49,20 +50,50 @@ fn put_mask(out: &mut [u8], at: usize, code: u64) -> usize
     formats::put_word(out, b, b",|_NM,|", code / 8)
 }
 
+// A mask's place among M1 to M8 and M1_NM to M8_NM.
+fn mask_place(exec: Exec) -> u64
+    ensures { λ r. ⌜ r ≡ maskPlace exec ⌝ }
+{
+    let number = (exec.offset / 4) as u64;
+    if exec.unmasked { number + 8 } else { number }
+}
+
+// A size's place among those that a line may show.
+fn size_place(size: u8) -> u64
+    ensures { λ r. ⌜ r ≡ sizePlace size ⌝ }
+{
+    if size == 1 {
+        return 0;
+    }
+    if size == 2 {
+        return 1;
+    }
+    if size == 4 {
+        return 2;
+    }
+    if size == 8 {
+        return 3;
+    }
+    if size == 16 {
+        return 4;
+    }
+    if size == 32 { 5 } else { 6 }
+}
+
 pub fn put_exec(out: &mut [u8], at: usize, byte: u8) -> usize
     ensures { λ r. ⌜ wrote r (now (out .exit)) ≡ written (now (out .entry)) at (exec .print byte) ⌝ }
 {
-    let e = byte as u64;
-    let a = put_mask(out, at, e / 16);
-    formats::put_word(out, a, b"1) |2) |4) |8) |16) |32) |", e % 16)
+    let e = channels::split(byte);
+    let a = put_mask(out, at, mask_place(e));
+    formats::put_word(out, a, b"1) |2) |4) |8) |16) |32) |", size_place(e.size))
 }
 
 pub fn put_scatter_exec(out: &mut [u8], at: usize, byte: u8) -> usize
     ensures { λ r. ⌜ wrote r (now (out .exit)) ≡ written (now (out .entry)) at (scatterExec .print byte) ⌝ }
 {
-    let e = byte as u64;
-    let a = put_mask(out, at, e / 16);
-    formats::put_word(out, a, b"8) |16) |", above(e % 16, 3))
+    let e = channels::split(byte);
+    let a = put_mask(out, at, mask_place(e));
+    formats::put_word(out, a, b"8) |16) |", above(size_place(e.size), 3))
 }
 
 // How much a number exceeds another; 0 if it does not.

@@ -9,8 +9,8 @@ use lib.Dec.{ltb, eqb}
 use borrow.Author.Tests.{ltb-true, ltb-false, lt-ltb, le-ltb, ne-eqb}
 use borrow.Author.Count.{below-more}
 use Rattle.channels.specs.Below.{everyBelow}
-use Rattle.tables.proofs.All.{left}
-use Rattle.tables.proofs.Every.{every-none, every-next, every-each, every-fails}
+use Rattle.channels.proofs.All.{left}
+use Rattle.channels.proofs.Every.{every-none, every-next, every-each, every-fails}
 use Rattle.regions.specs.declared.Variable.{Variable}
 use Rattle.regions.specs.Reach.{lowest, highest, insideVariable, elementsGood}
 

@@ -9,7 +9,7 @@ use borrow.Author.Tests.{leb-true}
 use Rattle.element_types.specs.Types.{sizeOf, isListed}
 use Rattle.element_types.proofs.Sizes.{register-whole}
 use Rattle.tables.specs.Lengths.{registerSize}
-use Rattle.tables.proofs.All.{left, right, all3, all4}
+use Rattle.channels.proofs.All.{left, right, all3, all4}
 use Rattle.field_groups.specs.declared.General.{General}
 use Rattle.regions.specs.declared.Role.the-variants as role
 use Rattle.regions.specs.Regions.{widthCode, horizontalCode, strideOf, between, sourceRegionGood, destinationRegionGood, regionAllowed, firstElement, sourceElement, elementOf}

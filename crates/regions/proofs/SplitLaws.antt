@@ -7,7 +7,7 @@ use native.Mathlib.Omega.{arith}
 use lib.Dec.{ltb, leb, eqb}
 use borrow.Author.Tests.{ltb-true, ltb-false, le-leb, lt-leb, eq-eqb}
 use Rattle.channels.specs.Below.{everyBelow}
-use Rattle.tables.proofs.Every.{every-each}
+use Rattle.channels.proofs.Every.{every-each}
 use Rattle.regions.specs.declared.Role.{Role}
 use Rattle.regions.specs.declared.Role.the-variants as role
 use Rattle.regions.specs.Regions.{verticalCode, widthCode, horizontalCode, strideOf, between, sourceRegionGood, scalarRegionGood, destinationRegionGood, regionAllowed}

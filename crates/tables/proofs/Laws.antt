@@ -9,7 +9,7 @@ use Rattle.tables.specs.Variables.{variablesGood}
 use Rattle.tables.specs.Predicates.{predicatesGood}
 use Rattle.tables.specs.Surfaces.{surfaceLength, surfaceStart, surfacesGood}
 use Rattle.tables.specs.Tables.{Tables, tablesGood}
-use Rattle.tables.proofs.All.{All4, all4}
+use Rattle.channels.proofs.All.{All4, all4}
 use Rattle.tables.proofs.Limits.{Limited, lengths-limited}
 use Rattle.tables.proofs.Placement as placement
 use Rattle.tables.proofs.Placement.{Placed}

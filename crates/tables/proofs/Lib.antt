@@ -1,5 +1,3 @@
-pub mod All
-pub mod Every
 pub mod Limits
 pub mod Placement
 pub mod PredicateCounts

@@ -6,7 +6,7 @@ use lib.Dec.{leb, eqb}
 use borrow.Author.Tests.{leb-true, eqb-true}
 use Rattle.tables.specs.declared.Lengths.{Lengths}
 use Rattle.tables.specs.Lengths.{registerSize, registersGood, addressesGood, taintGood, lengthsGood}
-use Rattle.tables.proofs.All.{left, right, all3, all4}
+use Rattle.channels.proofs.All.{left, right, all3, all4}
 
 pub record Limited (l : Lengths) : Type 0 where
   pub registers-whole : l .registers % registerSize ≡ 0

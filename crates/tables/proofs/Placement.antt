@@ -10,8 +10,8 @@ use Rattle.element_types.proofs.Sizes.{listed-size}
 use Rattle.tables.specs.Lengths.{registerSize}
 use Rattle.channels.specs.Below.{everyBelow}
 use Rattle.tables.specs.Variables.{Variables, lineGood, variableGood, variableGoodAt, variablesGood}
-use Rattle.tables.proofs.All.{All4, left, right, all4}
-use Rattle.tables.proofs.Every.{every-each}
+use Rattle.channels.proofs.All.{All4, left, right, all4}
+use Rattle.channels.proofs.Every.{every-each}
 
 pub record Placed (registers code start count : ℕ) : Type 0 where
   pub listed : isListed code ≡ true

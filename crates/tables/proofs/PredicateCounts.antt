@@ -7,8 +7,8 @@ use lib.ListN.{length, getD}
 use borrow.Author.Tests.{leb-true, eqb-true, le-leb, eq-eqb}
 use Rattle.channels.specs.Below.{everyBelow}
 use Rattle.tables.specs.Predicates.{Predicates, countGood, countGoodAt, predicatesGood}
-use Rattle.tables.proofs.All.{All3, left, right, all3}
-use Rattle.tables.proofs.Every.{every-each, every-holds}
+use Rattle.channels.proofs.All.{All3, left, right, all3}
+use Rattle.channels.proofs.Every.{every-each, every-holds}
 
 pub good-count : (count : ℕ) → countGood count ≡ true → (1 ≤ count) × (count ≤ 32)
 unfolding countGood

@@ -11,8 +11,8 @@ use borrow.Author.Tests.{leb-true, eqb-true}
 use borrow.Author.Count.{below-more}
 use Rattle.channels.specs.Below.{everyBelow}
 use Rattle.tables.specs.Surfaces.{Surfaces, surfaceLength, surfaceStart, surfaceGoodAt, surfacesGood}
-use Rattle.tables.proofs.All.{All3, all3}
-use Rattle.tables.proofs.Every.{every-each}
+use Rattle.channels.proofs.All.{All3, all3}
+use Rattle.channels.proofs.Every.{every-each}
 
 -- a surface ends where a later one begins, or before
 pub ends-before : (t : Surfaces) (n k : ℕ) → k < n → surfaceStart t k + surfaceLength t k ≤ surfaceStart t n

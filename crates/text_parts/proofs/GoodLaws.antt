@@ -1,10 +1,11 @@
 -- The exec bytes and pred words that decoding takes, each by remainders instead of bits.
 use Prim.Native.Nat.{ℕ, zero, suc, _/_, _%_, _^_, _<_}
-use mathlib.Core.Path.{_≡_, refl}
+use mathlib.Core.Path.{_≡_, refl, sym, _∙_}
 use mathlib.Core.Bool.{Bool, true, false, not, _&&_, _||_}
 use native.Mathlib.Omega.{arith}
 use lib.Dec.{ltb, leb, eqb}
 use Rattle.channels.specs.Bits.{bit, bitField}
+use Rattle.channels.specs.Exec.{execReserved, execSize}
 use Rattle.channels.specs.Predicate.{predicateCombine, predicateReserved}
 use Rattle.channels.proofs.ExecLaws.{exec-reserved, exec-size}
 use Rattle.fields.specs.Rules.{execGood, scatterExecGood, predicateGood}
@@ -41,8 +42,15 @@ scatter-codes true (suc (suc (suc (suc (suc (suc (suc zero))))))) h = refl
 scatter-codes true (suc (suc (suc (suc (suc (suc (suc (suc k)))))))) h = absurd (omega arith)
 
 pub scatter-exec-good-is : (e : ℕ) → scatterExecGood e ≡ (eqb (e / 8 % 2) 0 && (eqb (e % 8) 3 || eqb (e % 8) 4))
-unfolding scatterExecGood
-scatter-exec-good-is e = rw (exec-good-is e, exec-size e) (scatter-codes (eqb (e / 8 % 2) 0) (e % 8) (omega arith))
+unfolding scatterExecGood execGood
+scatter-exec-good-is e = told (execReserved e) refl
+  where
+    codes : ((eqb (e / 8 % 2) 0 && ltb (e % 8) 6) && (eqb (2 ^ (e % 8)) 8 || eqb (2 ^ (e % 8)) 16)) ≡ (eqb (e / 8 % 2) 0 && (eqb (e % 8) 3 || eqb (e % 8) 4))
+    codes = scatter-codes (eqb (e / 8 % 2) 0) (e % 8) (omega arith)
+
+    told : (r : Bool) → execReserved e ≡ r → (execGood e && (eqb (execSize e) 8 || eqb (execSize e) 16)) ≡ (eqb (e / 8 % 2) 0 && (eqb (e % 8) 3 || eqb (e % 8) 4))
+    told true r = let bad : execGood e ≡ false = rw r in rw bad (rw (sym (exec-good-is e) ∙ bad) at codes)
+    told false r = rw (exec-good-is e, exec-size e r) codes
 
 -- bit 12 and the code of any and all
 combine-codes : (b code : ℕ) → b < 2 → code < 4 → not (eqb b 1 || eqb code 3) ≡ (eqb b 0 && ltb code 3)

@@ -15,10 +15,11 @@ use Rattle.formats.specs.Words.{words, wordAt, oneOf, table, before, after}
 use Rattle.formats.specs.Numerals.{digits, digitsOf}
 use Rattle.formats.specs.Numbers.{number}
 use Rattle.channels.specs.Bits.{bit, bitField}
-use Rattle.channels.specs.Exec.{execSize, maskControl, maskNumber, noMask}
+use Rattle.channels.specs.Exec.{execReserved, execSize, maskControl, maskNumber, noMask}
 use Rattle.channels.specs.Predicate.{hasPredicate, predicateId, predicateCombine, predicateInverse}
 use Rattle.field_groups.specs.declared.Raw.{Raw}
 use Rattle.field_groups.specs.declared.Immediate.{Immediate}
+use Rattle.channels.proofs.ExecLaws.{exec-size}
 use Rattle.formats.proofs.Tests.{both-left, both-right}
 use Rattle.text_parts.specs.mirror.Predicate.{openings, endings, groupEndings, ending, idAndEnding, predicateFits, predicate}
 use Rattle.text_parts.specs.mirror.Exec.{maskEndings, sizes, scatterSizes, maskParts, mask, execFrom, execFits, exec, scatterExecFits, scatterExec}
@@ -27,7 +28,7 @@ use Rattle.text_parts.specs.mirror.Raw.{rawParts, raw}
 use Rattle.text_parts.specs.mirror.Immediate.{types, wideTypes, typeBehind, placeOf, immediateParts, immediateFits, immediate}
 use Rattle.text_parts.specs.Texts.{optional, predicateText, execText, rawText, typeText, immediateText}
 use Rattle.text_parts.proofs.PredicateLaws.{Word, word-tells}
-use Rattle.text_parts.proofs.ExecLaws.{exec-told, scatter-told}
+use Rattle.text_parts.proofs.ExecLaws.{not-reserved, mask-place-is, size-place-is, exec-told, scatter-told}
 use Rattle.text_parts.proofs.ImmediateLaws.{Code, listed-code, place-alone, fits-tells}
 
 -- ---- the exec byte
@@ -61,9 +62,8 @@ control-is : (e : ℕ) → e < 256 → maskControl e ≡ e / 16
 unfolding maskControl bitField
 control-is e h = omega arith
 
-size-is : (e : ℕ) → e % 16 < 8 → execSize e ≡ 2 ^ (e % 16)
-unfolding execSize bitField
-size-is e h = ap (λ (n : ℕ). 2 ^ n) (omega arith)
+size-is : (e : ℕ) → execReserved e ≡ false → e % 16 < 8 → execSize e ≡ 2 ^ (e % 16)
+size-is e good h = exec-size e good ∙ ap (λ (n : ℕ). 2 ^ n) (omega arith)
 
 joined : (d o s p : List ℕ) → (text "(M" ++ (d ++ (o ++ text ","))) ++ (s ++ p) ≡ text "(M" ++ d ++ o ++ text "," ++ s ++ p
 joined d o s p =
@@ -74,29 +74,35 @@ mask-is : (m : ℕ) → m < 16 → mask .print m ≡ text "(M" ++ (digitsOf 10 (
 unfolding mask maskParts before through pair number oneOf words wordAt
 mask-is m h = ap (λ (t : List ℕ). text "(M" ++ (digitsOf 10 (m % 8 + 1) ++ t)) (mask-ending m h)
 
-exec-is : (e m z : ℕ) → maskControl e ≡ m → execSize e ≡ z → execText e ≡ text "(M" ++ digitsOf 10 (m % 8 + 1) ++ optional (leb 8 m) (text "_NM") ++ text "," ++ digitsOf 10 z ++ text ") "
+exec-is : (e m z : ℕ) → execReserved e ≡ false → maskControl e ≡ m → execSize e ≡ z → execText e ≡ text "(M" ++ digitsOf 10 (m % 8 + 1) ++ optional (leb 8 m) (text "_NM") ++ text "," ++ digitsOf 10 z ++ text ") "
 unfolding execText maskNumber noMask
-exec-is e m z p q = rw (p, q)
+exec-is e m z good p q = rw (good, p, q)
 
 with-size : (e : ℕ) → e < 256 → e % 16 < 6 → mask .print (e / 16) ++ wordAt (words sizes) (e % 16) ≡ execText e
 with-size e h k =
     ap (λ (t : List ℕ). t ++ wordAt (words sizes) (e % 16)) (mask-is (e / 16) (omega (arith, h)))
     ∙ ap (λ (t : List ℕ). (text "(M" ++ (digitsOf 10 (e / 16 % 8 + 1) ++ (optional (leb 8 (e / 16)) (text "_NM") ++ text ","))) ++ t) (size-text (e % 16) k)
     ∙ joined (digitsOf 10 (e / 16 % 8 + 1)) (optional (leb 8 (e / 16)) (text "_NM")) (digitsOf 10 (2 ^ (e % 16))) (text ") ")
-    ∙ sym (exec-is e (e / 16) (2 ^ (e % 16)) (control-is e h) (size-is e (omega (arith, k))))
+    ∙ sym (exec-is e (e / 16) (2 ^ (e % 16)) good (control-is e h) (size-is e good (omega (arith, k))))
+  where
+    good : execReserved e ≡ false
+    good = not-reserved e h k
 
 pub exec-prints : (e : ℕ) → execFits e ≡ true → exec .print e ≡ execText e
 unfolding exec execFrom through pair oneOf
 exec-prints e h =
     let k = exec-told e h in
-    ap (λ (n : ℕ). mask .print (e / 16) ++ wordAt (words sizes) n) (sub-zero (e % 16)) ∙ with-size e (k .0) (omega (arith, k .2))
+    let c : e % 16 < 6 = omega (arith, k .2) in
+    rw (mask-place-is e (k .0) c, size-place-is e (k .0) c) (ap (λ (n : ℕ). mask .print (e / 16) ++ wordAt (words sizes) n) (sub-zero (e % 16)) ∙ with-size e (k .0) c)
 
 pub scatter-exec-prints : (e : ℕ) → scatterExecFits e ≡ true → scatterExec .print e ≡ execText e
 unfolding scatterExec execFrom through pair oneOf
 scatter-exec-prints e h =
     let k = scatter-told e h in
+    let c : e % 16 < 6 = omega (arith, k .2) in
     let n : 3 + (e % 16 - 3) ≡ e % 16 = omega (arith, k .1) in
-    ap (λ (t : List ℕ). mask .print (e / 16) ++ t) (scatter-size-text (e % 16 - 3) (omega (arith, k .2)) ∙ ap (wordAt (words sizes)) n) ∙ with-size e (k .0) (omega (arith, k .2))
+    rw (mask-place-is e (k .0) c, size-place-is e (k .0) c)
+    (ap (λ (t : List ℕ). mask .print (e / 16) ++ t) (scatter-size-text (e % 16 - 3) (omega (arith, k .2)) ∙ ap (wordAt (words sizes)) n) ∙ with-size e (k .0) c)
 
 -- ---- a raw operand
 

@@ -6,7 +6,13 @@ use Rattle.part_writers.proofs.put_scatter_exec.Statement.{statement}
 use Rattle.part_writers.proofs.put_scatter_exec.Tie as tie
 
 returns : tie.Need-returns
-returns c = wrote-two _ _ _ _ _ _ _ _ _ (c .before .before .before .before .before .before .before .before .put-mask .ensures) (c .before .before .put-word .ensures) (scatter-exec-text _ _ (c .before .before .before .above .ensures))
+returns c =
+    let above = c .before .before .before in
+    let size = above .before in
+    let mask = size .before .before .before .before .before in
+    let place = mask .before in
+    wrote-two _ _ _ _ _ _ _ _ _ (mask .put-mask .ensures) (c .before .before .put-word .ensures)
+    (scatter-exec-text _ _ _ _ (place .before .before .split .ensures) (place .mask-place .ensures) (size .size-place .ensures) _ (above .above .ensures))
 
 pub put-scatter-exec-spec : {M : Type 1} → statement M
-put-scatter-exec-spec = tie.close (tie.spec (λ c κs. search needs) (λ c. search needs) (λ c κs. search needs) (λ c κs. search needs) (λ c. search needs) returns)
+put-scatter-exec-spec = tie.close (tie.spec (λ c κs. search needs) (λ c κs. search needs) (λ c κs. search needs) (λ c. search needs) (λ c κs. search needs) (λ c κs. search needs) (λ c κs. search needs) (λ c. search needs) returns)

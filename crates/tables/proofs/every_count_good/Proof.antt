@@ -10,7 +10,7 @@ use borrow.Author.Needs.{needs}
 use borrow.Author.Tests.{not-true, not-false}
 use Rattle.channels.specs.Below.{everyBelow}
 use Rattle.tables.specs.Predicates.{countGood, countGoodAt}
-use Rattle.tables.proofs.Every.{every-none, every-same, every-next, every-fails}
+use Rattle.channels.proofs.Every.{every-none, every-same, every-next, every-fails}
 use Rattle.tables.proofs.every_count_good.Statement.{statement}
 use Rattle.tables.proofs.every_count_good.Tie as tie
 

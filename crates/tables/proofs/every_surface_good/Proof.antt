@@ -11,7 +11,7 @@ use borrow.Author.Tests.{le-leb, lt-leb}
 use Rattle.channels.specs.Below.{everyBelow}
 use Rattle.tables.specs.Surfaces as table
 use Rattle.tables.specs.Surfaces.{surfaceLength, surfaceGoodAt}
-use Rattle.tables.proofs.Every.{every-none, every-same, every-next, every-fails}
+use Rattle.channels.proofs.Every.{every-none, every-same, every-next, every-fails}
 use Rattle.tables.proofs.every_surface_good.Statement.{statement}
 use Rattle.tables.proofs.every_surface_good.Tie as tie
 

@@ -10,7 +10,7 @@ use borrow.Author.Needs.{needs}
 use borrow.Author.Tests.{not-true, not-false}
 use Rattle.channels.specs.Below.{everyBelow}
 use Rattle.tables.specs.Variables.{variables, variableGood, variableGoodAt}
-use Rattle.tables.proofs.Every.{every-none, every-same, every-next, every-fails}
+use Rattle.channels.proofs.Every.{every-none, every-same, every-next, every-fails}
 use Rattle.tables.proofs.every_variable_good.Statement.{statement}
 use Rattle.tables.proofs.every_variable_good.Tie as tie
 

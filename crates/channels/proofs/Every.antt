@@ -6,8 +6,8 @@ use native.Mathlib.Omega.{arith}
 use native.Mathlib.Numerals.{add-one}
 use native.Mathlib.Nat.{not-suc-le-zero}
 use borrow.Author.Count.{below-more}
 use Rattle.channels.specs.Below.{everyBelow}
-use Rattle.tables.proofs.All.{left, right}
+use Rattle.channels.proofs.All.{left, right}
 
 left-fails : (a b : Bool) → a ≡ false → (a && b) ≡ false
 left-fails a b e = rw e

@@ -1,0 +1,13 @@
+-- `channels::exec_table::looked_up` meets its contract.
+use borrow.Author.Needs.{needs}
+use mathlib.Core.Path.{refl}
+use Rattle.channels.specs.ExecTable.{entryAt}
+use Rattle.channels.proofs.exec_table.looked_up.Statement.{statement}
+use Rattle.channels.proofs.exec_table.looked_up.Tie as tie
+
+returns : tie.Need-returns
+unfolding entryAt
+returns c = refl
+
+pub looked-up-spec : {M : Type 1} → statement M
+looked-up-spec = tie.close (tie.spec (λ c. search needs) (λ c. search needs) returns)
