@@ -4,3 +4,4 @@ pub mod NoSix
 pub mod OneRegionRun
 pub mod Uncounted
 pub mod UncountedRun
+pub mod ExecBits

@@ -3,3 +3,4 @@ pub mod OneRegionRun
 pub mod Given
 pub mod Uncounted
 pub mod PastCount
+pub mod ExecBits

@@ -53,7 +53,7 @@ abbrev blank : ℕ → List ℕ
 blank n = replicate n 170
 
 first-line : lineOf first ≡ line
-unfolding lineOf shlLine predicateText hasPredicate execText maskNumber maskControl noMask execSize bit bitField digits characterOf codeText regionText destinationRegionText generalText operandText destinationText immediateText typeText
+unfolding lineOf shlLine predicateText hasPredicate execText maskNumber maskControl noMask execReserved execSize bit bitField digits characterOf codeText regionText destinationRegionText generalText operandText destinationText immediateText typeText
 first-line = refl
 
 -- one character short; an exact fit; room to spare, of which the last seven bytes stay
