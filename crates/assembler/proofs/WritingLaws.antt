@@ -33,16 +33,6 @@ line-written l m n t at e d p q = wrote-then l at t lineEnd e m d n p q
 
 -- ---- bytes
 
-one-digit : (n : ℕ) → n < 16 → digitsOf 16 n ≡ characterOf n ∷ []
-unfolding digits
-one-digit zero h = refl
-one-digit (suc n) h = rw (lt-ltb (suc n) 16 h)
-
-pub byte-written : (l m n : List ℕ) (at e d byte : ℕ) → byte < 256 → wrote e m ≡ written l at (digitsOf 16 (byte / 16)) → wrote d n ≡ written m e (digitsOf 16 (byte % 16)) → wrote d n ≡ written l at (hexOf (byte ∷ []))
-byte-written l m n at e d byte h p q =
-    let x : digitsOf 16 (byte / 16) ++ digitsOf 16 (byte % 16) ≡ hexOf (byte ∷ []) = rw (one-digit (byte / 16) (omega (arith, h)), one-digit (byte % 16) (omega arith), hex-more byte [], hex-none) in
-    wrote-then l at (digitsOf 16 (byte / 16)) (digitsOf 16 (byte % 16)) e m d n p q ∙ ap (written l at) x
-
 -- what is still to be written of them, from a place on
 abbrev pub Rest : List ℕ → List ℕ → ℕ → List ℕ → ℕ → ℕ → Type 0
 Rest bytes l at m to i = (written m to (hexOf (drop i bytes)) ≡ written l at (hexOf bytes)) × (to ≤ length m)

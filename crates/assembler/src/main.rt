@@ -21,14 +21,6 @@ fn put_column(out: &mut [u8], at: usize, column: u64) -> usize
     formats::put_word(out, b, b"\n|", 0)
 }
 
-// A byte's two digits.
-fn put_byte(out: &mut [u8], at: usize, byte: u8) -> usize
-    ensures { λ r. ⌜ wrote r (now (out .exit)) ≡ written (now (out .entry)) at (hexOf (byte ∷ [])) ⌝ }
-{
-    let a = formats::put_number(out, at, Base::Hexadecimal, (byte / 16) as u64);
-    formats::put_number(out, a, Base::Hexadecimal, (byte % 16) as u64)
-}
-
 // Bytes in hex. An empty word is written first, which gives the place, the buffer's end at most.
 fn put_bytes(out: &mut [u8], at: usize, bytes: &[u8]) -> usize
     ensures { λ r. ⌜ wrote r (now (out .exit)) ≡ written (now (out .entry)) at (hexOf (now (bytes .entry))) ⌝ }
@@ -36,7 +28,7 @@ fn put_bytes(out: &mut [u8], at: usize, bytes: &[u8]) -> usize
     let mut to = formats::put_word(out, at, b"|", 0);
     let mut i = 0;
     while i < bytes.len() {
-        let e = put_byte(out, to, bytes[i]);
+        let e = formats::put_byte(out, to, bytes[i]);
         to = e;
         i += 1;
     }

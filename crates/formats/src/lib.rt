@@ -4,6 +4,7 @@ ghost use Prim.Native.Nat.{_+_, _*_, _≤_, _<_};
 ghost use mathlib.Core.List.{[], _∷_};
 ghost use lib.ListN.{length, drop};
 ghost use Rattle.hex.specs.Digits.{characterOf};
+ghost use Rattle.hex.specs.Bytes.{hexOf};
 ghost use Rattle.formats.specs.Words.{words, wordAt, oneOf};
 ghost use Rattle.formats.specs.Numerals.{digitsOf};
 ghost use Rattle.formats.specs.Numbers.{number, radixOf};
@@ -309,4 +310,12 @@ pub fn put_number(out: &mut [u8], at: usize, base: Base, n: u64) -> usize
     ensures { λ r. ⌜ wrote r (now (out .exit)) ≡ written (now (out .entry)) at (digitsOf (radixOf base) n) ⌝ }
 {
     put_digits(out, at, radix(base), n)
+}
+
+// A byte's two hex digits, at `at` and after, and the place past them.
+pub fn put_byte(out: &mut [u8], at: usize, byte: u8) -> usize
+    ensures { λ r. ⌜ wrote r (now (out .exit)) ≡ written (now (out .entry)) at (hexOf (byte ∷ [])) ⌝ }
+{
+    let a = put_digit(out, at, (byte / 16) as u64);
+    put_digit(out, a, (byte % 16) as u64)
 }
