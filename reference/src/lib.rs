@@ -13,9 +13,10 @@
 //! - request 1, kernels as text: `spelling`, `print`, `ways`, `read`, `listed`, `assembled`
 //! - request 2, which region rule: `region`, `operands`, `refusal`, `verdict`
 //! - request 3, predicates have lengths: `case`, `case_file`, `sizes`, `run_checks`
+//! - request 4, the exec byte's table, printed: `exec_line`
 //!
 //! Beside the interpreter stand the generators of cases and lines (`assemble`, `generate`), the comparisons (`source`,
-//! `command`, `difference`, `comparison`, `line_comparison`) and the programs (`programs`, `panics`).
+//! `command`, `difference`, `comparison`, `line_comparison`, `exec_comparison`) and the programs (`programs`, `panics`).
 
 pub mod assemble;
 pub mod assembled;
@@ -32,6 +33,8 @@ pub mod difference;
 pub mod element;
 pub mod element_type;
 pub mod encode;
+pub mod exec_comparison;
+pub mod exec_line;
 pub mod fields;
 pub mod gather;
 pub mod generate;

@@ -168,7 +168,7 @@ impl LineComparison {
 }
 
 /// Lines, each with its 0x0a.
-fn ended<T: AsRef<[u8]>>(lines: &[T]) -> Vec<u8> {
+pub fn ended<T: AsRef<[u8]>>(lines: &[T]) -> Vec<u8> {
     let mut all = Vec::new();
     for line in lines {
         all.extend(line.as_ref());
@@ -178,7 +178,7 @@ fn ended<T: AsRef<[u8]>>(lines: &[T]) -> Vec<u8> {
 }
 
 /// Where line `k` of an answer differs, in words.
-fn difference(k: usize, expected: &str, got: &[u8]) -> String {
+pub fn difference(k: usize, expected: &str, got: &[u8]) -> String {
     let line = k + 1;
     if got.is_empty() {
         return format!(

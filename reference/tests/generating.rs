@@ -28,11 +28,16 @@ fn a_seed_determines_its_cases() {
     assert!(same_as_other <= 3, "{same_as_other}");
 }
 
-/// Near misses, pairs of faults and bad lines answer as intended: what the generator means was written
+/// Exec bytes, near misses, pairs of faults and bad lines answer as intended: what the generator means was written
 /// down fault by fault, apart from the interpreter.
 #[test]
 fn faults_answer_as_intended() {
-    for mode in [Mode::NearMiss, Mode::TwoFaults, Mode::BadLines] {
+    for mode in [
+        Mode::ExecBytes,
+        Mode::NearMiss,
+        Mode::TwoFaults,
+        Mode::BadLines,
+    ] {
         for seed in [3, 4] {
             let generator = Generator::new(seed, Some(mode));
             let mut report = Report::default();

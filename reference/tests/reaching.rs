@@ -1,6 +1,7 @@
 //! The report's rare places: each is seen where a case reaches it and not seen beside it, and the fixed seed
 //! reaches all of them. It names every operand that a number can name, has every pair of faults in one operand, hands
-//! back every channel and lane, has predicates about as long as every exec byte needs, and shows every mistake.
+//! back every channel and lane, has every exec byte in every instruction and predicates about as long as it needs, and shows
+//! every mistake.
 
 mod common;
 
@@ -11,6 +12,7 @@ use reference::case::{Case, Variable};
 use reference::case_file::read_case;
 use reference::case_writer::write_case;
 use reference::decode::decode;
+use reference::generate::exec_reach::Fate;
 use reference::generate::mistakes::Mistake;
 use reference::generate::reach::{completed, reached, Place};
 use reference::generate::region_mistakes::Refused;
@@ -335,6 +337,17 @@ fn the_fixed_seed_reaches_the_rare_places() {
             let near = end.abs_diff(count) <= 1;
             assert!(!near || seen.counts.contains(&there), "{there:?}");
         }
+    }
+    // Of 96 good exec bytes 74 keep to 32: eight offsets for 1, 2 and 4, seven for 8, five for 16, one for 32, NM or not.
+    // A scatter takes those of 8 and 16, and the other 64 are reserved there.
+    for (opcode, expected) in [
+        (0x24, [74, 22, 160]),
+        (0x78, [74, 22, 160]),
+        (0x4e, [24, 8, 160 + 64]),
+        (0x5d, [74, 22, 160]),
+    ] {
+        let met = Fate::ALL.map(|fate| report.exec_bytes(opcode, fate));
+        assert_eq!(met, expected, "{opcode:02x}");
     }
     for number in [11, 12] {
         for channel in 0..4 {

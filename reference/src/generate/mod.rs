@@ -1,9 +1,11 @@
-//! The generators: case files in five modes, and lines for kernels as text (`line_cases`), each determined by a seed and
+//! The generators: case files in six modes, and lines for kernels as text (`line_cases`), each determined by a seed and
 //! an index.
 
 pub mod accepted;
 pub mod address_faults;
 pub mod bad_lines;
+pub mod exec_bytes;
+pub mod exec_reach;
 pub mod far_rows;
 pub mod fault;
 pub mod faults;
@@ -39,6 +41,7 @@ use random::Random;
 #[derive(Clone, Copy, Debug, PartialEq, Eq, PartialOrd, Ord)]
 pub enum Mode {
     Valid,
+    ExecBytes,
     NearMiss,
     TwoFaults,
     BadLines,
@@ -46,8 +49,9 @@ pub enum Mode {
 }
 
 impl Mode {
-    pub const ALL: [Mode; 5] = [
+    pub const ALL: [Mode; 6] = [
         Mode::Valid,
+        Mode::ExecBytes,
         Mode::NearMiss,
         Mode::TwoFaults,
         Mode::BadLines,
@@ -57,6 +61,7 @@ impl Mode {
     pub fn name(self) -> &'static str {
         match self {
             Mode::Valid => "valid",
+            Mode::ExecBytes => "exec-bytes",
             Mode::NearMiss => "near-miss",
             Mode::TwoFaults => "two-faults",
             Mode::BadLines => "bad-lines",
@@ -111,13 +116,14 @@ impl Generator {
         format!("seed {}, case {index} ({mode})", self.seed)
     }
 
-    /// The mode of an index and its running number there. Of twenty cases eight are valid, six near misses,
-    /// three have two faults, one has a bad line and two are random bytes.
+    /// The mode of an index and its running number there. Of twenty cases six are valid, two have an exec byte of their
+    /// own, six are near misses, three have two faults, one has a bad line and two are random bytes.
     fn mode_and_number(&self, index: u64) -> (Mode, u64) {
         let (round, turn) = (index / 20, index % 20);
         match (self.only, turn) {
             (Some(mode), _) => (mode, index),
-            (None, 0..=7) => (Mode::Valid, 0),
+            (None, 0..=5) => (Mode::Valid, 0),
+            (None, 6..=7) => (Mode::ExecBytes, 2 * round + turn - 6),
             (None, 8..=13) => (Mode::NearMiss, 6 * round + turn - 8),
             (None, 14..=16) => (Mode::TwoFaults, 3 * round + turn - 14),
             (None, 17) => (Mode::BadLines, round),
@@ -131,6 +137,7 @@ impl Generator {
         let (mode, number) = self.mode_and_number(index);
         match mode {
             Mode::Valid => valid::valid(&mut random),
+            Mode::ExecBytes => exec_bytes::exec_byte(&mut random, number),
             Mode::NearMiss => self.ways.near_miss(&mut random, number),
             Mode::TwoFaults => self.ways.two_faults(&mut random, number),
             Mode::BadLines => bad_lines::bad_lines(&mut random, number),

@@ -1,7 +1,8 @@
 //! The generator's report: how many cases of each mode and intended number, how many valid cases ran all
-//! their instructions, the numbers that are answered, the operands that they name, the rare places that are reached, and
-//! the mistakes that show.
+//! their instructions, the numbers that are answered, the operands that they name, the rare places that are reached, the
+//! exec bytes that the instructions meet, and the mistakes that show.
 
+use super::exec_reach::{met, Fate, Meeting, INSTRUCTIONS};
 use super::mistakes::{Judged, Mistake};
 use super::reach::{reached, Place};
 use super::{Generated, Mode};
@@ -20,6 +21,8 @@ pub struct Report {
     pub named: BTreeMap<(u8, usize), u64>,
     /// Cases that reach a rare place; one case may reach several.
     pub reached: BTreeMap<Place, u64>,
+    /// Instructions by opcode, exec byte and what becomes of them by it.
+    pub met: BTreeMap<(Meeting, Fate), u64>,
     /// Cases on which a program with a mistake answers wrongly.
     pub shown: BTreeMap<Mistake, u64>,
     pub valid: u64,
@@ -44,6 +47,9 @@ impl Report {
         for place in reached(&case.file, answer) {
             *self.reached.entry(place).or_default() += 1;
         }
+        for meeting in met(&case.file, answer) {
+            *self.met.entry(meeting).or_default() += 1;
+        }
         for mistake in Judged::of(&case.file, answer).mistakes() {
             *self.shown.entry(mistake).or_default() += 1;
         }
@@ -64,6 +70,12 @@ impl Report {
     /// How many cases reach a place.
     pub fn count_of(&self, place: Place) -> u64 {
         self.reached.get(&place).copied().unwrap_or_default()
+    }
+
+    /// How many exec bytes an instruction meets with a fate.
+    pub fn exec_bytes(&self, opcode: u8, fate: Fate) -> usize {
+        let is_such = |it: &&(Meeting, Fate)| it.0 .0 == opcode && it.1 == fate;
+        self.met.keys().filter(is_such).count()
     }
 
     /// On how many cases a mistake shows.
@@ -103,6 +115,14 @@ impl Display for Report {
         writeln!(to, "rare places reached:")?;
         for place in Place::ALL {
             writeln!(to, "  {:<34}{:>6}", place.name(), self.count_of(place))?;
+        }
+        writeln!(to, "exec bytes met: taken, over 32, reserved")?;
+        for (opcode, name) in INSTRUCTIONS {
+            write!(to, "  {name:<24}")?;
+            for fate in Fate::ALL {
+                write!(to, "{:>6}", self.exec_bytes(opcode, fate))?;
+            }
+            writeln!(to)?;
         }
         writeln!(to, "mistakes that show:")?;
         for mistake in Mistake::ALL {

@@ -10,7 +10,7 @@ use std::path::Path;
 use std::process::ExitCode;
 
 const USAGE: &str = "usage: cases [--seed S] [--count N] [--first I] [--mode MODE] [--folder DIR | --batch | --print]
-  --mode    valid, near-miss, two-faults, bad-lines or random-bytes; all mixed when absent
+  --mode    valid, exec-bytes, near-miss, two-faults, bad-lines or random-bytes; all mixed when absent
   --folder  write each case to a file of its own
   --batch   write all cases to standard output, in the batch framing
   --print   write the cases one after the other, as they are (with --count 1: one case file)

@@ -1,12 +1,15 @@
 //! A program of the tests: one of the programs with an interpreter or a line program that is wrong on purpose.
 //!
 //! `wrong WAY PROGRAM ARGUMENTS`, the way being one of `number`, `completed`, `taint`, `end`, `silent` and
-//! `panic`, for a verdict one of those in `verdicts`, and for a line program one of those in `lines`.
+//! `panic`, for a verdict one of those in `verdicts`, for a line program one of those in `lines`, and for the exec byte's
+//! table one of those in `exec_tables`.
 
+mod exec_tables;
 mod lines;
 mod verdicts;
 
 use reference::bench::{answer, bench};
+use reference::programs::compare_lines::Library;
 use reference::programs::{by_case, by_line, cases, compare, compare_lines, Interpreter};
 use reference::run::Answer;
 use std::process::ExitCode;
@@ -18,9 +21,17 @@ fn main() -> ExitCode {
     match program.as_str() {
         "listing" => return by_line::main("wrong", arguments, lines::listing(&way)),
         "assembler" => return by_line::main("wrong", arguments, lines::assembler(&way)),
+        "exec-table" => {
+            print!("{}", exec_tables::table(&way));
+            return ExitCode::SUCCESS;
+        }
         "compare-lines" => {
-            let (listing, assembler) = (lines::listing(&way), lines::assembler(&way));
-            return compare_lines::main(arguments, listing, assembler);
+            let library = Library {
+                listing: lines::listing(&way),
+                assembler: lines::assembler(&way),
+                exec_line: exec_tables::panics_where_reserved,
+            };
+            return compare_lines::main(arguments, library);
         }
         "verdict" => return by_case::main("verdict", arguments, verdicts::verdict(&way)),
         "cases" if way == "panic" => return cases::main(arguments, answer_panics_at_14),
