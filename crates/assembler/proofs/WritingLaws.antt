@@ -1,18 +1,15 @@
 -- The lines that are put out, written piece by piece.
 use mathlib.Core.Path.{_≡_, refl, sym, ap, _∙_}
 use mathlib.Core.List.{List, [], _∷_, _++_}
-use Prim.Native.Nat.{ℕ, zero, suc, _+_, _/_, _%_, _≤_, _<_}
-use native.Mathlib.Omega.{arith}
+use Prim.Native.Nat.{ℕ, _+_, _≤_, _<_}
 use native.Mathlib.Numerals.{add-one}
 use lib.ListN.{length, getD, drop, drop-of-length-le}
 use lib.Seq.{drop-cons}
-use borrow.Author.Tests.{lt-ltb}
-use Rattle.hex.specs.Digits.{characterOf}
 use Rattle.hex.specs.Bytes.{hexOf}
-use Rattle.hex.proofs.ByteLaws.{hex-none, hex-more, hex-append}
+use Rattle.hex.proofs.ByteLaws.{hex-none, hex-append}
 use Rattle.formats.specs.Text.{text}
 use Rattle.formats.specs.Words.{words, wordAt}
-use Rattle.formats.specs.Numerals.{digits, digitsOf}
+use Rattle.formats.specs.Numerals.{digitsOf}
 use Rattle.formats.specs.Writing.{wrote, written}
 use Rattle.formats.proofs.WritingLaws.{wrote-then, wrote-none, wrote-inside}
 use Rattle.line_blocks.specs.LinesOf.{lineEnd}

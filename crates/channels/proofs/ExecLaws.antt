@@ -12,9 +12,9 @@ use Rattle.channels.specs.Exec.{execReserved, execSize, maskControl, mas
 two-to : (k n : ℕ) → k ≤ n → 2 ^ k ≤ 2 ^ n
 two-to k n h = pow-le-pow-right {n = 2} (lit< tt) h
 
-second : (a b : Bool) → (a || b) ≡ false → b ≡ false
-second true b e = absurd (true≢false e)
-second false b e = e
+or-right : (a b : Bool) → (a || b) ≡ false → b ≡ false
+or-right true b e = absurd (true≢false e)
+or-right false b e = e
 
 pub exec-reserved : (exec : ℕ) → execReserved exec ≡ (eqb (exec / 8 % 2) 1 || leb 6 (exec % 8))
 unfolding execReserved bit bitField
@@ -37,7 +37,7 @@ module _ (exec : ℕ) (good : execReserved exec ≡ false) where
 
   code-under : exec % 8 ≤ 5
   code-under =
-      let e = leb-false 6 (exec % 8) (second (eqb (exec / 8 % 2) 1) (leb 6 (exec % 8)) (rw (exec-reserved exec) at good)) in
+      let e = leb-false 6 (exec % 8) (or-right (eqb (exec / 8 % 2) 1) (leb 6 (exec % 8)) (rw (exec-reserved exec) at good)) in
       omega (arith, e)
 
   pub size-some : 1 ≤ execSize exec

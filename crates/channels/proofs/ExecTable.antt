@@ -7,10 +7,10 @@ use native.Mathlib.Omega.{arith}
 use lib.Dec.{eqb, leb}
 use lib.ListN.{getD}
 use borrow.Author.Tests.{eqb-true, ne-eqb, le-leb, lt-leb}
-use Rattle.channels.specs.declared.Exec.{Exec}
 use Rattle.channels.specs.Below.{everyBelow}
 use Rattle.channels.specs.Exec.{execReserved, execSize, execOffset, noMask, execOf}
-use Rattle.channels.specs.ExecTable.{execCode, execCoded, entryAt}
+use Rattle.channels.specs.ExecTable.{execCode}
+use Rattle.channels.specs.mirror.Entries.{entryAt, execCoded}
 use Rattle.channels.proofs.Every.{every-each}
 use Rattle.channels.proofs.ExecLaws.{size-some, size-at-most, offset-at-most}
 

@@ -12,10 +12,7 @@ use Rattle.channels.specs.Predicate.{hasPredicate, predicateCombine, pre
 use Rattle.channels.specs.Lanes.{anyBit, allBits, combined, inverted, predicateAgrees, maskAllows, laneOn}
 use Rattle.channels.specs.mirror.Prepared.{combinedPredicate, predicateOf, lanesOf, agreesAt, isOn}
 use lib.Dec.{ltb, eqb}
-
-first : (a b : Bool) → (a && b) ≡ true → a ≡ true
-first true b e = refl
-first false b e = e
+use Rattle.channels.proofs.All.{left}
 
 module _ (bits place : ℕ) (inverse some every : Bool) where
   -- what is prepared: is there a predicate, is it any, is it all
@@ -57,7 +54,7 @@ lane-told exec pred mask bits n lanes on l o = o ∙ ap (λ (x : Lanes). isOn x 
 
 pub on-below-size : (exec pred mask bits n : ℕ) → laneOn exec pred mask bits n ≡ true → n < execSize exec
 unfolding laneOn
-on-below-size exec pred mask bits n e = ltb-true n (execSize exec) (first (ltb n (execSize exec)) _ e)
+on-below-size exec pred mask bits n e = ltb-true n (execSize exec) (left (ltb n (execSize exec)) _ e)
 
 pub off-past-size : (exec pred mask bits n : ℕ) → execSize exec ≤ n → laneOn exec pred mask bits n ≡ false
 unfolding laneOn

@@ -1,6 +1,7 @@
-// What each of the 256 exec bytes means, as one number: the table from which `exec_table` prints its page.
+// What each of the 256 exec bytes means, as one number.
 ghost use mathlib.Core.Path.{_≡_};
-ghost use Rattle.channels.specs.ExecTable.{execCode, entryAt};
+ghost use Rattle.channels.specs.ExecTable.{execCode};
+ghost use Rattle.channels.specs.mirror.Entries.{entryAt};
 
 const RESERVED: u16 = 0;
 
@@ -264,13 +265,13 @@ const EXEC_TABLE: [u16; 256] = [
     RESERVED, // ff
 ];
 
-// An entry of such a table.
 fn looked_up(table: &[u16; 256], exec: u8) -> u16
     ensures { λ r. ⌜ r ≡ entryAt (now (table .entry)) exec ⌝ }
 {
     table[exec as usize]
 }
 
+// The number of an exec byte, 0 for a reserved one.
 pub(crate) fn entry(exec: u8) -> u16
     ensures { λ r. ⌜ r ≡ execCode exec ⌝ }
 {

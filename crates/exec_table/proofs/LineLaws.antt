@@ -14,28 +14,32 @@ use Rattle.formats.specs.Text.{text}
 use Rattle.formats.specs.Words.{words, wordAt}
 use Rattle.formats.specs.Numerals.{digits, digitsOf}
 use Rattle.formats.specs.Writing.{wrote, written}
-use Rattle.formats.proofs.WritingLaws.{wrote-then, wrote-three, wrote-four, wrote-none, wrote-text}
+use Rattle.formats.proofs.WritingLaws.{wrote-then, wrote-none, wrote-text}
 use Rattle.channels.specs.declared.Exec.{Exec}
 use Rattle.channels.specs.Bits.{bit, bitField}
 use Rattle.channels.specs.Below.{everyBelow}
 use Rattle.channels.specs.Exec.{execReserved, execSize, maskControl, maskNumber, execOffset, noMask, execOf}
 use Rattle.channels.proofs.Every.{every-each}
-use Rattle.exec_table.specs.ExecLines.{lineEnd, meaningText, entryLine, linesBelow, execLines}
+use Rattle.exec_table.specs.ExecLines.{meaningText, entryLine, linesBelow, execLines}
 
 -- ---- written
 
-pub reserved-text : (e : Exec) → e .reserved ≡ true → meaningText e ≡ wordAt (words (text "reserved" ++ (0x0a ∷ 0x7c ∷ []))) 0
+-- how a line ends in a table of words
+abbrev feed : List ℕ
+feed = 0x0a ∷ 0x7c ∷ []
+
+pub reserved-text : (e : Exec) → e .reserved ≡ true → meaningText e ≡ wordAt (words (text "reserved" ++ feed)) 0
 unfolding meaningText words wordAt
 reserved-text e h = rw h
 
 -- how a line ends, with NM and without
 pub unmasked-text : (e : Exec) → e .reserved ≡ false → e .unmasked ≡ true
-    → meaningText e ≡ digitsOf 10 (e .size) ++ (wordAt (words (text " |")) 0 ++ (digitsOf 10 (e .offset) ++ wordAt (words (text " NM" ++ (0x0a ∷ 0x7c ∷ []))) 0))
+    → meaningText e ≡ digitsOf 10 (e .size) ++ (wordAt (words (text " |")) 0 ++ (digitsOf 10 (e .offset) ++ wordAt (words (text " NM" ++ feed)) 0))
 unfolding meaningText words wordAt
 unmasked-text e h u = rw (h, u)
 
 pub masked-text : (e : Exec) → e .reserved ≡ false → e .unmasked ≡ false
-    → meaningText e ≡ digitsOf 10 (e .size) ++ (wordAt (words (text " |")) 0 ++ (digitsOf 10 (e .offset) ++ wordAt (words (0x0a ∷ 0x7c ∷ [])) 0))
+    → meaningText e ≡ digitsOf 10 (e .size) ++ (wordAt (words (text " |")) 0 ++ (digitsOf 10 (e .offset) ++ wordAt (words feed) 0))
 unfolding meaningText words wordAt
 masked-text e h u = rw (h, u)
 

@@ -9,14 +9,11 @@ use Rattle.formats.specs.Numerals.{digitsOf}
 use Rattle.channels.specs.declared.Exec.{Exec}
 use Rattle.channels.specs.Exec.{execOf}
 
-abbrev pub lineEnd : List ℕ
-lineEnd = 0x0a ∷ []
-
 -- `reserved`, or `SIZE OFFSET` and ` NM` if so, and the line's end
 unfoldable pub meaningText : Exec → List ℕ
 meaningText e =
-    cond (e .reserved) (text "reserved" ++ lineEnd)
-    (digitsOf 10 (e .size) ++ (text " " ++ (digitsOf 10 (e .offset) ++ (cond (e .unmasked) (text " NM") [] ++ lineEnd))))
+    cond (e .reserved) (text "reserved" ++ (0x0a ∷ []))
+    (digitsOf 10 (e .size) ++ (text " " ++ (digitsOf 10 (e .offset) ++ (cond (e .unmasked) (text " NM") [] ++ (0x0a ∷ [])))))
 
 -- `94 16 4 NM`, `23 8 8`, `06 reserved`
 unfoldable pub entryLine : ℕ → List ℕ

@@ -1,6 +1,6 @@
 -- Each group of fields, field by field, and the number of bytes that it has at most.
-use mathlib.Core.Path.{_≡_, refl}
-use mathlib.Core.List.{[], _∷_}
+use mathlib.Core.Path.{_≡_, refl, subst}
+use mathlib.Core.List.{List, [], _∷_, _++_}
 use mathlib.Core.Bool.{Bool, true, false, cond}
 use Prim.Native.Nat.{ℕ}
 use native.Mathlib.Omega.{arith}
@@ -9,7 +9,11 @@ use Rattle.fields.specs.declared.TagRule.{TagRule}
 use Rattle.fields.specs.declared.ByteRule.{ByteRule}
 use Rattle.fields.specs.declared.ByteRule.the-variants as byte
 use Rattle.fields.specs.declared.WordRule.the-variants as word
+use Rattle.fields.specs.declared.Field.{Field}
 use Rattle.fields.specs.declared.Field.the-variants.{Byte, Word, Dword, Lacking}
+use Rattle.fields.specs.Rules.{byteRefusal}
+use Rattle.fields.specs.Layout.{fieldRefusal, layoutRefusal}
+use Rattle.fields.proofs.FirstRefusal.{good-append, good-one}
 use Rattle.fields.proofs.FieldLaws.{AtMost, at-most-nil, at-most-byte, at-most-word, at-most-dword, at-most-lacking}
 use Rattle.field_groups.specs.declared.Control.{Control}
 use Rattle.field_groups.specs.declared.General.{General}
@@ -26,6 +30,14 @@ use Rattle.field_groups.specs.Layout.{controlFields, highField, operandF
 pub control-fields : (rule : ByteRule) (x : Control) → controlFields rule x ≡ Byte rule (x .exec) ∷ Word word.Predicate (x .pred) ∷ []
 unfolding controlFields
 control-fields rule x = refl
+
+-- no field is refused, so the exec byte is not, whatever stands behind
+pub control-exec : (rule : ByteRule) (x : Control) (fs : List Field) → layoutRefusal (controlFields rule x ++ fs) ≡ 0 → byteRefusal rule (x .exec) ≡ 0
+unfolding fieldRefusal
+control-exec rule x fs g =
+    let exec = Byte rule (x .exec) in
+    let control = subst (λ (gs : List Field). layoutRefusal gs ≡ 0) (control-fields rule x) (good-append (controlFields rule x) fs g .0) in
+    good-one exec (good-append (exec ∷ []) (Word word.Predicate (x .pred) ∷ []) control .0)
 
 pub high-field : (code high : ℕ) → highField code high ≡ cond (hasHighWord code) (Dword high) (Lacking high)
 unfolding highField

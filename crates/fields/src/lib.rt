@@ -83,12 +83,11 @@ fn exec_good(v: u8) -> bool
 fn scatter_exec_good(v: u8) -> bool
     ensures { λ r. ⌜ r ≡ scatterExecGood v ⌝ }
 {
-    if exec_good(v) {
-        let exec = channels::split(v);
-        exec.size == 8 || exec.size == 16
-    } else {
-        false
+    let exec = channels::split(v);
+    if exec.reserved {
+        return false;
     }
+    exec.size == 8 || exec.size == 16
 }
 
 fn channels_good(v: u8) -> bool

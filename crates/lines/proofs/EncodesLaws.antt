@@ -8,6 +8,7 @@ use lib.Dec.{ltb, leb}
 use borrow.Author.Tests.{eq-eqb, ltb-true, leb-true, le-leb}
 use Rattle.little_endian.specs.LittleEndian.{Bytes}
 use Rattle.fields.specs.declared.TagRule.the-variants as tag
+use Rattle.fields.proofs.ExecGood.{judged-good}
 use Rattle.fields.specs.declared.ByteRule.the-variants as byte
 use Rattle.fields.specs.declared.WordRule.the-variants as word
 use Rattle.fields.specs.declared.Field.{Field}
@@ -30,7 +31,7 @@ use Rattle.operand_texts.specs.mirror.Operand.{operandFits}
 use Rattle.lines.specs.mirror.Bodies.{scalarAndRawsFit, shlFits, gatherFits, scatterFits, rawSendFits}
 use Rattle.lines.specs.mirror.Line.{predOf, bodyFits, lineFits}
 use Rattle.lines.proofs.FitLaws.{all-each, each-all, shlTests, gatherTests, scatterTests, rawSendTests}
-use Rattle.lines.proofs.TakenLaws.{TakenIf, taken-append, taken-encodes, judged-good, good-judged, control-alike, scatter-control-alike, raw-alike, destination-alike, source-alike, scalar-alike, access-alike, message-alike}
+use Rattle.lines.proofs.TakenLaws.{TakenIf, taken-append, taken-encodes, good-judged, control-alike, scatter-control-alike, raw-alike, destination-alike, source-alike, scalar-alike, access-alike, message-alike}
 
 -- two groups of fields, one after the other
 both-taken : {P Q : Type 0} {fs gs : List Field} → TakenIf fs P → TakenIf gs Q → TakenIf (fs ++ gs) (P × Q)

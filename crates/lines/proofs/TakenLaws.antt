@@ -16,6 +16,7 @@ use Rattle.fields.specs.declared.Field.{Field}
 use Rattle.fields.specs.declared.Field.the-variants.{Byte, Word, Dword, Lacking}
 use Rattle.fields.specs.Rules.{judged, execGood, scatterExecGood, predicateGood, regionGood, sourceCountGood, classGood, tagGood, tagRefusal, byteRefusal, wordRefusal}
 use Rattle.fields.specs.Layout.{fieldRefusal, layoutBytes, layoutRefusal}
+use Rattle.fields.proofs.ExecGood.{judged-good}
 use Rattle.fields.proofs.FirstRefusal.{none-refused, good-append, good-one}
 use Rattle.fields.specs.Told.{AllGood}
 use Rattle.fields.proofs.FieldLaws.{FieldFits, LayoutFits, layout-fits, fits-layout}
@@ -87,11 +88,6 @@ pub record TakenIf (fs : List Field) (Q : Type 0) : Type 0 where
   pub from : Q → Taken fs
 
 -- ---- tests
-
-pub judged-good : (b : Bool) → judged b 3 ≡ 0 → b ≡ true
-unfolding judged
-judged-good true e = refl
-judged-good false e = absurd (omega (arith, e))
 
 pub good-judged : (b : Bool) → b ≡ true → judged b 3 ≡ 0
 unfolding judged

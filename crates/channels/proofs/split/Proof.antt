@@ -1,7 +1,7 @@
 -- `channels::split` meets its contract: it takes the table's entry apart.
 use borrow.Author.Needs.{needs}
 use mathlib.Core.Path.{_∙_, ap}
-use Rattle.channels.specs.ExecTable.{execCoded}
+use Rattle.channels.specs.mirror.Entries.{execCoded}
 use Rattle.channels.proofs.ExecTable.{uncoded}
 use Rattle.channels.proofs.split.Statement.{statement}
 use Rattle.channels.proofs.split.Tie as tie

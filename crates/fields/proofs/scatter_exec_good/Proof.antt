@@ -3,25 +3,27 @@ use mathlib.Core.Path.{ap}
 use borrow.Author.Needs.{needs}
 use borrow.Author.Tests.{eq-eqb, ne-eqb}
 use Rattle.channels.specs.declared.Exec.{Exec}
-use Rattle.fields.specs.Rules.{scatterExecGood}
+use Rattle.fields.specs.Rules.{execGood, scatterExecGood}
 use Rattle.fields.proofs.scatter_exec_good.Statement.{statement}
 use Rattle.fields.proofs.scatter_exec_good.Tie as tie
 
 returns : tie.Need-returns
-unfolding scatterExecGood
-returns c =
-    let a = c .before .before in
-    rw (← a .before .before .exec-good .ensures, a .before .if1 .taken, ← ap (λ (e : Exec). e .size) (a .split .ensures), eq-eqb _ _ (c .if2 .taken))
+unfolding scatterExecGood execGood
+returns c = rw (← ap (λ (e : Exec). e .reserved) (c .before .split .ensures), c .if1 .taken)
 
 returns-2 : tie.Need-returns-2
-unfolding scatterExecGood
+unfolding scatterExecGood execGood
 returns-2 c =
-    let a = c .before .before .before in
-    rw (← a .before .before .exec-good .ensures, a .before .if1 .taken, ← ap (λ (e : Exec). e .size) (a .split .ensures), ne-eqb _ _ (c .before .if2 .left))
+    let good = c .before .before in
+    let parts = good .before .split .ensures in
+    rw (← ap (λ (e : Exec). e .reserved) parts, good .if1 .left, ← ap (λ (e : Exec). e .size) parts, eq-eqb _ _ (c .if2 .taken))
 
 returns-3 : tie.Need-returns-3
-unfolding scatterExecGood
-returns-3 c = rw (← c .before .exec-good .ensures, c .if1 .left)
+unfolding scatterExecGood execGood
+returns-3 c =
+    let good = c .before .before .before in
+    let parts = good .before .split .ensures in
+    rw (← ap (λ (e : Exec). e .reserved) parts, good .if1 .left, ← ap (λ (e : Exec). e .size) parts, ne-eqb _ _ (c .before .if2 .left))
 
 pub scatter-exec-good-spec : {M : Type 1} → statement M
-scatter-exec-good-spec = tie.close (tie.spec (λ c κs. search needs) (λ c κs. search needs) returns returns-2 returns-3)
+scatter-exec-good-spec = tie.close (tie.spec (λ c κs. search needs) returns returns-2 returns-3)

@@ -1,5 +1,4 @@
 -- `formats::put_byte` meets its contract: its two digits are written one after another.
-use native.Mathlib.Omega.{arith}
 use borrow.Author.Needs.{needs}
 use mathlib.Core.Path.{refl}
 use Rattle.hex.specs.Bytes.{hexOf}

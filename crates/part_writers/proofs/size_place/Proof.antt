@@ -1,4 +1,4 @@
--- `part_writers::size_place` meets its contract: at each return, what the calls and tests on the way say picks the case of `sizePlace`.
+-- `part_writers::size_place` meets its contract: at each return, the tests on the way pick the case of `sizePlace`.
 use borrow.Author.Tests.{eq-eqb, ne-eqb}
 use Rattle.text_parts.specs.mirror.Exec.{sizePlace}
 use Rattle.part_writers.proofs.size_place.Statement.{statement}

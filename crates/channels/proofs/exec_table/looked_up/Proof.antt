@@ -1,7 +1,7 @@
 -- `channels::exec_table::looked_up` meets its contract.
 use borrow.Author.Needs.{needs}
 use mathlib.Core.Path.{refl}
-use Rattle.channels.specs.ExecTable.{entryAt}
+use Rattle.channels.specs.mirror.Entries.{entryAt}
 use Rattle.channels.proofs.exec_table.looked_up.Statement.{statement}
 use Rattle.channels.proofs.exec_table.looked_up.Tie as tie
 
