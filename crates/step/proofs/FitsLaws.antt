@@ -9,7 +9,7 @@ use native.Mathlib.Omega.{arith}
 use Rattle.little_endian.specs.LittleEndian.{Bytes}
 use Rattle.reader.specs.declared.Cursor.{Cursor}
 use Rattle.reader.specs.Reply.{got}
-use Rattle.fields.proofs.ScatterExec.{EightOrSixteen}
+use Rattle.fields.proofs.ExecGood.{EightOrSixteen}
 use Rattle.decoder.specs.declared.Instruction.{Instruction}
 use Rattle.decoder.specs.declared.Instruction.the-variants as instruction
 use Rattle.decoder.specs.declared.Decoded.{Decoded}
