@@ -1,7 +1,7 @@
 -- Laws of `laneOn`: the prepared lanes answer it, lanes past the size are off, and without a predicate its bits do not matter.
 use Prim.Native.Nat.{ℕ, _+_, _≤_, _<_}
 use mathlib.Core.Path.{_≡_, refl, ap, _∙_}
-use mathlib.Core.Bool.{Bool, true, false, cond, _&&_}
+use mathlib.Core.Bool.{Bool, true, false, cond}
 use borrow.Author.Tests.{le-ltb, ltb-true}
 use Rattle.channels.specs.declared.Predicate.{Predicate}
 use Rattle.channels.specs.declared.Predicate.the-variants as predicate

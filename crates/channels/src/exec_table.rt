@@ -265,6 +265,7 @@ const EXEC_TABLE: [u16; 256] = [
     RESERVED, // ff
 ];
 
+// The array is handed over, so that the proof of `entry` can name it and test it whole.
 fn looked_up(table: &[u16; 256], exec: u8) -> u16
     ensures { λ r. ⌜ r ≡ entryAt (now (table .entry)) exec ⌝ }
 {
