@@ -8,7 +8,7 @@ use lib.ListN.{replicate}
 use Rattle.element_types.specs.Types.{UD, UW, UB, F, UQ, sizeOf, isListed}
 use Rattle.element_types.proofs.Sizes.{sizes, size-listed, unlisted}
 use Rattle.tables.specs.declared.Lengths.{Lengths}
-use Rattle.tables.specs.Lengths.{registersGood, addressesGood, taintGood, lengthsGood}
+use Rattle.tables.specs.Lengths.{registerSizeGood, registersGood, addressesGood, taintGood, lengthsGood}
 use Rattle.channels.specs.Below.{everyBelow}
 use Rattle.tables.specs.Variables.{variables, lineGood, variableGood, variableGoodAt, variablesGood}
 use Rattle.tables.specs.Predicates.{predicates, countGood, countGoodAt, predicatesGood}
@@ -18,16 +18,20 @@ use Rattle.tables.specs.Tables.{Tables, tables, tablesGood}
 empty : Tables
 empty = tables (variables [] [] []) (predicates [] []) (surfaces [])
 
-lengths : ℕ → ℕ → ℕ → ℕ → ℕ → Lengths
-lengths kernel registers surfaceBytes memory base =
+sized : ℕ → ℕ → ℕ → ℕ → ℕ → ℕ → Lengths
+sized registerSize kernel registers surfaceBytes memory base =
     record {
       kernel = kernel;
       registers = registers;
       surfaces = surfaceBytes;
       memory = memory;
       base = base;
+      «register_size» = registerSize;
       taint = record { registers = registers; surfaces = surfaceBytes; memory = memory };
     }
+
+lengths : ℕ → ℕ → ℕ → ℕ → ℕ → Lengths
+lengths = sized 32
 
 -- buffers alone
 buffers : ℕ → ℕ → ℕ → ℕ → Bool
@@ -43,13 +47,22 @@ tainted registers surfaceBytes memory =
       surfaces = 10;
       memory = 8;
       base = 0;
+      «register_size» = 32;
       taint = record { registers = registers; surfaces = surfaceBytes; memory = memory };
     })
     (tables (variables [] [] []) (predicates [] []) (surfaces (10 ∷ [])))
 
--- one variable in a file of 64 bytes
+-- one variable in a file of so many bytes, with registers of this size
+variableIn : ℕ → ℕ → ℕ → ℕ → ℕ → Bool
+variableIn registerSize registers code start count =
+    tablesGood (sized registerSize 0 registers 0 0 0) (tables (variables (code ∷ []) (start ∷ []) (count ∷ [])) (predicates [] []) (surfaces []))
+
 variable : ℕ → ℕ → ℕ → Bool
-variable code start count = tablesGood (lengths 0 64 0 0 0) (tables (variables (code ∷ []) (start ∷ []) (count ∷ [])) (predicates [] []) (surfaces []))
+variable = variableIn 32 64
+
+-- no variable
+file : ℕ → ℕ → Bool
+file registerSize registers = tablesGood (sized registerSize 0 registers 0 0 0) empty
 
 -- variables of one byte, as many as the three slices say
 byteVariables : ℕ → ℕ → ℕ → Bool
@@ -80,7 +93,7 @@ lengths-at-edges : (buffers 0 0 0 0 ≡ true)
     × (tainted 31 10 8 ≡ false)
     × (tainted 32 11 8 ≡ false)
     × (tainted 32 10 0 ≡ false)
-unfolding empty lengths buffers tainted registersGood addressesGood taintGood lengthsGood everyBelow variablesGood countGood countGoodAt predicatesGood surfaceLength surfaceStart surfaceGoodAt surfacesGood tablesGood
+unfolding empty sized lengths buffers tainted registerSizeGood registersGood addressesGood taintGood lengthsGood everyBelow variablesGood countGood countGoodAt predicatesGood surfaceLength surfaceStart surfaceGoodAt surfacesGood tablesGood
 lengths-at-edges = (refl, refl, refl, refl, refl, refl, refl, refl, refl, refl, refl, refl, refl, refl)
 
 variables-at-edges : (variable UD 32 8 ≡ true)
@@ -97,7 +110,7 @@ variables-at-edges : (variable UD 32 8 ≡ true)
     × (variable UQ 4 1 ≡ false)
     × (variable F 0 1 ≡ true)
     × (variable 6 0 1 ≡ false)
-unfolding lengths variable registersGood addressesGood taintGood lengthsGood everyBelow lineGood variableGood variableGoodAt variablesGood countGood countGoodAt predicatesGood surfaceStart surfacesGood tablesGood
+unfolding sized lengths variableIn variable registerSizeGood registersGood addressesGood taintGood lengthsGood everyBelow lineGood variableGood variableGoodAt variablesGood countGood countGoodAt predicatesGood surfaceStart surfacesGood tablesGood
 variables-at-edges =
     simp (
       listed UD 3 (sizes .ud),
@@ -113,6 +126,27 @@ variables-at-edges =
       sizes .f,
     )
     (refl, refl, refl, refl, refl, refl, refl, refl, refl, refl, refl, refl, refl, refl)
+
+-- document 02, request 5: the same at either size, and sizes that no card has
+sizes-at-edges : (variableIn 32 128 UD 32 16 ≡ true)
+    × (variableIn 64 128 UD 32 16 ≡ false)
+    × (variableIn 32 128 UD 16 8 ≡ false)
+    × (variableIn 64 128 UD 16 8 ≡ true)
+    × (variableIn 32 128 UB 31 2 ≡ false)
+    × (variableIn 64 128 UB 31 2 ≡ true)
+    × (variableIn 64 128 UB 63 2 ≡ false)
+    × (file 32 96 ≡ true)
+    × (file 64 96 ≡ false)
+    × (file 64 4096 ≡ true)
+    × (file 64 4160 ≡ false)
+    × (file 0 0 ≡ false)
+    × (file 16 64 ≡ false)
+    × (file 48 96 ≡ false)
+    × (file 128 128 ≡ false)
+unfolding empty sized variableIn file registerSizeGood registersGood addressesGood taintGood lengthsGood everyBelow lineGood variableGood variableGoodAt variablesGood countGood countGoodAt predicatesGood surfaceStart surfacesGood tablesGood
+sizes-at-edges =
+    simp (listed UD 3 (sizes .ud), listed UB 0 (sizes .ub), sizes .ud, sizes .ub)
+    (refl, refl, refl, refl, refl, refl, refl, refl, refl, refl, refl, refl, refl, refl, refl)
 
 tables-at-edges : (byteVariables 256 256 256 ≡ true)
     × (byteVariables 257 257 257 ≡ false)
@@ -132,6 +166,6 @@ tables-at-edges : (byteVariables 256 256 256 ≡ true)
     × (surfacesIn 17 (10 ∷ 0 ∷ 6 ∷ []) ≡ false)
     × (surfacesIn 8 (replicate 8 1) ≡ true)
     × (surfacesIn 9 (replicate 9 1) ≡ false)
-unfolding lengths byteVariables manyPredicates surfacesIn registersGood addressesGood taintGood lengthsGood everyBelow lineGood variableGood variableGoodAt variablesGood countGood countGoodAt predicatesGood surfaceLength surfaceStart surfaceGoodAt surfacesGood tablesGood
+unfolding sized lengths byteVariables manyPredicates surfacesIn registerSizeGood registersGood addressesGood taintGood lengthsGood everyBelow lineGood variableGood variableGoodAt variablesGood countGood countGoodAt predicatesGood surfaceLength surfaceStart surfaceGoodAt surfacesGood tablesGood
 tables-at-edges =
     simp (listed UB 0 (sizes .ub), sizes .ub) (refl, refl, refl, refl, refl, refl, refl, refl, refl, refl, refl, refl, refl, refl, refl, refl, refl, refl)

@@ -25,7 +25,7 @@ pub record Counted (t : Tables) : Type 0 where
   pub surfaces-few : length (t .surfaces .lengths) ≤ 8
 
 module _ (l : Lengths) (t : Tables) (good : tablesGood l t ≡ true) where
-  tests : All4 (lengthsGood l) (variablesGood (l .registers) (t .variables)) (predicatesGood (t .predicates))
+  tests : All4 (lengthsGood l) (variablesGood (l .«register_size») (l .registers) (t .variables)) (predicatesGood (t .predicates))
       (surfacesGood (l .surfaces) (t .surfaces))
   unfolding tablesGood
   tests = all4 _ _ _ _ good
@@ -37,16 +37,16 @@ module _ (l : Lengths) (t : Tables) (good : tablesGood l t ≡ true) where
   counted =
       let v = tests .second in
       record {
-        variables-few = placement.variables-few _ _ v;
-        starts-length = placement.starts-length _ _ v;
-        counts-length = placement.counts-length _ _ v;
+        variables-few = placement.variables-few _ _ _ v;
+        starts-length = placement.starts-length _ _ _ v;
+        counts-length = placement.counts-length _ _ _ v;
         predicates-few = counts.predicates-few (t .predicates) (tests .third);
         predicate-counts-length = counts.counts-length (t .predicates) (tests .third);
         surfaces-few = places.surfaces-few _ _ (tests .fourth);
       }
 
-  pub placed : (k : ℕ) → k < length (t .variables .types) → Placed (l .registers) (getD (t .variables .types) k 0) (getD (t .variables .starts) k 0) (getD (t .variables .counts) k 0)
-  placed = placement.variable-placed _ _ (tests .second)
+  pub placed : (k : ℕ) → k < length (t .variables .types) → Placed (l .«register_size») (l .registers) (getD (t .variables .types) k 0) (getD (t .variables .starts) k 0) (getD (t .variables .counts) k 0)
+  placed = placement.variable-placed _ _ _ (tests .second)
 
   pub predicate-count : (k : ℕ) → k < length (t .predicates .bits) → (1 ≤ getD (t .predicates .counts) k 0) × (getD (t .predicates .counts) k 0 ≤ 32)
   predicate-count = counts.count-within (t .predicates) (tests .third)

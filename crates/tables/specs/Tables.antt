@@ -19,6 +19,6 @@ tables variables predicates surfaces = record { variables = variables; predicate
 unfoldable pub tablesGood : Lengths → Tables → Bool
 tablesGood l t =
     lengthsGood l
-    && variablesGood (l .registers) (t .variables)
+    && variablesGood (l .«register_size») (l .registers) (t .variables)
     && predicatesGood (t .predicates)
     && surfacesGood (l .surfaces) (t .surfaces)

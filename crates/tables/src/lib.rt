@@ -2,15 +2,13 @@
 ghost use mathlib.Core.Path.{_≡_};
 ghost use Prim.Native.Nat.{_+_, _<_, _≤_};
 ghost use lib.ListN.{length, getD};
-ghost use Rattle.tables.specs.Lengths.{registersGood, addressesGood, taintGood, lengthsGood};
+ghost use Rattle.tables.specs.Lengths.{registerSizeGood, chosenSize, registersGood, addressesGood, taintGood, lengthsGood};
 ghost use Rattle.channels.specs.Below.{everyBelow};
 ghost use Rattle.tables.specs.Variables.{lineGood, variableGood, variableGoodAt, variablesGood};
 ghost use Rattle.tables.specs.Predicates.{predicateAt, countGood, countGoodAt, predicatesGood};
 ghost use Rattle.tables.specs.Surfaces.{surfaceLength, surfaceStart, surfaceGoodAt, surfacesGood};
 ghost use Rattle.tables.specs.Tables.{tables, tablesGood};
 ghost use Rattle.tables.specs.Borrowed.{variableTable, predicateTable, surfaceTable};
-
-pub const REGISTER_SIZE: usize = 32;
 
 const LAST_ADDRESS: u64 = 18446744073709551615;
 
@@ -21,20 +19,35 @@ pub struct TaintLengths {
     pub memory: usize,
 }
 
-// The lengths of the caller's buffers, and the address of the first byte of memory.
+// The lengths of the caller's buffers, the address of the first byte of memory, and the bytes of a register.
 pub struct Lengths {
     pub kernel: usize,
     pub registers: usize,
     pub surfaces: usize,
     pub memory: usize,
     pub base: u64,
+    pub register_size: u8,
     pub taint: TaintLengths,
 }
 
-fn registers_good(bytes: usize) -> bool
-    ensures { λ r. ⌜ r ≡ registersGood bytes ⌝ }
+fn register_size_good(register_size: u8) -> bool
+    ensures { λ r. ⌜ r ≡ registerSizeGood «register_size» ⌝ }
 {
-    bytes % REGISTER_SIZE == 0 && bytes <= 4096
+    (register_size == 32) | (register_size == 64)
+}
+
+// The bytes of a register, 64 or 32, in a run that chose this number; 13 comes before any number but these two is used.
+pub fn chosen_size(number: u8) -> u8
+    ensures { λ r. ⌜ r ≡ chosenSize number ⌝ }
+{
+    if number == 64 { 64 } else { 32 }
+}
+
+fn registers_good(register_size: usize, bytes: usize) -> bool
+    requires { ⌜ 0 < «register_size» ⌝ }
+    ensures { λ r. ⌜ r ≡ registersGood «register_size» bytes ⌝ }
+{
+    bytes % register_size == 0 && bytes <= 4096
 }
 
 // The last byte of memory, if there is one, has an address.
@@ -63,7 +76,10 @@ fn taint_good(lengths: Lengths) -> bool
 fn lengths_good(lengths: Lengths) -> bool
     ensures { λ r. ⌜ r ≡ lengthsGood lengths ⌝ }
 {
-    if !registers_good(lengths.registers) {
+    if !register_size_good(lengths.register_size) {
+        return false;
+    }
+    if !registers_good(lengths.register_size as usize, lengths.registers) {
         return false;
     }
     if 4096 < lengths.kernel {
@@ -79,18 +95,19 @@ fn lengths_good(lengths: Lengths) -> bool
 }
 
 // A long variable starts a register; the first and the last byte of a short one lie in the same register.
-fn line_good(start: usize, bytes: usize) -> bool
-    requires { ⌜ (0 < bytes) × (start + bytes ≤ 4294967296) ⌝ }
-    ensures { λ r. ⌜ r ≡ lineGood start bytes ⌝ }
+fn line_good(register_size: usize, start: usize, bytes: usize) -> bool
+    requires { ⌜ (0 < «register_size») × (0 < bytes) × (start + bytes ≤ 4294967296) ⌝ }
+    ensures { λ r. ⌜ r ≡ lineGood «register_size» start bytes ⌝ }
 {
-    if REGISTER_SIZE <= bytes {
-        return start % REGISTER_SIZE == 0;
+    if register_size <= bytes {
+        return start % register_size == 0;
     }
-    start / REGISTER_SIZE == (start + bytes - 1) / REGISTER_SIZE
+    start / register_size == (start + bytes - 1) / register_size
 }
 
-fn variable_good(registers: usize, code: u8, start: u16, count: u16) -> bool
-    ensures { λ r. ⌜ r ≡ variableGood registers code start count ⌝ }
+fn variable_good(register_size: usize, registers: usize, code: u8, start: u16, count: u16) -> bool
+    requires { ⌜ 0 < «register_size» ⌝ }
+    ensures { λ r. ⌜ r ≡ variableGood «register_size» registers code start count ⌝ }
 {
     if !element_types::is_listed(code) {
         return false;
@@ -107,16 +124,22 @@ fn variable_good(registers: usize, code: u8, start: u16, count: u16) -> bool
     if first % size != 0 {
         return false;
     }
-    line_good(first, bytes)
+    line_good(register_size, first, bytes)
 }
 
-fn every_variable_good(registers: usize, types: &[u8], starts: &[u16], counts: &[u16]) -> bool
-    requires { ⌜ (length (now starts) ≡ length (now types)) × (length (now counts) ≡ length (now types)) ⌝ }
-    ensures { λ r. ⌜ r ≡ everyBelow (length (now (types .entry))) (variableGoodAt registers (variableTable types starts counts)) ⌝ }
+fn every_variable_good(
+    register_size: usize,
+    registers: usize,
+    types: &[u8],
+    starts: &[u16],
+    counts: &[u16],
+) -> bool
+    requires { ⌜ (0 < «register_size») × (length (now starts) ≡ length (now types)) × (length (now counts) ≡ length (now types)) ⌝ }
+    ensures { λ r. ⌜ r ≡ everyBelow (length (now (types .entry))) (variableGoodAt «register_size» registers (variableTable types starts counts)) ⌝ }
 {
     let mut i = 0;
     while i < types.len() {
-        if !variable_good(registers, types[i], starts[i], counts[i]) {
+        if !variable_good(register_size, registers, types[i], starts[i], counts[i]) {
             return false;
         }
         i += 1;
@@ -124,8 +147,15 @@ fn every_variable_good(registers: usize, types: &[u8], starts: &[u16], counts: &
     true
 }
 
-fn variables_good(registers: usize, types: &[u8], starts: &[u16], counts: &[u16]) -> bool
-    ensures { λ r. ⌜ r ≡ variablesGood registers (variableTable types starts counts) ⌝ }
+fn variables_good(
+    register_size: usize,
+    registers: usize,
+    types: &[u8],
+    starts: &[u16],
+    counts: &[u16],
+) -> bool
+    requires { ⌜ 0 < «register_size» ⌝ }
+    ensures { λ r. ⌜ r ≡ variablesGood «register_size» registers (variableTable types starts counts) ⌝ }
 {
     if 256 < types.len() {
         return false;
@@ -136,7 +166,7 @@ fn variables_good(registers: usize, types: &[u8], starts: &[u16], counts: &[u16]
     if counts.len() != types.len() {
         return false;
     }
-    every_variable_good(registers, types, starts, counts)
+    every_variable_good(register_size, registers, types, starts, counts)
 }
 
 // Whether a predicate is in the table, its bits, and how many of them are its elements.
@@ -265,7 +295,13 @@ pub fn tables_good(
     if !lengths_good(lengths) {
         return false;
     }
-    if !variables_good(lengths.registers, types, starts, counts) {
+    if !variables_good(
+        lengths.register_size as usize,
+        lengths.registers,
+        types,
+        starts,
+        counts,
+    ) {
         return false;
     }
     if !predicates_good(predicate_bits, predicate_counts) {

@@ -15,14 +15,14 @@ use Rattle.tables.proofs.every_variable_good.Statement.{statement}
 use Rattle.tables.proofs.every_variable_good.Tie as tie
 
 abbrev Inv-loop : tie.InvT-loop
-Inv-loop registers types starts counts i₀ i = (i ≤ length types) × (everyBelow i (variableGoodAt registers (variables types starts counts)) ≡ true)
+Inv-loop registerSize registers types starts counts i₀ i = (i ≤ length types) × (everyBelow i (variableGoodAt registerSize registers (variables types starts counts)) ≡ true)
 
 abbrev μ-loop : tie.MeasureT-loop
-μ-loop registers types starts counts i₀ i = length types - i
+μ-loop registerSize registers types starts counts i₀ i = length types - i
 
-at : (registers : ℕ) (types starts counts : List ℕ) (k : ℕ) (answer truth : Bool) → answer ≡ variableGood registers (getD types k 0) (getD starts k 0) (getD counts k 0) → answer ≡ truth → variableGoodAt registers (variables types starts counts) k ≡ truth
+at : (registerSize registers : ℕ) (types starts counts : List ℕ) (k : ℕ) (answer truth : Bool) → answer ≡ variableGood registerSize registers (getD types k 0) (getD starts k 0) (getD counts k 0) → answer ≡ truth → variableGoodAt registerSize registers (variables types starts counts) k ≡ truth
 unfolding variableGoodAt
-at registers types starts counts k answer truth e f = sym e ∙ f
+at registerSize registers types starts counts k answer truth e f = sym e ∙ f
 
 loop-holds : tie.Need-loop-holds Inv-loop μ-loop
 loop-holds c = (omega arith, every-none _)
@@ -31,13 +31,13 @@ returns : tie.Need-returns Inv-loop μ-loop
 returns c =
     let v = c .before .variable-good in
     let l = c .before .before .before .before .before .before .loop in
-    sym (every-fails _ _ (l .i) (c .before .before .before .before .before .loop-test .taken) (at _ _ _ _ (l .i) _ _ (v .ensures) (not-true (v .result) (c .if1 .taken))))
+    sym (every-fails _ _ (l .i) (c .before .before .before .before .before .loop-test .taken) (at _ _ _ _ _ (l .i) _ _ (v .ensures) (not-true (v .result) (c .if1 .taken))))
 
 loop-again : tie.Need-loop-again Inv-loop μ-loop
 loop-again c =
     let v = c .before .variable-good in
     let l = c .before .before .before .before .before .before .loop in
-    (omega arith, every-next _ (l .i) (l .inv .1) (at _ _ _ _ (l .i) _ _ (v .ensures) (not-false (v .result) (c .if1 .left))))
+    (omega arith, every-next _ (l .i) (l .inv .1) (at _ _ _ _ _ (l .i) _ _ (v .ensures) (not-false (v .result) (c .if1 .left))))
 
 returns-2 : tie.Need-returns-2 Inv-loop μ-loop
 returns-2 c =

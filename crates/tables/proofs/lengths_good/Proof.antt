@@ -1,51 +1,77 @@
 -- `tables::lengths_good` meets its contract: at each return, what the calls and tests on the way say picks the case of `Lengths`.
 use borrow.Author.Needs.{needs}
 use borrow.Author.Tests.{le-leb, lt-leb, not-true, not-false}
+use mathlib.Core.Path.{sym, _∙_}
 use Rattle.tables.specs.Lengths.{lengthsGood}
+use Rattle.tables.proofs.Limits.{size-some}
 use Rattle.tables.proofs.lengths_good.Statement.{statement}
 use Rattle.tables.proofs.lengths_good.Tie as tie
 
 returns : tie.Need-returns
 unfolding lengthsGood
 returns c =
-    let a = c .before in
-    rw (← a .registers-good .ensures, not-true (a .registers-good .result) (c .if1 .taken))
+    let size : tie.After-register-size-good = search c in
+    rw (← size .register-size-good .ensures, not-true (size .register-size-good .result) (c .if1 .taken))
+
+registers-good-requires : tie.Need-registers-good-requires
+registers-good-requires c κs =
+    let chosen : tie.Else1 = search c in
+    let size : tie.After-register-size-good = search chosen in
+    size-some _ (sym (size .register-size-good .ensures) ∙ not-false (size .register-size-good .result) (chosen .if1 .left))
 
 returns-2 : tie.Need-returns-2
 unfolding lengthsGood
 returns-2 c =
-    let a = c .before .before in
-    let b = a .before in
-    rw (← b .registers-good .ensures, not-false (b .registers-good .result) (a .if1 .left), lt-leb _ _ (c .if2 .taken))
+    let file : tie.After-registers-good = search c in
+    let chosen : tie.Else1 = search file in
+    let size : tie.After-register-size-good = search chosen in
+    rw (← size .register-size-good .ensures, not-false (size .register-size-good .result) (chosen .if1 .left), ← file .registers-good .ensures, not-true (file .registers-good .result) (c .if2 .taken))
 
 returns-3 : tie.Need-returns-3
 unfolding lengthsGood
 returns-3 c =
-    let a = c .before .before in
-    let b = a .before .before in
-    let d = b .before in
-    rw (← d .registers-good .ensures, not-false (d .registers-good .result) (b .if1 .left), le-leb _ _ (a .if2 .left), lt-leb _ _ (c .if3 .taken))
+    let whole : tie.Else2 = search c in
+    let file : tie.After-registers-good = search whole in
+    let chosen : tie.Else1 = search file in
+    let size : tie.After-register-size-good = search chosen in
+    rw (← size .register-size-good .ensures, not-false (size .register-size-good .result) (chosen .if1 .left), ← file .registers-good .ensures, not-false (file .registers-good .result) (whole .if2 .left), lt-leb _ _ (c .if3 .taken))
 
 returns-4 : tie.Need-returns-4
 unfolding lengthsGood
 returns-4 c =
-    let a = c .before in
-    let b = a .before in
-    let d = b .before .before in
-    let e = d .before .before in
-    let f = e .before in
-    rw (← f .registers-good .ensures, not-false (f .registers-good .result) (e .if1 .left), le-leb _ _ (d .if2 .left), le-leb _ _ (b .if3 .left), ← a .addresses-good .ensures, not-true (a .addresses-good .result) (c .if4 .taken))
+    let kernel : tie.Else3 = search c in
+    let whole : tie.Else2 = search kernel in
+    let file : tie.After-registers-good = search whole in
+    let chosen : tie.Else1 = search file in
+    let size : tie.After-register-size-good = search chosen in
+    rw (← size .register-size-good .ensures, not-false (size .register-size-good .result) (chosen .if1 .left), ← file .registers-good .ensures, not-false (file .registers-good .result) (whole .if2 .left), le-leb _ _ (kernel .if3 .left), lt-leb _ _ (c .if4 .taken))
 
 returns-5 : tie.Need-returns-5
 unfolding lengthsGood
 returns-5 c =
-    let a = c .before in
-    let b = a .before in
-    let d = b .before in
-    let e = d .before .before in
-    let f = e .before .before in
-    let g = f .before in
-    rw (← g .registers-good .ensures, not-false (g .registers-good .result) (f .if1 .left), le-leb _ _ (e .if2 .left), le-leb _ _ (d .if3 .left), ← b .addresses-good .ensures, not-false (b .addresses-good .result) (a .if4 .left), ← c .taint-good .ensures)
+    let addresses : tie.After-addresses-good = search c in
+    let memory : tie.Else4 = search addresses in
+    let kernel : tie.Else3 = search memory in
+    let whole : tie.Else2 = search kernel in
+    let file : tie.After-registers-good = search whole in
+    let chosen : tie.Else1 = search file in
+    let size : tie.After-register-size-good = search chosen in
+    rw (← size .register-size-good .ensures, not-false (size .register-size-good .result) (chosen .if1 .left), ← file .registers-good .ensures, not-false (file .registers-good .result) (whole .if2 .left), le-leb _ _ (kernel .if3 .left), le-leb _ _ (memory .if4 .left), ← addresses .addresses-good .ensures, not-true (addresses .addresses-good .result) (c .if5 .taken))
+
+returns-6 : tie.Need-returns-6
+unfolding lengthsGood
+returns-6 c =
+    let inside : tie.Else5 = search c in
+    let addresses : tie.After-addresses-good = search inside in
+    let memory : tie.Else4 = search addresses in
+    let kernel : tie.Else3 = search memory in
+    let whole : tie.Else2 = search kernel in
+    let file : tie.After-registers-good = search whole in
+    let chosen : tie.Else1 = search file in
+    let size : tie.After-register-size-good = search chosen in
+    rw (← size .register-size-good .ensures, not-false (size .register-size-good .result) (chosen .if1 .left), ← file .registers-good .ensures, not-false (file .registers-good .result) (whole .if2 .left), le-leb _ _ (kernel .if3 .left), le-leb _ _ (memory .if4 .left), ← addresses .addresses-good .ensures, not-false (addresses .addresses-good .result) (inside .if5 .left), ← c .taint-good .ensures)
 
 pub lengths-good-spec : {M : Type 1} → statement M
-lengths-good-spec = tie.close (tie.spec (λ c κs. search needs) returns returns-2 returns-3 (λ c κs. search needs) returns-4 (λ c κs. search needs) returns-5)
+lengths-good-spec =
+    tie.close
+    (tie.spec (λ c κs. search needs) returns (λ c. search needs) registers-good-requires returns-2 returns-3 returns-4 (λ c κs. search needs) returns-5 (λ c κs. search needs) returns-6)

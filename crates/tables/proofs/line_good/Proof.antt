@@ -17,4 +17,4 @@ returns-2 c =
     rw (lt-leb _ _ (c .if1 .left)) refl
 
 pub line-good-spec : {M : Type 1} → statement M
-line-good-spec = tie.close (tie.spec returns (λ c. search needs) (λ c. search needs) returns-2)
+line-good-spec = tie.close (tie.spec (λ c. search needs) returns (λ c. search needs) (λ c. search needs) (λ c. search needs) (λ c. search needs) returns-2)

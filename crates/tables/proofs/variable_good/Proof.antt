@@ -70,7 +70,7 @@ line-good-requires c κs =
     let s = c .before .before .size-of in
     let n = a .before .args .count in
     let some = size-some _ (s .result) (a .is-listed .result) (a .is-listed .ensures) (c .before .before .before .before .if1 .left) (s .ensures) in
-    (bytes-some n (s .result) (c .before .before .before .if2 .left) some, omega (arith, bytes-small n (s .result) (omega arith) (omega arith)))
+    (a .before .pre, bytes-some n (s .result) (c .before .before .before .if2 .left) some, omega (arith, bytes-small n (s .result) (omega arith) (omega arith)))
 
 returns-5 : tie.Need-returns-5
 unfolding variableGood
