@@ -21,18 +21,18 @@ number-of true x y = refl
 number-of false x y = refl
 
 -- past the test of its type, a General operand has the number of its region
-general-number : (o : Role) (r : TypeRule) (lanes : ℕ) (g : General) (v : Variable) → typeAllowed r (v .code) ≡ true → generalOf o r lanes g v .number ≡ regionNumber o lanes g v
+general-number : (registerSize : ℕ) (o : Role) (r : TypeRule) (lanes : ℕ) (g : General) (v : Variable) → typeAllowed r (v .code) ≡ true → generalOf registerSize o r lanes g v .number ≡ regionNumber registerSize o lanes g v
 unfolding generalOf registerElements refusedOperand
-general-number o r lanes g v allowed = rw (number-of, number-of, number-of, allowed)
+general-number registerSize o r lanes g v allowed = rw (number-of, number-of, number-of, allowed)
 
 words-allowed : typeAllowed rule.Shift UW ≡ true
 unfolding typeAllowed shiftType
 words-allowed = refl
 
 -- UW elements as SHL's operands
-general-at-edges : Edges (λ o lanes g count. generalOf o rule.Shift lanes g (words count) .number)
+general-at-edges : Edges (λ o lanes g count. generalOf 32 o rule.Shift lanes g (words count) .number)
 general-at-edges =
-    subst Edges (fun-ext (λ o. fun-ext (λ lanes. fun-ext (λ g. fun-ext (λ count. sym (general-number o rule.Shift lanes g (words count) words-allowed))))))
+    subst Edges (fun-ext (λ o. fun-ext (λ lanes. fun-ext (λ g. fun-ext (λ count. sym (general-number 32 o rule.Shift lanes g (words count) words-allowed))))))
     regions-at-edges
 
 raw-number : (r : TypeRule) (bytes offset : ℕ) (v : Variable) (size : ℕ) → sizeOf (v .code) ≡ size

@@ -39,9 +39,9 @@ use Rattle.operands.proofs.AllowedLaws.{RuleSize, rule-size}
 use Rattle.operands.proofs.SizeLaws.{vector-sized, raw-sized}
 
 -- every variable of the table lies in a register file of this length, as good tables say
-abbrev pub AllPlaced : ℕ → Variables → Type 0
-AllPlaced registers t =
-    (k : ℕ) → k < length (t .types) → Placed registers (getD (t .types) k 0) (getD (t .starts) k 0) (getD (t .counts) k 0)
+abbrev pub AllPlaced : ℕ → ℕ → Variables → Type 0
+AllPlaced registerSize registers t =
+    (k : ℕ) → k < length (t .types) → Placed registerSize registers (getD (t .types) k 0) (getD (t .starts) k 0) (getD (t .counts) k 0)
 
 -- the elements of so many lanes lie in the register file
 abbrev pub Inside : ℕ → ℕ → Elements → Type 0
@@ -63,12 +63,12 @@ pub record Apart (e : Elements) : Type 0 where
   pub each : (j k : ℕ) → j < k → k < 32 → getD (e .at) j 0 + e .size ≤ getD (e .at) k 0
 
 -- an element inside its variable lies in the file
-element-inside : (registers code start count element : ℕ) → Placed registers code start count → element < count → start + element * sizeOf code + sizeOf code ≤ registers
-element-inside registers code start count element p h =
+element-inside : (registerSize registers code start count element : ℕ) → Placed registerSize registers code start count → element < count → start + element * sizeOf code + sizeOf code ≤ registers
+element-inside registerSize registers code start count element p h =
     let m : element + 1 ≤ count = omega arith in
     omega (arith, p .inside, mul-le-mul-right (sizeOf code) m)
 
-module _ (registers : ℕ) where
+module _ (registerSize registers : ℕ) where
   register-inside : (lanes code : ℕ) (byte : ℕ → ℕ) → lanes ≤ 32 → ((k : ℕ) → k < lanes → byte k + sizeOf code ≤ registers)
       → Inside registers lanes (registerElements code byte .elements)
   unfolding registerElements
@@ -78,16 +78,16 @@ module _ (registers : ℕ) where
   abbrev Fine : ℕ → Located → Type 0
   Fine lanes l = l .number ≡ 0 → Inside registers lanes (l .elements)
 
-  general-fine : (o : Role) (r : TypeRule) (lanes : ℕ) (g : General) (v : Variable) → lanes ≤ 32 → Placed registers (v .code) (v .start) (v .count)
-      → Fine lanes (generalOf o r lanes g v)
+  general-fine : (o : Role) (r : TypeRule) (lanes : ℕ) (g : General) (v : Variable) → lanes ≤ 32 → Placed registerSize registers (v .code) (v .start) (v .count)
+      → Fine lanes (generalOf registerSize o r lanes g v)
   unfolding generalOf refusedOperand
   general-fine o r lanes g v few p =
-      let f = elementOf o g (sizeOf (v .code)) in
+      let f = elementOf registerSize o g (sizeOf (v .code)) in
       cond-either (Fine lanes) (not (typeAllowed r (v .code))) (λ _ z. absurd (omega (arith, z)))
       (λ _. cond-either (Fine lanes) (ltb 0 (regionRefusal o (g .region) lanes)) (λ b z. absurd (omega (arith, ltb-true 0 (regionRefusal o (g .region) lanes) b, z)))
-      (λ _. cond-either (Fine lanes) (not (elementsGood v f lanes)) (λ _ z. absurd (omega (arith, z)))
+      (λ _. cond-either (Fine lanes) (not (elementsGood registerSize v f lanes)) (λ _ z. absurd (omega (arith, z)))
       (λ e _. register-inside lanes (v .code) (elementByte (v .start) (sizeOf (v .code)) f) few
-      (λ k l. rw (byte-of (v .start) (sizeOf (v .code)) f k) (element-inside registers (v .code) (v .start) (v .count) (f k) p (elements-inside v f lanes (not-false _ e) k l))))))
+      (λ k l. rw (byte-of (v .start) (sizeOf (v .code)) f k) (element-inside registerSize registers (v .code) (v .start) (v .count) (f k) p (elements-inside registerSize v f lanes (not-false _ e) k l))))))
 
   -- an immediate has no place in the registers
   immediate-fine : (lanes : ℕ) (r : TypeRule) (i : Immediate) → Fine lanes (immediateOf r i)
@@ -103,7 +103,7 @@ module _ (registers : ℕ) where
   immediate-in-fine role.Destination lanes r i = λ z. absurd (omega (arith, z))
 
   raw-fine : (r : TypeRule) (lanes bytes offset : ℕ) (v : Variable) → lanes ≤ 32 → ((size : ℕ) → RuleSize r size → lanes * size ≤ bytes)
-      → Placed registers (v .code) (v .start) (v .count) → Fine lanes (rawOf r bytes offset v)
+      → Placed registerSize registers (v .code) (v .start) (v .count) → Fine lanes (rawOf r bytes offset v)
   unfolding rawOf refusedOperand rawGood
   raw-fine r lanes bytes offset v few room p =
       let size = sizeOf (v .code) in
@@ -121,7 +121,7 @@ module _ (registers : ℕ) where
         p .inside,
       ))))
 
-  raw-consecutive : (r : TypeRule) (bytes offset : ℕ) (v : Variable) → Placed registers (v .code) (v .start) (v .count)
+  raw-consecutive : (r : TypeRule) (bytes offset : ℕ) (v : Variable) → Placed registerSize registers (v .code) (v .start) (v .count)
       → rawOf r bytes offset v .number ≡ 0 → Consecutive registers bytes (rawOf r bytes offset v .elements)
   unfolding rawOf refusedOperand rawGood registerElements
   raw-consecutive r bytes offset v p =
@@ -136,17 +136,17 @@ module _ (registers : ℕ) where
         next = λ k l. omega (arith, at 0 (omega arith), at k l);
       }))
 
-  module _ (t : Variables) (all : AllPlaced registers t) where
-    vector-fine : (o : Role) (r : TypeRule) (exec : ℕ) (x : Operand) → execSize exec ≤ 32 → Fine (execSize exec) (locatedVector t o r exec x)
+  module _ (t : Variables) (all : AllPlaced registerSize registers t) where
+    vector-fine : (o : Role) (r : TypeRule) (exec : ℕ) (x : Operand) → execSize exec ≤ 32 → Fine (execSize exec) (locatedVector registerSize t o r exec x)
     unfolding locatedVector locatedGeneral inTable variableAt refusedOperand
     vector-fine o r exec (operand.General g) few =
         cond-either (Fine (execSize exec)) (not (ltb (g .index) (length (t .types)))) (λ _ z. absurd (omega (arith, z)))
         (λ e. general-fine o r (execSize exec) g (variableAt t (g .index)) few (all (g .index) (ltb-true _ _ (not-false _ e))))
     vector-fine o r exec (operand.Immediate i) few = immediate-in-fine o (execSize exec) r i
 
-    pub vector-accepted : (o : Role) (r : TypeRule) (exec : ℕ) (x : Operand) → execSize exec ≤ 32 → locatedVector t o r exec x .number ≡ 0
-        → Accepted registers (execSize exec) r (locatedVector t o r exec x .elements)
-    vector-accepted o r exec x few z = record { size = vector-sized r t o exec x z; inside = vector-fine o r exec x few z }
+    pub vector-accepted : (o : Role) (r : TypeRule) (exec : ℕ) (x : Operand) → execSize exec ≤ 32 → locatedVector registerSize t o r exec x .number ≡ 0
+        → Accepted registers (execSize exec) r (locatedVector registerSize t o r exec x .elements)
+    vector-accepted o r exec x few z = record { size = vector-sized r registerSize t o exec x z; inside = vector-fine o r exec x few z }
 
     raw-in-fine : (r : TypeRule) (lanes bytes : ℕ) (x : Raw) → lanes ≤ 32 → ((size : ℕ) → RuleSize r size → lanes * size ≤ bytes)
         → Fine lanes (locatedRaw t r bytes x)
@@ -166,26 +166,26 @@ module _ (registers : ℕ) where
         (λ _ z. absurd (omega (arith, z)))
         (λ e. raw-consecutive r bytes (x .offset) (variableAt t (x .index)) (all (x .index) (ltb-true _ _ (not-false _ e))))
 
-general-apart : (r : TypeRule) (lanes : ℕ) (g : General) (v : Variable) → generalOf role.Destination r lanes g v .number ≡ 0
-    → Apart (generalOf role.Destination r lanes g v .elements)
+general-apart : (registerSize : ℕ) (r : TypeRule) (lanes : ℕ) (g : General) (v : Variable) → generalOf registerSize role.Destination r lanes g v .number ≡ 0
+    → Apart (generalOf registerSize role.Destination r lanes g v .elements)
 unfolding generalOf refusedOperand registerElements
-general-apart r lanes g v =
+general-apart registerSize r lanes g v =
     let P : Located → Type 0 = λ l. l .number ≡ 0 → Apart (l .elements) in
     let size = sizeOf (v .code) in
-    let f = elementOf role.Destination g size in
+    let f = elementOf registerSize role.Destination g size in
     let at = position-of (elementByte (v .start) size f) in
     cond-either P (not (typeAllowed r (v .code))) (λ _ z. absurd (omega (arith, z)))
     (λ _. cond-either P (ltb 0 (regionRefusal role.Destination (g .region) lanes)) (λ b z. absurd (omega (arith, ltb-true 0 (regionRefusal role.Destination (g .region) lanes) b, z)))
-    (λ e. cond-either P (not (elementsGood v f lanes)) (λ _ z. absurd (omega (arith, z)))
+    (λ e. cond-either P (not (elementsGood registerSize v f lanes)) (λ _ z. absurd (omega (arith, z)))
     (λ _ _. record {
       in-registers = refl;
-      each = λ j k l m. rw (at j (omega arith), at k m) (regions.destination-apart g lanes (v .start) size j k (unbroken-allowed role.Destination (g .region) lanes e) l);
+      each = λ j k l m. rw (at j (omega arith), at k m) (regions.destination-apart registerSize g lanes (v .start) size j k (unbroken-allowed role.Destination (g .region) lanes e) l);
     })))
 
-pub destination-apart : (t : Variables) (r : TypeRule) (exec : ℕ) (x : Operand) → locatedVector t role.Destination r exec x .number ≡ 0
-    → Apart (locatedVector t role.Destination r exec x .elements)
+pub destination-apart : (registerSize : ℕ) (t : Variables) (r : TypeRule) (exec : ℕ) (x : Operand) → locatedVector registerSize t role.Destination r exec x .number ≡ 0
+    → Apart (locatedVector registerSize t role.Destination r exec x .elements)
 unfolding locatedVector locatedGeneral locatedImmediate refusedOperand
-destination-apart t r exec (operand.General g) =
+destination-apart registerSize t r exec (operand.General g) =
     cond-either (λ (l : Located). l .number ≡ 0 → Apart (l .elements)) (not (inTable t (g .index))) (λ _ z. absurd (omega (arith, z)))
-    (λ _. general-apart r (execSize exec) g (variableAt t (g .index)))
-destination-apart t r exec (operand.Immediate i) = λ z. absurd (omega (arith, z))
+    (λ _. general-apart registerSize r (execSize exec) g (variableAt t (g .index)))
+destination-apart registerSize t r exec (operand.Immediate i) = λ z. absurd (omega (arith, z))

@@ -48,12 +48,12 @@ module _ (r : TypeRule) where
   typed : (code : ℕ) (l : Located) → (RuleSize r (sizeOf code) → Sized l) → Sized (cond (not (typeAllowed r code)) (refusedOperand 4) l)
   typed code l sized = cond-either Sized (not (typeAllowed r code)) (λ _. refusal-sized 4 (omega arith)) (λ a. sized (rule-size code r (not-false _ a)))
 
-  general-sized : (o : Role) (lanes : ℕ) (g : General) (v : Variable) → Sized (generalOf o r lanes g v)
+  general-sized : (registerSize : ℕ) (o : Role) (lanes : ℕ) (g : General) (v : Variable) → Sized (generalOf registerSize o r lanes g v)
   unfolding generalOf registerElements
-  general-sized o lanes g v =
+  general-sized registerSize o lanes g v =
       typed (v .code) _ (λ size.
       told (regionRefusal o (g .region) lanes) _
-      (past (not (elementsGood v (elementOf o g (sizeOf (v .code))) lanes)) 7 _ (omega arith) (λ _. size)))
+      (past (not (elementsGood registerSize v (elementOf registerSize o g (sizeOf (v .code))) lanes)) 7 _ (omega arith) (λ _. size)))
 
   immediate-sized : (i : Immediate) → Sized (immediateOf r i)
   unfolding immediateOf immediateElement
@@ -69,10 +69,10 @@ module _ (r : TypeRule) where
   unfolding rawOf registerElements
   raw-of-sized bytes offset v = typed (v .code) _ (λ size. past (not (rawGood v offset bytes)) 7 _ (omega arith) (λ _. size))
 
-  pub vector-sized : (t : Variables) (o : Role) (exec : ℕ) (x : Operand) → Sized (locatedVector t o r exec x)
+  pub vector-sized : (registerSize : ℕ) (t : Variables) (o : Role) (exec : ℕ) (x : Operand) → Sized (locatedVector registerSize t o r exec x)
   unfolding locatedVector locatedGeneral
-  vector-sized t o exec (operand.General g) = past (not (inTable t (g .index))) 5 _ (omega arith) (general-sized o (execSize exec) g (variableAt t (g .index)))
-  vector-sized t o exec (operand.Immediate i) = immediate-in-sized o i
+  vector-sized registerSize t o exec (operand.General g) = past (not (inTable t (g .index))) 5 _ (omega arith) (general-sized registerSize o (execSize exec) g (variableAt t (g .index)))
+  vector-sized registerSize t o exec (operand.Immediate i) = immediate-in-sized o i
 
   pub raw-sized : (t : Variables) (bytes : ℕ) (x : Raw) → Sized (locatedRaw t r bytes x)
   unfolding locatedRaw

@@ -25,18 +25,18 @@ use Rattle.operands.specs.Variables.{inTable, variableAt}
 use Rattle.operands.specs.Elements.{registerElements, immediateElement, refusedOperand}
 
 -- a General operand of a variable in the table: 4, 20 to 25, 7
-unfoldable pub generalOf : Role → TypeRule → ℕ → General → Variable → Located
-generalOf role rule lanes g v =
+unfoldable pub generalOf : ℕ → Role → TypeRule → ℕ → General → Variable → Located
+generalOf registerSize role rule lanes g v =
     cond (not (typeAllowed rule (v .code))) (refusedOperand 4)
     (cond (ltb 0 (regionRefusal role (g .region) lanes)) (refusedOperand (regionRefusal role (g .region) lanes))
-    (cond (not (elementsGood v (elementOf role g (sizeOf (v .code))) lanes)) (refusedOperand 7)
-    (registerElements (v .code) (elementByte (v .start) (sizeOf (v .code)) (elementOf role g (sizeOf (v .code)))))))
+    (cond (not (elementsGood registerSize v (elementOf registerSize role g (sizeOf (v .code))) lanes)) (refusedOperand 7)
+    (registerElements (v .code) (elementByte (v .start) (sizeOf (v .code)) (elementOf registerSize role g (sizeOf (v .code)))))))
 
 -- 5, then the others
-unfoldable pub locatedGeneral : Variables → Role → TypeRule → ℕ → General → Located
-locatedGeneral t role rule exec g =
+unfoldable pub locatedGeneral : ℕ → Variables → Role → TypeRule → ℕ → General → Located
+locatedGeneral registerSize t role rule exec g =
     cond (not (inTable t (g .index))) (refusedOperand 5)
-    (generalOf role rule (execSize exec) g (variableAt t (g .index)))
+    (generalOf registerSize role rule (execSize exec) g (variableAt t (g .index)))
 
 -- an Immediate source: 4
 unfoldable pub immediateOf : TypeRule → Immediate → Located
@@ -51,9 +51,9 @@ locatedImmediate role.Scalar rule i = immediateOf rule i
 locatedImmediate role.Destination rule i = refusedOperand 4
 
 -- a vector operand or a scalar
-unfoldable pub locatedVector : Variables → Role → TypeRule → ℕ → Operand → Located
-locatedVector t role rule exec (operand.General g) = locatedGeneral t role rule exec g
-locatedVector t role rule exec (operand.Immediate i) = locatedImmediate role rule i
+unfoldable pub locatedVector : ℕ → Variables → Role → TypeRule → ℕ → Operand → Located
+locatedVector registerSize t role rule exec (operand.General g) = locatedGeneral registerSize t role rule exec g
+locatedVector registerSize t role rule exec (operand.Immediate i) = locatedImmediate role rule i
 
 -- "it lies in its variable and its offset is a multiple of the element size"
 unfoldable pub rawGood : Variable → ℕ → ℕ → Bool

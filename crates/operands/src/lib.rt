@@ -112,13 +112,14 @@ fn variable_at(types: &[u8], starts: &[u16], counts: &[u16], index: u16) -> Vari
 
 // 4, 20 to 25, 7 of a General operand, or its elements.
 fn locate_general(
+    register_size: u8,
     role: Role,
     rule: TypeRule,
     lanes: u8,
     general: General,
     variable: Variable,
 ) -> Located
-    ensures { λ r. ⌜ r ≡ generalOf role rule lanes general variable ⌝ }
+    ensures { λ r. ⌜ r ≡ generalOf «register_size» role rule lanes general variable ⌝ }
 {
     let code = variable.code;
     if !type_allowed(rule, code) {
@@ -128,7 +129,7 @@ fn locate_general(
     if 0 < broken {
         return refused(broken);
     }
-    if !regions::elements_good(role, general, variable, lanes) {
+    if !regions::elements_good(register_size, role, general, variable, lanes) {
         return refused(7);
     }
     let elements = Elements {
@@ -136,7 +137,7 @@ fn locate_general(
         signed: element_types::is_signed(code),
         immediate: false,
         value: 0,
-        at: regions::element_positions(role, general, variable),
+        at: regions::element_positions(register_size, role, general, variable),
     };
     Located {
         number: 0,
@@ -190,6 +191,7 @@ fn immediate_in(role: Role, rule: TypeRule, immediate: Immediate) -> Located
 }
 
 fn general_in(
+    register_size: u8,
     types: &[u8],
     starts: &[u16],
     counts: &[u16],
@@ -198,18 +200,19 @@ fn general_in(
     exec: u8,
     general: General,
 ) -> Located
-    ensures { λ r. ⌜ r ≡ locatedGeneral (variableTable types starts counts) role rule exec general ⌝ }
+    ensures { λ r. ⌜ r ≡ locatedGeneral «register_size» (variableTable types starts counts) role rule exec general ⌝ }
 {
     if !((general.index as usize) < types.len()) {
         return refused(5);
     }
     let lanes = channels::split(exec).size;
     let variable = variable_at(types, starts, counts, general.index);
-    locate_general(role, rule, lanes, general, variable)
+    locate_general(register_size, role, rule, lanes, general, variable)
 }
 
 // A vector operand or a scalar of an instruction with this exec byte.
 pub fn locate_vector(
+    register_size: u8,
     types: &[u8],
     starts: &[u16],
     counts: &[u16],
@@ -218,10 +221,19 @@ pub fn locate_vector(
     exec: u8,
     operand: Operand,
 ) -> Located
-    ensures { λ r. ⌜ r ≡ locatedVector (variableTable types starts counts) role rule exec operand ⌝ }
+    ensures { λ r. ⌜ r ≡ locatedVector «register_size» (variableTable types starts counts) role rule exec operand ⌝ }
 {
     match operand {
-        Operand::General(general) => general_in(types, starts, counts, role, rule, exec, general),
+        Operand::General(general) => general_in(
+            register_size,
+            types,
+            starts,
+            counts,
+            role,
+            rule,
+            exec,
+            general,
+        ),
         Operand::Immediate(immediate) => immediate_in(role, rule, immediate),
     }
 }

@@ -9,14 +9,14 @@ use Rattle.field_groups.specs.declared.General.{General}
 use Rattle.regions.specs.declared.Role.{Role}
 use Rattle.regions.specs.declared.Role.the-variants as role
 use Rattle.regions.specs.declared.Variable.{Variable}
-use Rattle.regions.specs.Regions.{verticalCode, widthCode, horizontalCode, strideOf, between, scalarRegionGood, firstElement, sourceElement, elementOf}
+use Rattle.regions.specs.Regions.{verticalCode, widthCode, horizontalCode, strideOf, between, scalarRegionGood, rowElements, firstElement, sourceElement, elementOf}
 use Rattle.regions.specs.RegionRules.{isNumber, standsFor, widthZeroOr32, strideOverFour, widthOverExecSize, destinationStrideZero, nullOutOfPlace, scalarRegionWrong, firstBroken, regionRefusal}
 use Rattle.regions.specs.Reach.{lowest, highest, twoRegisters, reachGood, elementsGood}
 use Rattle.regions.proofs.ReachLaws.{inside-highest}
 
 -- 20 to 25, 7 or 0, by the tests of a region
-abbrev pub regionNumber : Role → ℕ → General → Variable → ℕ
-regionNumber o lanes g v = cond (ltb 0 (regionRefusal o (g .region) lanes)) (regionRefusal o (g .region) lanes) (cond (not (elementsGood v (elementOf o g (sizeOf (v .code))) lanes)) 7 0)
+abbrev pub regionNumber : ℕ → Role → ℕ → General → Variable → ℕ
+regionNumber registerSize o lanes g v = cond (ltb 0 (regionRefusal o (g .region) lanes)) (regionRefusal o (g .region) lanes) (cond (not (elementsGood registerSize v (elementOf registerSize o g (sizeOf (v .code))) lanes)) 7 0)
 
 -- <V;W,H> by codes, from row and column 0
 abbrev pub region : ℕ → ℕ → ℕ → General
@@ -56,41 +56,64 @@ Edges number =
     × (number role.Destination 8 (region 0 0 0) 8 ≡ 24)
 
 -- the number by what is computed
-computed : Role → ℕ → General → ℕ → ℕ
-computed o lanes g count =
-    let f = elementOf o g 2 in
-    cond (ltb 0 (regionRefusal o (g .region) lanes)) (regionRefusal o (g .region) lanes) (cond (not ((eqb lanes 0 || ltb (highest f lanes) count) && reachGood f lanes 0 2)) 7 0)
+computed : ℕ → Role → ℕ → General → ℕ → ℕ
+computed registerSize o lanes g count =
+    let f = elementOf registerSize o g 2 in
+    cond (ltb 0 (regionRefusal o (g .region) lanes)) (regionRefusal o (g .region) lanes) (cond (not ((eqb lanes 0 || ltb (highest f lanes) count) && reachGood registerSize f lanes 0 2)) 7 0)
 
-number-is : (o : Role) (lanes : ℕ) (g : General) (count : ℕ) → regionNumber o lanes g (words count) ≡ computed o lanes g count
+number-is : (registerSize : ℕ) (o : Role) (lanes : ℕ) (g : General) (count : ℕ) → regionNumber registerSize o lanes g (words count) ≡ computed registerSize o lanes g count
 unfolding computed elementsGood
-number-is o lanes g count = rw (sizes .uw, ← inside-highest (elementOf o g 2) count lanes)
+number-is registerSize o lanes g count = rw (sizes .uw, ← inside-highest (elementOf registerSize o g 2) count lanes)
 
-pub regions-at-edges : Edges (λ o lanes g count. regionNumber o lanes g (words count))
-unfolding computed verticalCode widthCode horizontalCode strideOf between scalarRegionGood isNumber standsFor widthZeroOr32 strideOverFour widthOverExecSize destinationStrideZero nullOutOfPlace scalarRegionWrong firstBroken regionRefusal firstElement sourceElement elementOf lowest highest twoRegisters reachGood
+pub regions-at-edges : Edges (λ o lanes g count. regionNumber 32 o lanes g (words count))
+unfolding computed verticalCode widthCode horizontalCode strideOf between scalarRegionGood isNumber standsFor widthZeroOr32 strideOverFour widthOverExecSize destinationStrideZero nullOutOfPlace scalarRegionWrong firstBroken regionRefusal rowElements firstElement sourceElement elementOf lowest highest twoRegisters reachGood
 regions-at-edges = (
-  number-is role.Source 16 (region 6 5 3) 31,
-  number-is role.Source 16 (region 6 5 3) 30,
-  number-is role.Source 4 (region 6 5 3) 64,
-  number-is role.Source 32 (region 6 7 3) 128,
-  number-is role.Source 8 (region 5 7 5) 64,
-  number-is role.Source 8 (region 0 1 2) 64,
-  number-is role.Source 16 (region 6 5 5) 64,
-  number-is role.Source 8 (region 5 6 5) 64,
-  number-is role.Source 8 (region 5 0 5) 64,
-  number-is role.Source 8 (region 0 6 2) 64,
-  number-is role.Source 16 (region 6 0 3) 64,
-  number-is role.Source 16 (region 0 5 3) 64,
-  number-is role.Source 8 (region 5 5 0) 64,
-  number-is role.Source 2 (region 7 2 1) 64,
-  number-is role.Scalar 16 (region 1 2 1) 1,
-  number-is role.Scalar 16 (region 1 2 2) 64,
-  number-is role.Scalar 1 (region 5 7 5) 64,
-  number-is role.Destination 8 (region 0 0 2) 8,
-  number-is role.Destination 8 (region 0 0 2) 7,
-  number-is role.Destination 8 (region 5 0 7) 64,
-  number-is role.Destination 8 (region 0 5 1) 8,
-  number-is role.Destination 8 (region 1 0 2) 8,
-  number-is role.Destination 8 (region 0 7 2) 8,
-  number-is role.Destination 8 (region 0 6 2) 8,
-  number-is role.Destination 8 (region 0 0 0) 8,
+  number-is 32 role.Source 16 (region 6 5 3) 31,
+  number-is 32 role.Source 16 (region 6 5 3) 30,
+  number-is 32 role.Source 4 (region 6 5 3) 64,
+  number-is 32 role.Source 32 (region 6 7 3) 128,
+  number-is 32 role.Source 8 (region 5 7 5) 64,
+  number-is 32 role.Source 8 (region 0 1 2) 64,
+  number-is 32 role.Source 16 (region 6 5 5) 64,
+  number-is 32 role.Source 8 (region 5 6 5) 64,
+  number-is 32 role.Source 8 (region 5 0 5) 64,
+  number-is 32 role.Source 8 (region 0 6 2) 64,
+  number-is 32 role.Source 16 (region 6 0 3) 64,
+  number-is 32 role.Source 16 (region 0 5 3) 64,
+  number-is 32 role.Source 8 (region 5 5 0) 64,
+  number-is 32 role.Source 2 (region 7 2 1) 64,
+  number-is 32 role.Scalar 16 (region 1 2 1) 1,
+  number-is 32 role.Scalar 16 (region 1 2 2) 64,
+  number-is 32 role.Scalar 1 (region 5 7 5) 64,
+  number-is 32 role.Destination 8 (region 0 0 2) 8,
+  number-is 32 role.Destination 8 (region 0 0 2) 7,
+  number-is 32 role.Destination 8 (region 5 0 7) 64,
+  number-is 32 role.Destination 8 (region 0 5 1) 8,
+  number-is 32 role.Destination 8 (region 1 0 2) 8,
+  number-is 32 role.Destination 8 (region 0 7 2) 8,
+  number-is 32 role.Destination 8 (region 0 6 2) 8,
+  number-is 32 role.Destination 8 (region 0 0 0) 8,
+)
+
+-- the first element of a row
+abbrev pub rowStart : ℕ → General
+rowStart row = record { index = 0; row = row; column = 0; region = 1 + 16 * 2 + 256 * 1 }
+
+-- document 02, request 5: two registers of 64 bytes hold the elements 0 to 46 of <32;8,2>, and row 2 begins with element 64 of a UW variable
+pub regions-at-either-size : (regionNumber 32 role.Source 16 (region 7 5 3) (words 64) ≡ 7)
+    × (regionNumber 64 role.Source 16 (region 7 5 3) (words 64) ≡ 0)
+    × (regionNumber 64 role.Source 16 (region 7 5 3) (words 46) ≡ 7)
+    × (regionNumber 64 role.Source 32 (region 7 5 3) (words 128) ≡ 7)
+    × (regionNumber 32 role.Scalar 1 (rowStart 2) (words 33) ≡ 0)
+    × (regionNumber 64 role.Scalar 1 (rowStart 2) (words 64) ≡ 7)
+    × (regionNumber 64 role.Scalar 1 (rowStart 2) (words 65) ≡ 0)
+unfolding computed verticalCode widthCode horizontalCode strideOf between scalarRegionGood isNumber standsFor widthZeroOr32 strideOverFour widthOverExecSize destinationStrideZero nullOutOfPlace scalarRegionWrong firstBroken regionRefusal rowElements firstElement sourceElement elementOf lowest highest twoRegisters reachGood
+regions-at-either-size = (
+  number-is 32 role.Source 16 (region 7 5 3) 64,
+  number-is 64 role.Source 16 (region 7 5 3) 64,
+  number-is 64 role.Source 16 (region 7 5 3) 46,
+  number-is 64 role.Source 32 (region 7 5 3) 128,
+  number-is 32 role.Scalar 1 (rowStart 2) 33,
+  number-is 64 role.Scalar 1 (rowStart 2) 64,
+  number-is 64 role.Scalar 1 (rowStart 2) 65,
 )

@@ -19,18 +19,18 @@ none n low high two three four five six = omega arith
 scaled : (first k stride : ℕ) → first + k / 1 * stride + k % 1 * 0 ≡ first + k * stride
 scaled first k stride = rw (div-one k, mod-one k) (omega arith)
 
-grid-is : (r : Role) (g : General) (size k : ℕ) → gridElement (gridOf r g size) k ≡ elementOf r g size k
+grid-is : (registerSize : ℕ) (r : Role) (g : General) (size k : ℕ) → gridElement (gridOf registerSize r g size) k ≡ elementOf registerSize r g size k
 unfolding gridElement gridOf elementOf sourceElement
-grid-is role.Source g size k = refl
-grid-is role.Scalar g size k = omega arith
-grid-is role.Destination g size k = scaled _ k _
+grid-is registerSize role.Source g size k = refl
+grid-is registerSize role.Scalar g size k = omega arith
+grid-is registerSize role.Destination g size k = scaled _ k _
 
-pub grid-elements : (r : Role) (g : General) (size : ℕ) → gridElement (gridOf r g size) ≡ elementOf r g size
-grid-elements r g size = fun-ext (grid-is r g size)
+pub grid-elements : (registerSize : ℕ) (r : Role) (g : General) (size : ℕ) → gridElement (gridOf registerSize r g size) ≡ elementOf registerSize r g size
+grid-elements registerSize r g size = fun-ext (grid-is registerSize r g size)
 
 -- as the code learns it
-pub grid-known : (r : Role) (g : General) (size whole : ℕ) (grid : Grid) → size ≡ whole → grid ≡ gridOf r g size → gridElement grid ≡ elementOf r g whole
-grid-known r g size whole grid e h = rw (h, e) (grid-elements r g whole)
+pub grid-known : (registerSize : ℕ) (r : Role) (g : General) (size whole : ℕ) (grid : Grid) → size ≡ whole → grid ≡ gridOf registerSize r g size → gridElement grid ≡ elementOf registerSize r g whole
+grid-known registerSize r g size whole grid e h = rw (h, e) (grid-elements registerSize r g whole)
 
 -- elements one after the other, as a raw operand's are
 abbrev consecutive : Grid

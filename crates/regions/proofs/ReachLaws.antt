@@ -82,6 +82,6 @@ module _ (f : ℕ → ℕ) (count : ℕ) where
   inside-each n e k l = ltb-true (f k) count (every-each (λ j. ltb (f j) count) n e k l)
 
 -- the elements of a good operand are inside
-pub elements-inside : (v : Variable) (f : ℕ → ℕ) (lanes : ℕ) → elementsGood v f lanes ≡ true → (k : ℕ) → k < lanes → f k < v .count
+pub elements-inside : (registerSize : ℕ) (v : Variable) (f : ℕ → ℕ) (lanes : ℕ) → elementsGood registerSize v f lanes ≡ true → (k : ℕ) → k < lanes → f k < v .count
 unfolding elementsGood
-elements-inside v f lanes e = inside-each f (v .count) lanes (left _ _ e)
+elements-inside registerSize v f lanes e = inside-each f (v .count) lanes (left _ _ e)

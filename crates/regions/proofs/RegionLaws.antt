@@ -8,18 +8,17 @@ use lib.Dec.{leb}
 use borrow.Author.Tests.{leb-true}
 use Rattle.element_types.specs.Types.{sizeOf, isListed}
 use Rattle.element_types.proofs.Sizes.{register-whole}
-use Rattle.tables.specs.Lengths.{registerSize}
 use Rattle.channels.proofs.All.{left, right, all3, all4}
 use Rattle.field_groups.specs.declared.General.{General}
 use Rattle.regions.specs.declared.Role.the-variants as role
-use Rattle.regions.specs.Regions.{widthCode, horizontalCode, strideOf, between, sourceRegionGood, destinationRegionGood, regionAllowed, firstElement, sourceElement, elementOf}
+use Rattle.regions.specs.Regions.{widthCode, horizontalCode, strideOf, between, sourceRegionGood, destinationRegionGood, regionAllowed, rowElements, firstElement, sourceElement, elementOf}
 use Rattle.regions.specs.Positions.{elementByte}
 use Rattle.regions.proofs.GridLaws.{stride-some}
 
 -- element (i, j) is that of lane i * Width + j
-pub lane-is : (g : General) (size i j : ℕ) → j < strideOf (widthCode (g .region)) → elementOf role.Source g size (i * strideOf (widthCode (g .region)) + j) ≡ sourceElement g size i j
+pub lane-is : (registerSize : ℕ) (g : General) (size i j : ℕ) → j < strideOf (widthCode (g .region)) → elementOf registerSize role.Source g size (i * strideOf (widthCode (g .region)) + j) ≡ sourceElement registerSize g size i j
 unfolding elementOf
-lane-is g size i j h =
+lane-is registerSize g size i j h =
     let width = strideOf (widthCode (g .region)) in
     let some : 0 < width = omega arith in
     let row : (i * width + j) / width ≡ i = mul-add-div-right some i j ∙ ap (λ n. i + n) (div-eq-of-lt h) ∙ omega arith in
@@ -34,9 +33,10 @@ width-some region lanes h =
     let a = all4 (leb 2 code && leb code 6) (leb (strideOf code) lanes) _ _ h .first in
     stride-some code (leb-true 2 code (left (leb 2 code) (leb code 6) a)) (leb-true code 6 (right (leb 2 code) (leb code 6) a))
 
--- "32/size" is exact: a row of elements is a register
-pub row-whole : (code : ℕ) → isListed code ≡ true → registerSize / sizeOf code * sizeOf code ≡ registerSize
-row-whole = register-whole registerSize refl
+-- "32/size" is exact, of 32, 64 and every multiple of 8: a row of elements is a register
+pub row-whole : (registerSize : ℕ) → registerSize % 8 ≡ 0 → (code : ℕ) → isListed code ≡ true → rowElements registerSize (sizeOf code) * sizeOf code ≡ registerSize
+unfolding rowElements
+row-whole = register-whole
 
 destination-stride : (region : ℕ) → destinationRegionGood region ≡ true → 0 < strideOf (horizontalCode region)
 unfolding destinationRegionGood between
@@ -53,8 +53,8 @@ apart-plain start first stride size j k s h =
     omega (arith, mul-le-mul-right size b)
 
 -- no element of a good destination touches another's bytes
-pub destination-apart : (g : General) (lanes start size j k : ℕ) → regionAllowed role.Destination (g .region) lanes ≡ true → j < k
-    → elementByte start size (elementOf role.Destination g size) j + size ≤ elementByte start size (elementOf role.Destination g size) k
+pub destination-apart : (registerSize : ℕ) (g : General) (lanes start size j k : ℕ) → regionAllowed role.Destination (g .region) lanes ≡ true → j < k
+    → elementByte start size (elementOf registerSize role.Destination g size) j + size ≤ elementByte start size (elementOf registerSize role.Destination g size) k
 unfolding regionAllowed elementByte elementOf
-destination-apart g lanes start size j k good l =
-    apart-plain start (firstElement g size) (strideOf (horizontalCode (g .region))) size j k (destination-stride (g .region) good) l
+destination-apart registerSize g lanes start size j k good l =
+    apart-plain start (firstElement registerSize g size) (strideOf (horizontalCode (g .region))) size j k (destination-stride (g .region) good) l

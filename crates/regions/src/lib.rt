@@ -4,7 +4,7 @@ ghost use mathlib.Core.Path.{_≡_};
 ghost use Prim.Native.Nat.{_+_, _-_, _/_, _%_, _<_, min, max};
 ghost use Rattle.element_types.specs.Types.{sizeOf};
 ghost use Rattle.regions.specs.declared.Role.the-variants as role;
-ghost use Rattle.regions.specs.Regions.{strideOf, firstElement, elementOf};
+ghost use Rattle.regions.specs.Regions.{strideOf, rowElements, firstElement, elementOf};
 ghost use Rattle.regions.specs.RegionRules.{isNumber, standsFor, regionRefusal};
 ghost use Rattle.regions.specs.Reach.{lowest, highest, twoRegisters, elementsGood};
 ghost use Rattle.regions.specs.mirror.Grid.{gridElement, gridOf};
@@ -145,17 +145,24 @@ fn remainder(number: u8, divisor: u8) -> u8
     }
 }
 
-fn first_element(general: General, size: u8) -> u16
-    ensures { λ r. ⌜ r ≡ firstElement general size ⌝ }
+// The elements of a row, which is a register.
+fn row_elements(register_size: u8, size: u8) -> u8
+    ensures { λ r. ⌜ r ≡ rowElements «register_size» size ⌝ }
 {
-    let in_register = quotient(tables::REGISTER_SIZE as u8, size) as u16;
-    (general.row as u16) * in_register + (general.column as u16)
+    quotient(register_size, size)
 }
 
-fn grid_of(role: Role, general: General, size: u8) -> Grid
-    ensures { λ r. ⌜ r ≡ gridOf role general size ⌝ }
+fn first_element(register_size: u8, general: General, size: u8) -> u16
+    ensures { λ r. ⌜ r ≡ firstElement «register_size» general size ⌝ }
 {
-    let first = first_element(general, size);
+    let in_row = row_elements(register_size, size) as u16;
+    (general.row as u16) * in_row + (general.column as u16)
+}
+
+fn grid_of(register_size: u8, role: Role, general: General, size: u8) -> Grid
+    ensures { λ r. ⌜ r ≡ gridOf «register_size» role general size ⌝ }
+{
+    let first = first_element(register_size, general, size);
     let horizontal = stride_of(general.region / 256 % 16);
     match role {
         Role::Source => Grid {
@@ -215,28 +222,43 @@ fn reach_of(grid: Grid, lanes: u8) -> Reach
 }
 
 // Whether the bytes from the first to the one before the end are in two adjacent registers.
-fn two_registers(first: u64, end: u64) -> bool
-    ensures { λ r. ⌜ r ≡ twoRegisters first (end - 1) ⌝ }
+fn two_registers(register_size: u8, first: u64, end: u64) -> bool
+    requires { ⌜ first < 18446744073709551615 ⌝ }
+    ensures { λ r. ⌜ r ≡ twoRegisters «register_size» first (end - 1) ⌝ }
 {
     if end == 0 {
         return true;
     }
-    (end - 1) / tables::REGISTER_SIZE as u64 <= first / tables::REGISTER_SIZE as u64 + 1
+    if register_size == 0 {
+        return true;
+    }
+    let bytes = register_size as u64;
+    (end - 1) / bytes <= first / bytes + 1
 }
 
 // Whether the elements of all lanes lie in their variable and in two adjacent registers.
-pub fn elements_good(role: Role, general: General, variable: Variable, lanes: u8) -> bool
-    ensures { λ r. ⌜ r ≡ elementsGood variable (elementOf role general (sizeOf (variable .code))) lanes ⌝ }
+pub fn elements_good(
+    register_size: u8,
+    role: Role,
+    general: General,
+    variable: Variable,
+    lanes: u8,
+) -> bool
+    ensures { λ r. ⌜ r ≡ elementsGood «register_size» variable (elementOf «register_size» role general (sizeOf (variable .code))) lanes ⌝ }
 {
     let size = element_types::size_of(variable.code);
-    let grid = grid_of(role, general, size);
+    let grid = grid_of(register_size, role, general, size);
     let reach = reach_of(grid, lanes);
     let start = variable.start as u64;
     let low = reach.low as u64;
     let high = reach.high as u64;
     let bytes = size as u64;
     ((lanes == 0) | (high < (variable.count as u64)))
-        & two_registers(start + low * bytes, start + high * bytes + bytes)
+        & two_registers(
+            register_size,
+            start + low * bytes,
+            start + high * bytes + bytes,
+        )
 }
 
 // The position of each lane's element, counted from a base.
@@ -254,11 +276,16 @@ fn lane_positions(base: u32, grid: Grid, size: u8) -> [u32; 32]
 }
 
 // The byte of each lane's element.
-pub fn element_positions(role: Role, general: General, variable: Variable) -> [u32; 32]
-    ensures { λ r. ⌜ r ≡ lanePositions (elementByte (variable .start) (sizeOf (variable .code)) (elementOf role general (sizeOf (variable .code)))) ⌝ }
+pub fn element_positions(
+    register_size: u8,
+    role: Role,
+    general: General,
+    variable: Variable,
+) -> [u32; 32]
+    ensures { λ r. ⌜ r ≡ lanePositions (elementByte (variable .start) (sizeOf (variable .code)) (elementOf «register_size» role general (sizeOf (variable .code)))) ⌝ }
 {
     let size = element_types::size_of(variable.code);
-    let grid = grid_of(role, general, size);
+    let grid = grid_of(register_size, role, general, size);
     lane_positions(variable.start as u32, grid, size)
 }
 

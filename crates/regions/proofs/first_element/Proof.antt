@@ -7,14 +7,14 @@ use Rattle.regions.proofs.first_element.Statement.{statement}
 use Rattle.regions.proofs.first_element.Tie as tie
 
 mul-result : tie.Need-mul-result
-mul-result c = omega (arith, times (c .before .before .args .general .row) (c .before .quotient .result) 255 255 (omega arith) (omega arith))
+mul-result c = omega (arith, times (c .before .before .args .general .row) (c .before .row-elements .result) 255 255 (omega arith) (omega arith))
 
 add-result : tie.Need-add-result
-add-result c = omega (arith, times (c .before .before .before .args .general .row) (c .before .before .quotient .result) 255 255 (omega arith) (omega arith))
+add-result c = omega (arith, times (c .before .before .before .args .general .row) (c .before .before .row-elements .result) 255 255 (omega arith) (omega arith))
 
 returns : tie.Need-returns
 unfolding firstElement
-returns c = rw (← c .before .before .quotient .ensures)
+returns c = rw (← c .before .before .row-elements .ensures)
 
 pub first-element-spec : {M : Type 1} → statement M
-first-element-spec = tie.close (tie.spec (λ c. search needs) (λ c κs. search needs) (λ c. search needs) (λ c. search needs) mul-result (λ c. search needs) add-result returns)
+first-element-spec = tie.close (tie.spec (λ c κs. search needs) (λ c. search needs) (λ c. search needs) mul-result (λ c. search needs) add-result returns)

@@ -12,14 +12,14 @@ unfoldable pub gridElement : Grid → ℕ → ℕ
 gridElement g k = g .first + k / g .width * g .vertical + k % g .width * g .horizontal
 
 -- A scalar's region, <0;1,0>, has one lane a row and no stride. A destination <H> is <H;1,0>.
-unfoldable pub gridOf : Role → General → ℕ → Grid
-gridOf role.Source g size =
+unfoldable pub gridOf : ℕ → Role → General → ℕ → Grid
+gridOf registerSize role.Source g size =
     record {
-      first = firstElement g size;
+      first = firstElement registerSize g size;
       vertical = strideOf (verticalCode (g .region));
       width = strideOf (widthCode (g .region));
       horizontal = strideOf (horizontalCode (g .region));
     }
-gridOf role.Scalar g size = record { first = firstElement g size; vertical = 0; width = 1; horizontal = 0 }
-gridOf role.Destination g size =
-    record { first = firstElement g size; vertical = strideOf (horizontalCode (g .region)); width = 1; horizontal = 0 }
+gridOf registerSize role.Scalar g size = record { first = firstElement registerSize g size; vertical = 0; width = 1; horizontal = 0 }
+gridOf registerSize role.Destination g size =
+    record { first = firstElement registerSize g size; vertical = strideOf (horizontalCode (g .region)); width = 1; horizontal = 0 }
