@@ -1,10 +1,8 @@
 -- The enabled channels of a scatter, counted one after the other, and the stride between their data.
 use Prim.Native.Nat.{ℕ, zero, suc, _+_, _/_, _%_, _^_, _≤_}
 use mathlib.Core.Path.{_≡_, refl}
-use mathlib.Core.Bool.{Bool, true, false, cond}
 use native.Mathlib.Numerals.{add-one}
 use native.Mathlib.Omega.{arith}
-use lib.Dec.{ltb}
 use Rattle.channels.specs.Exec.{execSize}
 use Rattle.plan.specs.Needed.{enabledBelow, channelStride}
 
@@ -21,10 +19,6 @@ unfolding enabledBelow
 enabled-at-most channels zero = omega arith
 enabled-at-most channels (suc n) = omega (arith, enabled-at-most channels n)
 
-pub stride-at-most : (exec n : ℕ) → 8 ≤ n → execSize exec ≤ n → channelStride exec ≤ n
+pub stride-at-most : (registerSize exec n : ℕ) → registerSize / 4 ≤ n → execSize exec ≤ n → channelStride registerSize exec ≤ n
 unfolding channelStride
-stride-at-most exec n h g = either (ltb (execSize exec) 8)
-  where
-    either : (t : Bool) → cond t 8 (execSize exec) ≤ n
-    either true = h
-    either false = g
+stride-at-most registerSize exec n h g = omega (arith, h, g)

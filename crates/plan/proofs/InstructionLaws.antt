@@ -31,90 +31,94 @@ use Rattle.plan.specs.declared.Part.{Part}
 use Rattle.plan.specs.declared.Plan.{Plan}
 use Rattle.controls.specs.Control.{predicateFor, controlRefusal}
 use Rattle.plan.specs.Control.{controlOf}
-use Rattle.plan.specs.Needed.{elementsNeeded, scatterNeeded}
+use Rattle.plan.specs.Needed.{elementsNeeded, channelStride, scatterNeeded}
 use Rattle.plan.specs.Plans.{tested, shlPlan, gatherPlan, scatterPlan}
 use Rattle.plan.specs.Checked.{shlDst, shlSrc0, shlSrc1, checkedShl, gatherOffset, gatherElementOffset, gatherDst, checkedGatherOperands, surfacePart, checkedGather, scatterAddress, scatterElementOffset, scatterSrc, checkedScatter, checkedSend, checkedOperands, checked}
 use Rattle.controls.proofs.PassedLaws.{lanes-fit}
 use Rattle.plan.proofs.TestLaws.{refusal-number, accepted-then}
 
--- an operation, its control, and the types of its two sources and of its payload
-pub record Keeps (o : Operation) (c : Control) (sources payloads : TypeRule) (p : Plan) : Type 0 where
+-- an operation, its control, the types of its two sources and of its payload, and the stride of channels, 0 of all but a scatter
+pub record Keeps (o : Operation) (c : Control) (sources payloads : TypeRule) (stride : ℕ) (p : Plan) : Type 0 where
   pub operation : p .operation ≡ o
   pub control : p .control ≡ c
   pub lanes : execSize (c .exec) ≤ 32
   pub left : RuleSize sources (p .left .size)
   pub right : RuleSize sources (p .right .size)
   pub payload : RuleSize payloads (p .payload .size)
+  pub stride-is : p .stride ≡ stride
 
 -- no refused plan is accepted
-abbrev pub KeepsFor : Instruction → Plan → Type 0
-KeepsFor (instruction.Shl i) = Keeps operation.Shl (i .control) rule.Shift rule.Shift
-KeepsFor (instruction.Gather i) = Keeps operation.Gather (i .control) rule.Offset rule.Dword
-KeepsFor (instruction.Scatter i) = Keeps operation.Scatter (i .control) rule.Address rule.Dword
-KeepsFor (instruction.RawSend i) = λ _. ⊥
+abbrev pub KeepsFor : ℕ → Instruction → Plan → Type 0
+KeepsFor registerSize (instruction.Shl i) = Keeps operation.Shl (i .control) rule.Shift rule.Shift 0
+KeepsFor registerSize (instruction.Gather i) = Keeps operation.Gather (i .control) rule.Offset rule.Dword 0
+KeepsFor registerSize (instruction.Scatter i) = Keeps operation.Scatter (i .control) rule.Address rule.Dword (channelStride registerSize (i .control .exec))
+KeepsFor registerSize (instruction.RawSend i) = λ _. ⊥
 
 -- past the tests of three operands
 past-three : (P : Plan → Type 0) (a b c : ℕ) (d e f : Detail) (next : Plan) → (a ≡ 0 → b ≡ 0 → c ≡ 0 → next .number ≡ 0 → P next) → tested a d (tested b e (tested c f next)) .number ≡ 0 → P (tested a d (tested b e (tested c f next)))
 past-three P a b c d e f next h = accepted-then P a d _ (λ x. accepted-then P b e _ (λ y. accepted-then P c f next (h x y)))
 
-module _ (t : Variables) (bits : ℕ) where
-  shl-keeps : (i : Shl) → execSize (i .control .exec) ≤ 32 → checkedShl t bits i .number ≡ 0 → KeepsFor (instruction.Shl i) (checkedShl t bits i)
+module _ (registerSize : ℕ) (t : Variables) (bits : ℕ) where
+  shl-keeps : (i : Shl) → execSize (i .control .exec) ≤ 32 → checkedShl registerSize t bits i .number ≡ 0 → KeepsFor registerSize (instruction.Shl i) (checkedShl registerSize t bits i)
   unfolding checkedShl shlDst shlSrc0 shlSrc1 shlPlan
   shl-keeps i few =
-      past-three (KeepsFor (instruction.Shl i)) (shlDst t i .number) (shlSrc0 t i .number) (shlSrc1 t i .number) _ _ _ _ (λ dst src0 src1 _.
+      past-three (KeepsFor registerSize (instruction.Shl i)) (shlDst registerSize t i .number) (shlSrc0 registerSize t i .number) (shlSrc1 registerSize t i .number) _ _ _ _ (λ dst src0 src1 _.
       record {
         operation = refl;
         control = refl;
         lanes = few;
-        left = vector-sized rule.Shift t role.Source (i .control .exec) (i .source) src0;
-        right = vector-sized rule.Shift t role.Source (i .control .exec) (i .count) src1;
-        payload = vector-sized rule.Shift t role.Destination (i .control .exec) (i .destination) dst;
+        left = vector-sized rule.Shift registerSize t role.Source (i .control .exec) (i .source) src0;
+        right = vector-sized rule.Shift registerSize t role.Source (i .control .exec) (i .count) src1;
+        payload = vector-sized rule.Shift registerSize t role.Destination (i .control .exec) (i .destination) dst;
+        stride-is = refl;
       })
 
-  gather-keeps : (part : Part) (i : Gather) → execSize (i .control .exec) ≤ 32 → checkedGatherOperands t bits part i .number ≡ 0 → KeepsFor (instruction.Gather i) (checkedGatherOperands t bits part i)
+  gather-keeps : (part : Part) (i : Gather) → execSize (i .control .exec) ≤ 32 → checkedGatherOperands registerSize t bits part i .number ≡ 0 → KeepsFor registerSize (instruction.Gather i) (checkedGatherOperands registerSize t bits part i)
   unfolding checkedGatherOperands gatherOffset gatherElementOffset gatherDst gatherPlan
   gather-keeps part i few =
-      past-three (KeepsFor (instruction.Gather i)) (gatherOffset t i .number) (gatherElementOffset t i .number) (gatherDst t i .number) _ _ _ _ (λ offset element dst _.
+      past-three (KeepsFor registerSize (instruction.Gather i)) (gatherOffset registerSize t i .number) (gatherElementOffset t i .number) (gatherDst t i .number) _ _ _ _ (λ offset element dst _.
       record {
         operation = refl;
         control = refl;
         lanes = few;
-        left = vector-sized rule.Offset t role.Scalar (i .control .exec) (i .offset) offset;
+        left = vector-sized rule.Offset registerSize t role.Scalar (i .control .exec) (i .offset) offset;
         right = raw-sized rule.Offset t (elementsNeeded (i .control .exec) UD) (i .«element_offset») element;
         payload = raw-sized rule.Dword t (elementsNeeded (i .control .exec) UD) (i .destination) dst;
+        stride-is = refl;
       })
 
-  scatter-keeps : (i : Scatter) → execSize (i .control .exec) ≤ 32 → checkedScatter t bits i .number ≡ 0 → KeepsFor (instruction.Scatter i) (checkedScatter t bits i)
+  scatter-keeps : (i : Scatter) → execSize (i .control .exec) ≤ 32 → checkedScatter registerSize t bits i .number ≡ 0 → KeepsFor registerSize (instruction.Scatter i) (checkedScatter registerSize t bits i)
   unfolding checkedScatter scatterAddress scatterElementOffset scatterSrc scatterPlan
   scatter-keeps i few =
-      past-three (KeepsFor (instruction.Scatter i)) (scatterAddress t i .number) (scatterElementOffset t i .number) (scatterSrc t i .number) _ _ _ _ (λ address element src _.
+      past-three (KeepsFor registerSize (instruction.Scatter i)) (scatterAddress registerSize t i .number) (scatterElementOffset t i .number) (scatterSrc registerSize t i .number) _ _ _ _ (λ address element src _.
       record {
         operation = refl;
         control = refl;
         lanes = few;
-        left = vector-sized rule.Address t role.Scalar (i .control .exec) (i .address) address;
+        left = vector-sized rule.Address registerSize t role.Scalar (i .control .exec) (i .address) address;
         right = raw-sized rule.Address t (elementsNeeded (i .control .exec) UQ) (i .«element_offset») element;
-        payload = raw-sized rule.Dword t (scatterNeeded (i .control .exec) (i .channels)) (i .source) src;
+        payload = raw-sized rule.Dword t (scatterNeeded (channelStride registerSize (i .control .exec)) (i .control .exec) (i .channels)) (i .source) src;
+        stride-is = refl;
       })
 
-  send-keeps : (i : RawSend) → checkedSend t i .number ≡ 0 → KeepsFor (instruction.RawSend i) (checkedSend t i)
+  send-keeps : (i : RawSend) → checkedSend registerSize t i .number ≡ 0 → KeepsFor registerSize (instruction.RawSend i) (checkedSend registerSize t i)
   unfolding checkedSend
-  send-keeps i = past-three (KeepsFor (instruction.RawSend i)) _ _ _ _ _ _ _ (λ _ _ _ z. absurd (omega (arith, refusal-number 9 detail.None, z)))
+  send-keeps i = past-three (KeepsFor registerSize (instruction.RawSend i)) _ _ _ _ _ _ _ (λ _ _ _ z. absurd (omega (arith, refusal-number 9 detail.None, z)))
 
-module _ (t : Tables) where
-  operands-keep : (bits : ℕ) (i : Instruction) → execSize (controlOf i .exec) ≤ 32 → checkedOperands t bits i .number ≡ 0 → KeepsFor i (checkedOperands t bits i)
+module _ (registerSize : ℕ) (t : Tables) where
+  operands-keep : (bits : ℕ) (i : Instruction) → execSize (controlOf i .exec) ≤ 32 → checkedOperands registerSize t bits i .number ≡ 0 → KeepsFor registerSize i (checkedOperands registerSize t bits i)
   unfolding checkedOperands checkedGather controlOf
-  operands-keep bits (instruction.Shl i) few = shl-keeps _ bits i few
+  operands-keep bits (instruction.Shl i) few = shl-keeps registerSize _ bits i few
   operands-keep bits (instruction.Gather i) few =
-      cond-either (λ (p : Plan). p .number ≡ 0 → KeepsFor (instruction.Gather i) p) (not (ltb (i .access .surface) (length (t .surfaces .lengths))))
+      cond-either (λ (p : Plan). p .number ≡ 0 → KeepsFor registerSize (instruction.Gather i) p) (not (ltb (i .access .surface) (length (t .surfaces .lengths))))
       (λ _ z. absurd (omega (arith, refusal-number 5 detail.None, z)))
-      (λ _. gather-keeps _ bits (surfacePart (t .surfaces) (i .access .surface)) i few)
-  operands-keep bits (instruction.Scatter i) few = scatter-keeps _ bits i few
-  operands-keep bits (instruction.RawSend i) few = send-keeps _ bits i
+      (λ _. gather-keeps registerSize _ bits (surfacePart (t .surfaces) (i .access .surface)) i few)
+  operands-keep bits (instruction.Scatter i) few = scatter-keeps registerSize _ bits i few
+  operands-keep bits (instruction.RawSend i) few = send-keeps registerSize _ bits i
 
-  pub plan-keeps : (i : Instruction) → checked t i .number ≡ 0 → KeepsFor i (checked t i)
+  pub plan-keeps : (i : Instruction) → checked registerSize t i .number ≡ 0 → KeepsFor registerSize i (checked registerSize t i)
   unfolding checked
   plan-keeps i =
       let p = predicateFor (t .predicates) (controlOf i) in
-      accepted-then (KeepsFor i) (controlRefusal p (controlOf i)) _ _
+      accepted-then (KeepsFor registerSize i) (controlRefusal p (controlOf i)) _ _
       (λ e. operands-keep _ i (omega (arith, lanes-fit p (controlOf i) e)))

@@ -52,13 +52,13 @@ number-of false x y = refl
 abbrev pub firstOfGeneral : Bool → Bool → ℕ → Bool → ℕ
 firstOfGeneral listed typed region inside = cond (not listed) 5 (cond (not typed) 4 (cond (ltb 0 region) region (cond (not inside) 7 0)))
 
-abbrev inside : Role → General → ℕ → Variable → Bool
-inside r g lanes v = elementsGood v (elementOf r g (sizeOf (v .code))) lanes
+abbrev inside : ℕ → Role → General → ℕ → Variable → Bool
+inside registerSize r g lanes v = elementsGood registerSize v (elementOf registerSize r g (sizeOf (v .code))) lanes
 
-pub general-number : (t : Variables) (r : Role) (k : TypeRule) (exec : ℕ) (g : General) → locatedVector t r k exec (kind.General g) .number
-    ≡ firstOfGeneral (inTable t (g .index)) (typeAllowed k (variableAt t (g .index) .code)) (regionRefusal r (g .region) (execSize exec)) (inside r g (execSize exec) (variableAt t (g .index)))
+pub general-number : (registerSize : ℕ) (t : Variables) (r : Role) (k : TypeRule) (exec : ℕ) (g : General) → locatedVector registerSize t r k exec (kind.General g) .number
+    ≡ firstOfGeneral (inTable t (g .index)) (typeAllowed k (variableAt t (g .index) .code)) (regionRefusal r (g .region) (execSize exec)) (inside registerSize r g (execSize exec) (variableAt t (g .index)))
 unfolding locatedVector locatedGeneral generalOf registerElements refusedOperand
-general-number t r k exec g = rw (number-of, number-of, number-of, number-of)
+general-number registerSize t r k exec g = rw (number-of, number-of, number-of, number-of)
 
 -- a number of 20 to 25 is the region's
 first-named : (listed typed : Bool) (region : ℕ) (inside : Bool) → namesOperand (firstOfGeneral listed typed region inside) ≡ true → (listed ≡ true) × (typed ≡ true) × (region ≡ firstOfGeneral listed typed region inside)
@@ -110,17 +110,17 @@ raw-unnamed t k bytes x =
 
 -- ---- 20 to 25 are given exactly by the region's own rule
 
-module _ (t : Variables) (exec : ℕ) where
-  pub region-told : (o : Asked) → namesOperand (located t exec o .number) ≡ true → RegionRefused t exec o (located t exec o .number)
+module _ (registerSize : ℕ) (t : Variables) (exec : ℕ) where
+  pub region-told : (o : Asked) → namesOperand (located registerSize t exec o .number) ≡ true → RegionRefused registerSize t exec o (located registerSize t exec o .number)
   unfolding locatedVector
   region-told (vector r k (kind.General g)) h =
-      let is = general-number t r k exec g in
+      let is = general-number registerSize t r k exec g in
       let v = variableAt t (g .index) in
-      let f = first-named (inTable t (g .index)) (typeAllowed k (v .code)) (regionRefusal r (g .region) (execSize exec)) (inside r g (execSize exec) v) (sym (ap namesOperand is) ∙ h) in
+      let f = first-named (inTable t (g .index)) (typeAllowed k (v .code)) (regionRefusal r (g .region) (execSize exec)) (inside registerSize r g (execSize exec) v) (sym (ap namesOperand is) ∙ h) in
       broken (f .0) (f .1) (f .2 ∙ sym is)
   region-told (vector r k (kind.Immediate i)) h = absurd (false≢true (sym (located-immediate-unnamed r k i) ∙ h))
   region-told (raw k bytes x) h = absurd (false≢true (sym (raw-unnamed t k bytes x) ∙ h))
 
   -- a region that is refused so is the operand's number
-  pub region-given : (o : Asked) (n : ℕ) → RegionRefused t exec o n → ltb 0 n ≡ true → located t exec o .number ≡ n
-  region-given o n (broken {role = r} {rule = k} {g = g} listed typed is) some = general-number t r k exec g ∙ rw (listed, typed, is, some) refl
+  pub region-given : (o : Asked) (n : ℕ) → RegionRefused registerSize t exec o n → ltb 0 n ≡ true → located registerSize t exec o .number ≡ n
+  region-given o n (broken {role = r} {rule = k} {g = g} listed typed is) some = general-number registerSize t r k exec g ∙ rw (listed, typed, is, some) refl

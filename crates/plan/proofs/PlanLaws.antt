@@ -31,7 +31,7 @@ use Rattle.plan.specs.declared.Part.{Part}
 use Rattle.plan.specs.declared.Plan.{Plan}
 use Rattle.controls.specs.Control.{predicateFor, controlRefusal, bitsNamed}
 use Rattle.plan.specs.Control.{controlOf}
-use Rattle.plan.specs.Needed.{elementsNeeded, scatterNeeded}
+use Rattle.plan.specs.Needed.{elementsNeeded, channelStride, scatterNeeded}
 use Rattle.plan.specs.Plans.{shlPlan, gatherPlan, scatterPlan}
 use Rattle.plan.specs.Checked.{shlDst, shlSrc0, shlSrc1, checkedShl, gatherOffset, gatherElementOffset, gatherDst, checkedGatherOperands, surfacePart, checkedGather, scatterAddress, scatterElementOffset, scatterSrc, checkedScatter, sendDesc, sendSrc, sendDst, checkedSend, checkedOperands, checked}
 use Rattle.controls.proofs.PassedLaws.{lanes-fit}
@@ -60,7 +60,7 @@ pub record ScatterSound (registers : ℕ) (p : Plan) : Type 0 where
   pub right : Accepted registers (lanesOf p) rule.Address (p .right)
   pub payload : Accepted registers (lanesOf p) rule.Dword (p .payload)
   pub offsets : Consecutive registers (elementsNeeded (p .control .exec) UQ) (p .right)
-  pub dwords : Consecutive registers (scatterNeeded (p .control .exec) (p .channels)) (p .payload)
+  pub dwords : Consecutive registers (scatterNeeded (p .stride) (p .control .exec) (p .channels)) (p .payload)
 
 -- no refused plan is accepted
 abbrev pub SoundFor : Operation → ℕ → ℕ → Plan → Type 0
@@ -82,102 +82,102 @@ quads-room : (exec size : ℕ) → size ≡ 8 → execSize exec * size ≤ eleme
 unfolding elementsNeeded
 quads-room exec size e = rw (e, sizes .uq) (omega arith)
 
-scatter-room : (exec channels size : ℕ) → size ≡ 4 → execSize exec * size ≤ scatterNeeded exec channels
+scatter-room : (stride exec channels size : ℕ) → size ≡ 4 → execSize exec * size ≤ scatterNeeded stride exec channels
 unfolding scatterNeeded
-scatter-room exec channels size e = rw (e, sizes .ud) (omega arith)
+scatter-room stride exec channels size e = rw (e, sizes .ud) (omega arith)
 
-module _ (registers surfaces : ℕ) (t : Variables) (all : AllPlaced registers t) where
+module _ (registerSize registers surfaces : ℕ) (t : Variables) (all : AllPlaced registerSize registers t) where
   abbrev Fine : Plan → Type 0
   Fine p = Sound registers surfaces p
 
-  shl-sound : (bits : ℕ) (i : Shl) → execOffset (i .control .exec) + execSize (i .control .exec) ≤ 32 → checkedShl t bits i .number ≡ 0 → Fine (checkedShl t bits i)
+  shl-sound : (bits : ℕ) (i : Shl) → execOffset (i .control .exec) + execSize (i .control .exec) ≤ 32 → checkedShl registerSize t bits i .number ≡ 0 → Fine (checkedShl registerSize t bits i)
   unfolding checkedShl shlDst shlSrc0 shlSrc1 shlPlan
   shl-sound bits i fit =
       let exec = i .control .exec in
       let few : execSize exec ≤ 32 = omega arith in
-      accepted-then Fine (shlDst t i .number) _ _ (λ dst.
-      accepted-then Fine (shlSrc0 t i .number) _ _ (λ src0.
-      accepted-then Fine (shlSrc1 t i .number) _ _ (λ src1 _.
+      accepted-then Fine (shlDst registerSize t i .number) _ _ (λ dst.
+      accepted-then Fine (shlSrc0 registerSize t i .number) _ _ (λ src0.
+      accepted-then Fine (shlSrc1 registerSize t i .number) _ _ (λ src1 _.
       record {
         lanes = fit;
         operands = record {
-          left = vector-accepted registers t all role.Source rule.Shift exec (i .source) few src0;
-          right = vector-accepted registers t all role.Source rule.Shift exec (i .count) few src1;
-          payload = vector-accepted registers t all role.Destination rule.Shift exec (i .destination) few dst;
-          apart = destination-apart t rule.Shift exec (i .destination) dst;
+          left = vector-accepted registerSize registers t all role.Source rule.Shift exec (i .source) few src0;
+          right = vector-accepted registerSize registers t all role.Source rule.Shift exec (i .count) few src1;
+          payload = vector-accepted registerSize registers t all role.Destination rule.Shift exec (i .destination) few dst;
+          apart = destination-apart registerSize t rule.Shift exec (i .destination) dst;
         };
       })))
 
   gather-operands-sound : (bits : ℕ) (part : Part) (i : Gather) → execOffset (i .control .exec) + execSize (i .control .exec) ≤ 32 → part .start + part .length ≤ surfaces
-      → checkedGatherOperands t bits part i .number ≡ 0 → Fine (checkedGatherOperands t bits part i)
+      → checkedGatherOperands registerSize t bits part i .number ≡ 0 → Fine (checkedGatherOperands registerSize t bits part i)
   unfolding checkedGatherOperands gatherOffset gatherElementOffset gatherDst gatherPlan
   gather-operands-sound bits part i fit surface =
       let exec = i .control .exec in
       let few : execSize exec ≤ 32 = omega arith in
       let needed = elementsNeeded exec UD in
-      accepted-then Fine (gatherOffset t i .number) _ _ (λ offset.
+      accepted-then Fine (gatherOffset registerSize t i .number) _ _ (λ offset.
       accepted-then Fine (gatherElementOffset t i .number) _ _ (λ element.
       accepted-then Fine (gatherDst t i .number) _ _ (λ dst _.
       record {
         lanes = fit;
         operands = record {
-          left = vector-accepted registers t all role.Scalar rule.Offset exec (i .offset) few offset;
-          right = raw-accepted registers t all rule.Offset (execSize exec) needed (i .«element_offset») few (dwords-room exec) element;
-          payload = raw-accepted registers t all rule.Dword (execSize exec) needed (i .destination) few (dwords-room exec) dst;
-          offsets = raw-whole registers t all rule.Offset needed (i .«element_offset») element;
-          dwords = raw-whole registers t all rule.Dword needed (i .destination) dst;
+          left = vector-accepted registerSize registers t all role.Scalar rule.Offset exec (i .offset) few offset;
+          right = raw-accepted registerSize registers t all rule.Offset (execSize exec) needed (i .«element_offset») few (dwords-room exec) element;
+          payload = raw-accepted registerSize registers t all rule.Dword (execSize exec) needed (i .destination) few (dwords-room exec) dst;
+          offsets = raw-whole registerSize registers t all rule.Offset needed (i .«element_offset») element;
+          dwords = raw-whole registerSize registers t all rule.Dword needed (i .destination) dst;
           surface = surface;
         };
       })))
 
-  scatter-sound : (bits : ℕ) (i : Scatter) → execOffset (i .control .exec) + execSize (i .control .exec) ≤ 32 → checkedScatter t bits i .number ≡ 0 → Fine (checkedScatter t bits i)
+  scatter-sound : (bits : ℕ) (i : Scatter) → execOffset (i .control .exec) + execSize (i .control .exec) ≤ 32 → checkedScatter registerSize t bits i .number ≡ 0 → Fine (checkedScatter registerSize t bits i)
   unfolding checkedScatter scatterAddress scatterElementOffset scatterSrc scatterPlan
   scatter-sound bits i fit =
       let exec = i .control .exec in
       let few : execSize exec ≤ 32 = omega arith in
-      let needed = scatterNeeded exec (i .channels) in
-      accepted-then Fine (scatterAddress t i .number) _ _ (λ address.
+      let needed = scatterNeeded (channelStride registerSize exec) exec (i .channels) in
+      accepted-then Fine (scatterAddress registerSize t i .number) _ _ (λ address.
       accepted-then Fine (scatterElementOffset t i .number) _ _ (λ element.
-      accepted-then Fine (scatterSrc t i .number) _ _ (λ src _.
+      accepted-then Fine (scatterSrc registerSize t i .number) _ _ (λ src _.
       record {
         lanes = fit;
         operands = record {
-          left = vector-accepted registers t all role.Scalar rule.Address exec (i .address) few address;
-          right = raw-accepted registers t all rule.Address (execSize exec) (elementsNeeded exec UQ) (i .«element_offset») few (quads-room exec) element;
-          payload = raw-accepted registers t all rule.Dword (execSize exec) needed (i .source) few (scatter-room exec (i .channels)) src;
-          offsets = raw-whole registers t all rule.Address (elementsNeeded exec UQ) (i .«element_offset») element;
-          dwords = raw-whole registers t all rule.Dword needed (i .source) src;
+          left = vector-accepted registerSize registers t all role.Scalar rule.Address exec (i .address) few address;
+          right = raw-accepted registerSize registers t all rule.Address (execSize exec) (elementsNeeded exec UQ) (i .«element_offset») few (quads-room exec) element;
+          payload = raw-accepted registerSize registers t all rule.Dword (execSize exec) needed (i .source) few (scatter-room (channelStride registerSize exec) exec (i .channels)) src;
+          offsets = raw-whole registerSize registers t all rule.Address (elementsNeeded exec UQ) (i .«element_offset») element;
+          dwords = raw-whole registerSize registers t all rule.Dword needed (i .source) src;
         };
       })))
 
-  send-never : (i : RawSend) → checkedSend t i .number ≡ 0 → Fine (checkedSend t i)
+  send-never : (i : RawSend) → checkedSend registerSize t i .number ≡ 0 → Fine (checkedSend registerSize t i)
   unfolding checkedSend
   send-never i =
-      accepted-then Fine (sendDesc t i .number) _ _ (λ _.
-      accepted-then Fine (sendSrc t i .number) _ _ (λ _.
-      accepted-then Fine (sendDst t i .number) _ _ (λ _ z.
+      accepted-then Fine (sendDesc registerSize t i .number) _ _ (λ _.
+      accepted-then Fine (sendSrc registerSize t i .number) _ _ (λ _.
+      accepted-then Fine (sendDst registerSize t i .number) _ _ (λ _ z.
       absurd (omega (arith, refusal-number 9 detail.None, z)))))
 
 module _ (l : Lengths) (t : Tables) (good : tablesGood l t ≡ true) where
   gather-sound : (bits : ℕ) (i : Gather) → execOffset (i .control .exec) + execSize (i .control .exec) ≤ 32
-      → checkedGather (t .variables) (t .surfaces) bits i .number ≡ 0 → Sound (l .registers) (l .surfaces) (checkedGather (t .variables) (t .surfaces) bits i)
+      → checkedGather (l .«register_size») (t .variables) (t .surfaces) bits i .number ≡ 0 → Sound (l .registers) (l .surfaces) (checkedGather (l .«register_size») (t .variables) (t .surfaces) bits i)
   unfolding checkedGather surfacePart
   gather-sound bits i fit =
       let index = i .access .surface in
       cond-either (λ (p : Plan). p .number ≡ 0 → Sound (l .registers) (l .surfaces) p) (not (ltb index (length (t .surfaces .lengths))))
       (λ _ z. absurd (omega (arith, refusal-number 5 detail.None, z)))
-      (λ e. gather-operands-sound (l .registers) (l .surfaces) (t .variables) (placed l t good) bits (surfacePart (t .surfaces) index) i fit
+      (λ e. gather-operands-sound (l .«register_size») (l .registers) (l .surfaces) (t .variables) (placed l t good) bits (surfacePart (t .surfaces) index) i fit
       (surface-inside l t good index (ltb-true _ _ (not-false _ e))))
 
   operands-sound : (bits : ℕ) (i : Instruction) → execOffset (controlOf i .exec) + execSize (controlOf i .exec) ≤ 32
-      → checkedOperands t bits i .number ≡ 0 → Sound (l .registers) (l .surfaces) (checkedOperands t bits i)
+      → checkedOperands (l .«register_size») t bits i .number ≡ 0 → Sound (l .registers) (l .surfaces) (checkedOperands (l .«register_size») t bits i)
   unfolding checkedOperands controlOf
-  operands-sound bits (instruction.Shl i) fit = shl-sound (l .registers) (l .surfaces) (t .variables) (placed l t good) bits i fit
+  operands-sound bits (instruction.Shl i) fit = shl-sound (l .«register_size») (l .registers) (l .surfaces) (t .variables) (placed l t good) bits i fit
   operands-sound bits (instruction.Gather i) fit = gather-sound bits i fit
-  operands-sound bits (instruction.Scatter i) fit = scatter-sound (l .registers) (l .surfaces) (t .variables) (placed l t good) bits i fit
-  operands-sound bits (instruction.RawSend i) fit = send-never (l .registers) (l .surfaces) (t .variables) (placed l t good) i
+  operands-sound bits (instruction.Scatter i) fit = scatter-sound (l .«register_size») (l .registers) (l .surfaces) (t .variables) (placed l t good) bits i fit
+  operands-sound bits (instruction.RawSend i) fit = send-never (l .«register_size») (l .registers) (l .surfaces) (t .variables) (placed l t good) i
 
-  pub plan-sound : (i : Instruction) → checked t i .number ≡ 0 → Sound (l .registers) (l .surfaces) (checked t i)
+  pub plan-sound : (i : Instruction) → checked (l .«register_size») t i .number ≡ 0 → Sound (l .registers) (l .surfaces) (checked (l .«register_size») t i)
   unfolding checked
   plan-sound i =
       let p = predicateFor (t .predicates) (controlOf i) in

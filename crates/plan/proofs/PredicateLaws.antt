@@ -1,7 +1,7 @@
 -- An accepted instruction that names a predicate: it is in the table, and every lane has an element of it.
 use mathlib.Core.Path.{_≡_}
 use mathlib.Core.Bool.{true}
-use Prim.Native.Nat.{_≤_, _<_}
+use Prim.Native.Nat.{ℕ, _≤_, _<_}
 use lib.ListN.{length, getD}
 use borrow.Author.Tests.{ltb-true}
 use Rattle.channels.specs.Predicate.{hasPredicate, predicateId}
@@ -26,8 +26,8 @@ control-reaches t control z has =
     let r = elements-reach (predicateAt t (predicateId (control .pred))) control z has in
     record { present = ltb-true _ _ (r .0); within = r .1 }
 
-pub accepted-reaches : (t : Tables) (i : Instruction) → checked t i .number ≡ 0 → hasPredicate (controlOf i .pred) ≡ true → Reaches (t .predicates) (controlOf i)
+pub accepted-reaches : (registerSize : ℕ) (t : Tables) (i : Instruction) → checked registerSize t i .number ≡ 0 → hasPredicate (controlOf i .pred) ≡ true → Reaches (t .predicates) (controlOf i)
 unfolding checked
-accepted-reaches t i =
+accepted-reaches registerSize t i =
     accepted-then (λ (p : Plan). hasPredicate (controlOf i .pred) ≡ true → Reaches (t .predicates) (controlOf i)) (controlRefusal (predicateFor (t .predicates) (controlOf i)) (controlOf i)) _ _
     (λ z _. control-reaches (t .predicates) (controlOf i) z)

@@ -27,7 +27,7 @@ use Rattle.operands.specs.Variables.{inTable, variableAt}
 use Rattle.operands.specs.Operands.{locatedVector, locatedRaw}
 use Rattle.plan.specs.declared.Plan.{Plan}
 use Rattle.plan.specs.Control.{controlOf}
-use Rattle.plan.specs.Needed.{elementsNeeded, scatterNeeded, registersNeeded}
+use Rattle.plan.specs.Needed.{elementsNeeded, channelStride, scatterNeeded, registersNeeded}
 
 -- an operand as an instruction has it: a vector operand or a scalar, or a raw operand of which so many bytes are needed
 pub data Asked : Type 0 where
@@ -35,30 +35,30 @@ pub data Asked : Type 0 where
   raw : TypeRule → ℕ → Raw → Asked
 
 -- the operands in field order
-abbrev pub operandsOf : Instruction → List Asked
-operandsOf (instruction.Shl i) =
+abbrev pub operandsOf : ℕ → Instruction → List Asked
+operandsOf registerSize (instruction.Shl i) =
     vector role.Destination rule.Shift (i .destination) ∷ vector role.Source rule.Shift (i .source) ∷ vector role.Source rule.Shift (i .count) ∷ []
-operandsOf (instruction.Gather i) =
+operandsOf registerSize (instruction.Gather i) =
     vector role.Scalar rule.Offset (i .offset)
     ∷ raw rule.Offset (elementsNeeded (i .control .exec) UD) (i .«element_offset»)
     ∷ raw rule.Dword (elementsNeeded (i .control .exec) UD) (i .destination)
     ∷ []
-operandsOf (instruction.Scatter i) =
+operandsOf registerSize (instruction.Scatter i) =
     vector role.Scalar rule.Address (i .address)
     ∷ raw rule.Address (elementsNeeded (i .control .exec) UQ) (i .«element_offset»)
-    ∷ raw rule.Dword (scatterNeeded (i .control .exec) (i .channels)) (i .source)
+    ∷ raw rule.Dword (scatterNeeded (channelStride registerSize (i .control .exec)) (i .control .exec) (i .channels)) (i .source)
     ∷ []
-operandsOf (instruction.RawSend i) =
+operandsOf registerSize (instruction.RawSend i) =
     vector role.Scalar rule.Offset (i .descriptor)
-    ∷ raw rule.Any (registersNeeded (i .message .«num_src»)) (i .source)
-    ∷ raw rule.Any (registersNeeded (i .message .«num_dst»)) (i .destination)
+    ∷ raw rule.Any (registersNeeded registerSize (i .message .«num_src»)) (i .source)
+    ∷ raw rule.Any (registersNeeded registerSize (i .message .«num_dst»)) (i .destination)
     ∷ []
 
--- in an instruction with this exec byte
-module _ (t : Variables) (exec : ℕ) where
+-- in an instruction with this exec byte, by registers of this size
+module _ (registerSize : ℕ) (t : Variables) (exec : ℕ) where
   -- what an operand's tests come to
   abbrev pub located : Asked → Located
-  located (vector role rule o) = locatedVector t role rule exec o
+  located (vector role rule o) = locatedVector registerSize t role rule exec o
   located (raw rule bytes r) = locatedRaw t rule bytes r
 
   -- of operands of which the first is at a place: the one at this place is that, and all before it are good
@@ -77,5 +77,5 @@ module _ (t : Variables) (exec : ℕ) where
     operand : {place : ℕ} {o : Asked} → p .detail ≡ detail.Operand place → namesOperand (p .number) ≡ true → StandsAt first os place o → RegionRefused o (p .number) → Names first os p
 
 -- of an instruction's own operands, by the tables' variables and its exec byte
-abbrev pub NamesOf : Tables → Instruction → Plan → Type 0
-NamesOf t i p = Names (t .variables) (controlOf i .exec) 1 (operandsOf i) p
+abbrev pub NamesOf : ℕ → Tables → Instruction → Plan → Type 0
+NamesOf registerSize t i p = Names registerSize (t .variables) (controlOf i .exec) 1 (operandsOf registerSize i) p

@@ -32,6 +32,7 @@ refusedPlan n d =
       payload = noElements;
       bytes = 0;
       channels = 0;
+      stride = 0;
       start = 0;
       length = 0;
     }
@@ -58,6 +59,7 @@ shlPlan control bits left right payload =
       payload = payload;
       bytes = 0;
       channels = 0;
+      stride = 0;
       start = 0;
       length = 0;
     }
@@ -76,12 +78,14 @@ gatherPlan control bits left right payload bytes part =
       payload = payload;
       bytes = bytes;
       channels = 0;
+      stride = 0;
       start = part .start;
       length = part .length;
     }
 
-unfoldable pub scatterPlan : Control → ℕ → Elements → Elements → Elements → ℕ → Plan
-scatterPlan control bits left right payload channels =
+-- with the enabled channels, and the dwords from one's data to the next one's
+unfoldable pub scatterPlan : Control → ℕ → Elements → Elements → Elements → ℕ → ℕ → Plan
+scatterPlan control bits left right payload channels stride =
     record {
       number = 0;
       detail = detail.None;
@@ -93,6 +97,7 @@ scatterPlan control bits left right payload channels =
       payload = payload;
       bytes = 0;
       channels = channels;
+      stride = stride;
       start = 0;
       length = 0;
     }

@@ -47,8 +47,9 @@ pub struct Plan {
     pub payload: Elements,
     // a gather's block: 1, 2 or 4
     pub bytes: u8,
-    // a scatter's
+    // a scatter's, and the dwords from one's data to the next one's
     pub channels: u8,
+    pub stride: u8,
     // a gather's surface in the surface buffer
     pub start: u32,
     pub length: u32,
@@ -76,6 +77,7 @@ fn refused(number: u8, detail: Detail) -> Plan
         payload: none,
         bytes: 0,
         channels: 0,
+        stride: 0,
         start: 0,
         length: 0,
     }
@@ -112,30 +114,31 @@ fn enabled_channels(channels: u8) -> u8
 }
 
 // The dwords from a channel's data to the next channel's.
-pub fn channel_stride(exec: u8) -> u8
-    ensures { λ r. ⌜ r ≡ channelStride exec ⌝ }
+fn channel_stride(register_size: u8, exec: u8) -> u8
+    ensures { λ r. ⌜ r ≡ channelStride «register_size» exec ⌝ }
 {
-    let size = channels::split(exec).size;
-    if size < 8 { 8 } else { size }
+    let lanes = channels::split(exec).size;
+    let dwords = register_size / 4;
+    if lanes < dwords { dwords } else { lanes }
 }
 
-pub fn scatter_needed(exec: u8, channels: u8) -> u32
-    ensures { λ r. ⌜ r ≡ scatterNeeded exec channels ⌝ }
+// The bytes of Src that the enabled channels need, where their data are so many dwords apart.
+pub fn scatter_needed(stride: u8, exec: u8, channels: u8) -> u32
+    ensures { λ r. ⌜ r ≡ scatterNeeded stride exec channels ⌝ }
 {
     let size = channels::split(exec).size as u32;
     let dword = element_types::size_of(element_types::UD) as u32;
     let enabled = enabled_channels(channels) as u32;
-    let stride = channel_stride(exec) as u32;
     if 0 < enabled {
-        return ((enabled - 1) * stride + size) * dword;
+        return ((enabled - 1) * (stride as u32) + size) * dword;
     }
     size * dword
 }
 
-fn registers_needed(count: u8) -> u32
-    ensures { λ r. ⌜ r ≡ registersNeeded count ⌝ }
+fn registers_needed(register_size: u8, count: u8) -> u32
+    ensures { λ r. ⌜ r ≡ registersNeeded «register_size» count ⌝ }
 {
-    tables::REGISTER_SIZE as u32 * (count as u32)
+    (register_size as u32) * (count as u32)
 }
 
 fn block_bytes(code: u8) -> u8
@@ -170,6 +173,7 @@ fn shl_plan(control: Control, bits: u32, left: Elements, right: Elements, payloa
         payload,
         bytes: 0,
         channels: 0,
+        stride: 0,
         start: 0,
         length: 0,
     }
@@ -197,6 +201,7 @@ fn gather_plan(
         payload,
         bytes,
         channels: 0,
+        stride: 0,
         start: part.start,
         length: part.length,
     }
@@ -209,8 +214,9 @@ fn scatter_plan(
     right: Elements,
     payload: Elements,
     channels: u8,
+    stride: u8,
 ) -> Plan
-    ensures { λ r. ⌜ r ≡ scatterPlan control bits left right payload channels ⌝ }
+    ensures { λ r. ⌜ r ≡ scatterPlan control bits left right payload channels stride ⌝ }
 {
     Plan {
         number: 0,
@@ -223,13 +229,21 @@ fn scatter_plan(
         payload,
         bytes: 0,
         channels,
+        stride,
         start: 0,
         length: 0,
     }
 }
 
-fn check_shl(types: &[u8], starts: &[u16], counts: &[u16], bits: u32, instruction: Shl) -> Plan
-    ensures { λ r. ⌜ r ≡ checkedShl (variableTable types starts counts) bits instruction ⌝ }
+fn check_shl(
+    register_size: u8,
+    types: &[u8],
+    starts: &[u16],
+    counts: &[u16],
+    bits: u32,
+    instruction: Shl,
+) -> Plan
+    ensures { λ r. ⌜ r ≡ checkedShl «register_size» (variableTable types starts counts) bits instruction ⌝ }
 {
     let control = instruction.control;
     let exec = control.exec;
@@ -237,6 +251,7 @@ fn check_shl(types: &[u8], starts: &[u16], counts: &[u16], bits: u32, instructio
     let source = instruction.source;
     let count = instruction.count;
     let dst = operands::locate_vector(
+        register_size,
         types,
         starts,
         counts,
@@ -249,6 +264,7 @@ fn check_shl(types: &[u8], starts: &[u16], counts: &[u16], bits: u32, instructio
         return refused_at(dst.number, 1);
     }
     let src0 = operands::locate_vector(
+        register_size,
         types,
         starts,
         counts,
@@ -261,6 +277,7 @@ fn check_shl(types: &[u8], starts: &[u16], counts: &[u16], bits: u32, instructio
         return refused_at(src0.number, 2);
     }
     let src1 = operands::locate_vector(
+        register_size,
         types,
         starts,
         counts,
@@ -279,6 +296,7 @@ fn check_shl(types: &[u8], starts: &[u16], counts: &[u16], bits: u32, instructio
 }
 
 fn check_gather_operands(
+    register_size: u8,
     types: &[u8],
     starts: &[u16],
     counts: &[u16],
@@ -286,13 +304,14 @@ fn check_gather_operands(
     part: Part,
     instruction: Gather,
 ) -> Plan
-    ensures { λ r. ⌜ r ≡ checkedGatherOperands (variableTable types starts counts) bits part instruction ⌝ }
+    ensures { λ r. ⌜ r ≡ checkedGatherOperands «register_size» (variableTable types starts counts) bits part instruction ⌝ }
 {
     let control = instruction.control;
     let exec = control.exec;
     let address = instruction.offset;
     let needed = elements_needed(exec, element_types::UD);
     let offset = operands::locate_vector(
+        register_size,
         types,
         starts,
         counts,
@@ -335,6 +354,7 @@ fn check_gather_operands(
 
 // A gather: the surface's 5, then the operands.
 fn check_gather(
+    register_size: u8,
     types: &[u8],
     starts: &[u16],
     counts: &[u16],
@@ -342,29 +362,39 @@ fn check_gather(
     bits: u32,
     instruction: Gather,
 ) -> Plan
-    ensures { λ r. ⌜ r ≡ checkedGather (variableTable types starts counts) (surfaceTable surfaces) bits instruction ⌝ }
+    ensures { λ r. ⌜ r ≡ checkedGather «register_size» (variableTable types starts counts) (surfaceTable surfaces) bits instruction ⌝ }
 {
     let surface = instruction.access.surface;
     if !((surface as usize) < surfaces.len()) {
         return refused(5, Detail::None);
     }
     let part = surface_part(surfaces, surface);
-    check_gather_operands(types, starts, counts, bits, part, instruction)
+    check_gather_operands(
+        register_size,
+        types,
+        starts,
+        counts,
+        bits,
+        part,
+        instruction,
+    )
 }
 
 fn check_scatter(
+    register_size: u8,
     types: &[u8],
     starts: &[u16],
     counts: &[u16],
     bits: u32,
     instruction: Scatter,
 ) -> Plan
-    ensures { λ r. ⌜ r ≡ checkedScatter (variableTable types starts counts) bits instruction ⌝ }
+    ensures { λ r. ⌜ r ≡ checkedScatter «register_size» (variableTable types starts counts) bits instruction ⌝ }
 {
     let control = instruction.control;
     let exec = control.exec;
     let base = instruction.address;
     let address = operands::locate_vector(
+        register_size,
         types,
         starts,
         counts,
@@ -388,7 +418,8 @@ fn check_scatter(
     if 0 < element.number {
         return refused_at(element.number, 2);
     }
-    let needed = scatter_needed(exec, instruction.channels);
+    let stride = channel_stride(register_size, exec);
+    let needed = scatter_needed(stride, exec, instruction.channels);
     let src = operands::locate_raw(
         types,
         starts,
@@ -403,16 +434,31 @@ fn check_scatter(
     let left = address.elements;
     let right = element.elements;
     let payload = src.elements;
-    scatter_plan(control, bits, left, right, payload, instruction.channels)
+    scatter_plan(
+        control,
+        bits,
+        left,
+        right,
+        payload,
+        instruction.channels,
+        stride,
+    )
 }
 
 // The operands of a RAW_SEND, then 9.
-fn check_send(types: &[u8], starts: &[u16], counts: &[u16], instruction: RawSend) -> Plan
-    ensures { λ r. ⌜ r ≡ checkedSend (variableTable types starts counts) instruction ⌝ }
+fn check_send(
+    register_size: u8,
+    types: &[u8],
+    starts: &[u16],
+    counts: &[u16],
+    instruction: RawSend,
+) -> Plan
+    ensures { λ r. ⌜ r ≡ checkedSend «register_size» (variableTable types starts counts) instruction ⌝ }
 {
     let exec = instruction.control.exec;
     let descriptor = instruction.descriptor;
     let desc = operands::locate_vector(
+        register_size,
         types,
         starts,
         counts,
@@ -424,7 +470,7 @@ fn check_send(types: &[u8], starts: &[u16], counts: &[u16], instruction: RawSend
     if 0 < desc.number {
         return refused_at(desc.number, 1);
     }
-    let sent = registers_needed(instruction.message.num_src);
+    let sent = registers_needed(register_size, instruction.message.num_src);
     let src = operands::locate_raw(
         types,
         starts,
@@ -436,7 +482,7 @@ fn check_send(types: &[u8], starts: &[u16], counts: &[u16], instruction: RawSend
     if 0 < src.number {
         return refused_at(src.number, 2);
     }
-    let received = registers_needed(instruction.message.num_dst);
+    let received = registers_needed(register_size, instruction.message.num_dst);
     let dst = operands::locate_raw(
         types,
         starts,
@@ -451,8 +497,9 @@ fn check_send(types: &[u8], starts: &[u16], counts: &[u16], instruction: RawSend
     refused(9, Detail::None)
 }
 
-// The number of an instruction's refusal, or its plan.
+// The number of an instruction's refusal, or its plan, by registers of this size.
 pub fn check(
+    register_size: u8,
     types: &[u8],
     starts: &[u16],
     counts: &[u16],
@@ -461,7 +508,7 @@ pub fn check(
     surfaces: &[u16],
     instruction: Instruction,
 ) -> Plan
-    ensures { λ r. ⌜ r ≡ checked (tables (variableTable types starts counts) (predicateTable «predicate_bits» «predicate_counts») (surfaceTable surfaces)) instruction ⌝ }
+    ensures { λ r. ⌜ r ≡ checked «register_size» (tables (variableTable types starts counts) (predicateTable «predicate_bits» «predicate_counts») (surfaceTable surfaces)) instruction ⌝ }
 {
     let control = control_of(instruction);
     let id = channels::predicate_id(control.pred);
@@ -472,9 +519,17 @@ pub fn check(
     }
     let bits = controls::bits_named(predicate, control.pred);
     match instruction {
-        Instruction::Shl(i) => check_shl(types, starts, counts, bits, i),
-        Instruction::Gather(i) => check_gather(types, starts, counts, surfaces, bits, i),
-        Instruction::Scatter(i) => check_scatter(types, starts, counts, bits, i),
-        Instruction::RawSend(i) => check_send(types, starts, counts, i),
+        Instruction::Shl(i) => check_shl(register_size, types, starts, counts, bits, i),
+        Instruction::Gather(i) => check_gather(
+            register_size,
+            types,
+            starts,
+            counts,
+            surfaces,
+            bits,
+            i,
+        ),
+        Instruction::Scatter(i) => check_scatter(register_size, types, starts, counts, bits, i),
+        Instruction::RawSend(i) => check_send(register_size, types, starts, counts, i),
     }
 }

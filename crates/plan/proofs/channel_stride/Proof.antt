@@ -1,8 +1,8 @@
 -- `plan::channel_stride` meets its contract: at each return, what the calls and tests on the way say picks the case of `Needed`.
 use mathlib.Core.Path.{ap}
 use Rattle.channels.specs.declared.Exec.{Exec}
+use native.Mathlib.Omega.{arith}
 use borrow.Author.Needs.{needs}
-use borrow.Author.Tests.{lt-ltb, le-ltb}
 use Rattle.plan.specs.Needed.{channelStride}
 use Rattle.plan.proofs.channel_stride.Statement.{statement}
 use Rattle.plan.proofs.channel_stride.Tie as tie
@@ -10,14 +10,14 @@ use Rattle.plan.proofs.channel_stride.Tie as tie
 returns : tie.Need-returns
 unfolding channelStride
 returns c =
-    let a = c .before in
-    rw (← ap (λ (e : Exec). e .size) (a .split .ensures), lt-ltb _ 8 (c .if1 .taken))
+    let lanes : tie.After-split = search c in
+    rw (← ap (λ (e : Exec). e .size) (lanes .split .ensures)) (omega (arith, c .if1 .taken))
 
 returns-2 : tie.Need-returns-2
 unfolding channelStride
 returns-2 c =
-    let a = c .before in
-    rw (← ap (λ (e : Exec). e .size) (a .split .ensures), le-ltb _ 8 (c .if1 .left))
+    let lanes : tie.After-split = search c in
+    rw (← ap (λ (e : Exec). e .size) (lanes .split .ensures)) (omega (arith, c .if1 .left))
 
 pub channel-stride-spec : {M : Type 1} → statement M
 channel-stride-spec = tie.close (tie.spec (λ c κs. search needs) returns returns-2)

@@ -31,7 +31,7 @@ lent c =
     tables (variables (a .types .now) (a .starts .now) (a .counts .now)) (predicates (a .predicate-bits .now) (a .predicate-counts .now)) (surfaces (a .surfaces .now))
 
 -- past the control's tests the operands' are left
-past-control : (c : tie.After-bits-named) → checked (lent c) (start c .args .instruction) ≡ checkedOperands (lent c) (c .bits-named .result) (start c .args .instruction)
+past-control : (c : tie.After-bits-named) → checked (start c .args .register-size) (lent c) (start c .args .instruction) ≡ checkedOperands (start c .args .register-size) (lent c) (c .bits-named .result) (start c .args .instruction)
 unfolding checked tested
 past-control c =
     let good : tie.Else1 = search c in
@@ -41,8 +41,8 @@ past-control c =
     let control : tie.After-control-of = search id in
     rw (← control .control-of .ensures, ← id .predicate-id .ensures, ← predicate .predicate-at .ensures, ← number .control-refusal .ensures, le-ltb _ _ (good .if1 .left), ← c .bits-named .ensures)
 
-operands-of : (c : tie.After-bits-named) (i : Instruction) → start c .args .instruction ≡ i → checked (lent c) (start c .args .instruction) ≡ checkedOperands (lent c) (c .bits-named .result) i
-operands-of c i e = past-control c ∙ ap (λ (j : Instruction). checkedOperands (lent c) (c .bits-named .result) j) e
+operands-of : (c : tie.After-bits-named) (i : Instruction) → start c .args .instruction ≡ i → checked (start c .args .register-size) (lent c) (start c .args .instruction) ≡ checkedOperands (start c .args .register-size) (lent c) (c .bits-named .result) i
+operands-of c i e = past-control c ∙ ap (λ (j : Instruction). checkedOperands (start c .args .register-size) (lent c) (c .bits-named .result) j) e
 
 returns-2 : tie.Need-returns-2
 unfolding checkedOperands

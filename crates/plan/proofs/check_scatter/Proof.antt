@@ -9,45 +9,47 @@ use Rattle.plan.proofs.check_scatter.Tie as tie
 returns : tie.Need-returns
 unfolding checkedScatter scatterAddress scatterElementOffset scatterSrc tested
 returns c =
-    let a = c .before in
-    let b = a .before .before in
-    rw (← b .locate-vector .ensures, lt-ltb _ _ (a .if1 .taken)) (c .refused-at .ensures)
+    let bad : tie.Then1 = search c in
+    let address : tie.After-locate-vector = search bad in
+    rw (← address .locate-vector .ensures, lt-ltb _ _ (bad .if1 .taken)) (c .refused-at .ensures)
 
 returns-2 : tie.Need-returns-2
 unfolding checkedScatter scatterAddress scatterElementOffset scatterSrc tested
 returns-2 c =
-    let a = c .before in
-    let b = a .before .before in
-    let d = b .before in
-    let e = d .before in
-    let f = e .before .before in
-    rw (← f .locate-vector .ensures, le-ltb _ _ (e .if1 .left), ← d .elements-needed .ensures, ← b .locate-raw .ensures, lt-ltb _ _ (a .if2 .taken)) (c .refused-at2 .ensures)
+    let bad : tie.Then2 = search c in
+    let element : tie.After-locate-raw = search bad in
+    let offsets : tie.After-elements-needed = search element in
+    let one : tie.Else1 = search offsets in
+    let address : tie.After-locate-vector = search one in
+    rw (← address .locate-vector .ensures, le-ltb _ _ (one .if1 .left), ← offsets .elements-needed .ensures, ← element .locate-raw .ensures, lt-ltb _ _ (bad .if2 .taken)) (c .refused-at2 .ensures)
 
 returns-3 : tie.Need-returns-3
 unfolding checkedScatter scatterAddress scatterElementOffset scatterSrc tested
 returns-3 c =
-    let a = c .before in
-    let b = a .before .before in
-    let d = b .before in
-    let e = d .before in
-    let f = e .before .before in
-    let g = f .before in
-    let h = g .before in
-    let i = h .before .before in
-    rw (← i .locate-vector .ensures, le-ltb _ _ (h .if1 .left), ← g .elements-needed .ensures, ← f .locate-raw .ensures, le-ltb _ _ (e .if2 .left), ← d .scatter-needed .ensures, ← b .locate-raw2 .ensures, lt-ltb _ _ (a .if3 .taken)) (c .refused-at3 .ensures)
+    let bad : tie.Then3 = search c in
+    let src : tie.After-locate-raw2 = search bad in
+    let needed : tie.After-scatter-needed = search src in
+    let stride : tie.After-channel-stride = search needed in
+    let two : tie.Else2 = search stride in
+    let element : tie.After-locate-raw = search two in
+    let offsets : tie.After-elements-needed = search element in
+    let one : tie.Else1 = search offsets in
+    let address : tie.After-locate-vector = search one in
+    rw (← address .locate-vector .ensures, le-ltb _ _ (one .if1 .left), ← offsets .elements-needed .ensures, ← element .locate-raw .ensures, le-ltb _ _ (two .if2 .left), ← stride .channel-stride .ensures, ← needed .scatter-needed .ensures, ← src .locate-raw2 .ensures, lt-ltb _ _ (bad .if3 .taken)) (c .refused-at3 .ensures)
 
 returns-4 : tie.Need-returns-4
 unfolding checkedScatter scatterAddress scatterElementOffset scatterSrc tested
 returns-4 c =
-    let a = c .before .before .before .before in
-    let b = a .before .before in
-    let d = b .before in
-    let e = d .before in
-    let f = e .before .before in
-    let g = f .before in
-    let h = g .before in
-    let i = h .before .before in
-    rw (← i .locate-vector .ensures, le-ltb _ _ (h .if1 .left), ← g .elements-needed .ensures, ← f .locate-raw .ensures, le-ltb _ _ (e .if2 .left), ← d .scatter-needed .ensures, ← b .locate-raw2 .ensures, le-ltb _ _ (a .if3 .left), ← c .scatter-plan .ensures)
+    let three : tie.Else3 = search c in
+    let src : tie.After-locate-raw2 = search three in
+    let needed : tie.After-scatter-needed = search src in
+    let stride : tie.After-channel-stride = search needed in
+    let two : tie.Else2 = search stride in
+    let element : tie.After-locate-raw = search two in
+    let offsets : tie.After-elements-needed = search element in
+    let one : tie.Else1 = search offsets in
+    let address : tie.After-locate-vector = search one in
+    rw (← address .locate-vector .ensures, le-ltb _ _ (one .if1 .left), ← offsets .elements-needed .ensures, ← element .locate-raw .ensures, le-ltb _ _ (two .if2 .left), ← stride .channel-stride .ensures, ← needed .scatter-needed .ensures, ← src .locate-raw2 .ensures, le-ltb _ _ (three .if3 .left), ← c .scatter-plan .ensures)
 
 pub check-scatter-spec : {M : Type 1} → statement M
-check-scatter-spec = tie.close (tie.spec (λ c κs. search needs) (λ c κs. search needs) returns (λ c κs. search needs) (λ c κs. search needs) (λ c κs. search needs) returns-2 (λ c κs. search needs) (λ c κs. search needs) (λ c κs. search needs) returns-3 (λ c κs. search needs) returns-4)
+check-scatter-spec = tie.close (tie.spec (λ c κs. search needs) (λ c κs. search needs) returns (λ c κs. search needs) (λ c κs. search needs) (λ c κs. search needs) returns-2 (λ c κs. search needs) (λ c κs. search needs) (λ c κs. search needs) (λ c κs. search needs) returns-3 (λ c κs. search needs) returns-4)

@@ -10,8 +10,8 @@ use Rattle.plan.proofs.scatter_needed.Statement.{statement}
 use Rattle.plan.proofs.scatter_needed.Tie as tie
 
 -- the dwords before the last channel's
-rows : (c : tie.Then1) → (c .before .before .enabled-channels .result - 1) * c .before .channel-stride .result ≤ 65025
-rows c = times (c .before .before .enabled-channels .result - 1) (c .before .channel-stride .result) 255 255 (omega arith) (omega arith)
+rows : (c : tie.Then1) → (c .before .enabled-channels .result - 1) * c .before .before .before .before .before .args .stride ≤ 65025
+rows c = times (c .before .enabled-channels .result - 1) (c .before .before .before .before .before .args .stride) 255 255 (omega arith) (omega arith)
 
 -- with no channel only one row is asked for
 none : (enabled stride size dword : ℕ) → enabled ≤ 0 → size * dword ≡ ((enabled - 1) * stride + size) * dword
@@ -27,30 +27,33 @@ add-result c = omega (arith, rows c)
 
 mul-result-2 : tie.Need-mul-result-2
 mul-result-2 c =
-    let s = c .before .before .before .before .before .split .result .size in
-    let z = c .before .before .before .size-of .result in
-    omega (arith, times ((c .before .before .enabled-channels .result - 1) * c .before .channel-stride .result + s) z 65280 255 (omega (arith, rows c)) (omega arith))
+    let enabled : tie.After-enabled-channels = search c in
+    let dword : tie.After-size-of = search enabled in
+    let lanes : tie.After-split = search dword in
+    let start : tie.Start = search lanes in
+    omega (arith, times ((enabled .enabled-channels .result - 1) * start .args .stride + lanes .split .result .size) (dword .size-of .result) 65280 255 (omega (arith, rows c)) (omega arith))
 
 returns : tie.Need-returns
 unfolding scatterNeeded
 returns c =
-    let a = c .before in
-    let b = a .before in
-    let d = b .before in
-    let e = d .before .before in
-    rw (← ap (λ (e : Exec). e .size) (e .split .ensures), ← d .size-of .ensures, ← b .enabled-channels .ensures, ← a .channel-stride .ensures)
+    let enabled : tie.After-enabled-channels = search c in
+    let dword : tie.After-size-of = search enabled in
+    let lanes : tie.After-split = search dword in
+    rw (← ap (λ (e : Exec). e .size) (lanes .split .ensures), ← dword .size-of .ensures, ← enabled .enabled-channels .ensures)
 
 mul-result-3 : tie.Need-mul-result-3
-mul-result-3 c = omega (arith, times (c .before .before .before .before .before .split .result .size) (c .before .before .before .size-of .result) 255 255 (omega arith) (omega arith))
+mul-result-3 c =
+    let dword : tie.After-size-of = search c in
+    let lanes : tie.After-split = search dword in
+    omega (arith, times (lanes .split .result .size) (dword .size-of .result) 255 255 (omega arith) (omega arith))
 
 returns-2 : tie.Need-returns-2
 unfolding scatterNeeded
 returns-2 c =
-    let a = c .before in
-    let b = a .before in
-    let d = b .before in
-    let e = d .before .before in
-    rw (← ap (λ (e : Exec). e .size) (e .split .ensures), ← d .size-of .ensures, ← b .enabled-channels .ensures, ← a .channel-stride .ensures) (none _ _ _ _ (c .if1 .left))
+    let enabled : tie.After-enabled-channels = search c in
+    let dword : tie.After-size-of = search enabled in
+    let lanes : tie.After-split = search dword in
+    rw (← ap (λ (e : Exec). e .size) (lanes .split .ensures), ← dword .size-of .ensures, ← enabled .enabled-channels .ensures) (none _ _ _ _ (c .if1 .left))
 
 pub scatter-needed-spec : {M : Type 1} → statement M
-scatter-needed-spec = tie.close (tie.spec (λ c κs. search needs) (λ c. search needs) (λ c κs. search needs) (λ c. search needs) (λ c κs. search needs) (λ c. search needs) (λ c κs. search needs) (λ c. search needs) (λ c. search needs) mul-result add-result mul-result-2 returns mul-result-3 returns-2)
+scatter-needed-spec = tie.close (tie.spec (λ c κs. search needs) (λ c. search needs) (λ c κs. search needs) (λ c. search needs) (λ c κs. search needs) (λ c. search needs) (λ c. search needs) mul-result add-result mul-result-2 returns mul-result-3 returns-2)
