@@ -8,8 +8,8 @@ use borrow.Author.Tests.{eqb-true}
 use Rattle.element_types.specs.Types.{sizeOf}
 use Rattle.channels.specs.Bits.{bit}
 use Rattle.channels.specs.Exec.{execSize}
-use Rattle.plan.specs.Needed.{enabledBelow, channelStride, scatterNeeded}
-use Rattle.plan.proofs.ChannelLaws.{enabled-next, enabled-at-most, stride-at-most}
+use Rattle.plan.specs.Needed.{enabledBelow, scatterNeeded}
+use Rattle.plan.proofs.ChannelLaws.{enabled-next, enabled-at-most}
 
 module _ (channels : ℕ) where
   enabled-more : (c d : ℕ) → enabledBelow channels c ≤ enabledBelow channels (c + d)
@@ -28,15 +28,14 @@ module _ (channels : ℕ) where
       let e : n ≡ c + 1 + (n - (c + 1)) = omega arith in
       rw e (omega (arith, enabled-next channels c, is-one c on, enabled-more (c + 1) (n - (c + 1))))
 
-  pub dword-needed : (exec c lane k : ℕ) → c < 4 → bit channels c ≡ true → lane < execSize exec → k < 4 → 4 * (enabledBelow channels c * channelStride exec) + 4 * lane + k < scatterNeeded exec channels
+  pub dword-needed : (stride exec c lane k : ℕ) → c < 4 → bit channels c ≡ true → lane < execSize exec → k < 4 → 4 * (enabledBelow channels c * stride) + 4 * lane + k < scatterNeeded stride exec channels
   unfolding scatterNeeded sizeOf
-  dword-needed exec c lane k h on g l =
+  dword-needed stride exec c lane k h on g l =
       let e : enabledBelow channels c ≤ enabledBelow channels 4 - 1 = omega (arith, enabled-counted c 4 h on) in
-      omega (arith, mul-le-mul-right (channelStride exec) e)
+      omega (arith, mul-le-mul-right stride e)
 
-  pub needed-at-most : (exec : ℕ) → execSize exec ≤ 16 → scatterNeeded exec channels ≤ 256
+  pub needed-at-most : (stride exec : ℕ) → stride ≤ 16 → execSize exec ≤ 16 → scatterNeeded stride exec channels ≤ 256
   unfolding scatterNeeded sizeOf
-  needed-at-most exec few =
+  needed-at-most stride exec near few =
       let e : enabledBelow channels 4 - 1 ≤ 3 = omega (arith, enabled-at-most channels 4) in
-      let s = stride-at-most exec 16 (omega arith) few in
-      omega (arith, mul-le-mul-right (channelStride exec) e)
+      omega (arith, mul-le-mul-right stride e)

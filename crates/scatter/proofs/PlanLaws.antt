@@ -5,7 +5,7 @@ use lib.ListN.{getD}
 use Rattle.cells.specs.Buffer.{Buffer}
 use Rattle.channels.specs.Exec.{execSize}
 use Rattle.plan.specs.declared.Plan.{Plan}
-use Rattle.plan.specs.Needed.{enabledBelow, channelStride, scatterNeeded}
+use Rattle.plan.specs.Needed.{enabledBelow, scatterNeeded}
 use Rattle.staging.specs.declared.Layout.{Layout}
 use Rattle.staging.specs.mirror.Room.{layoutOf, dataPlace, dataStaged}
 use Rattle.scatter.specs.declared.Pairs.{Pairs}
@@ -14,10 +14,10 @@ use Rattle.scatter.specs.mirror.FromRoom.{layoutFor, pairsOf, sourcesSta
 pub layout-told : (p : Plan) (lanes : ℕ) (l : Layout) → lanes ≡ execSize (p .control .exec) → l ≡ layoutOf (p .left) (p .right) lanes → l ≡ layoutFor p
 layout-told p lanes l size made = rw (← size) made
 
-pub pairs-told : (p : Plan) (lanes stride first : ℕ) (l : Layout) → lanes ≡ execSize (p .control .exec) → stride ≡ channelStride (p .control .exec) → l ≡ layoutFor p → first ≡ dataPlace l → _≡_ {A = Pairs} (record { lanes = lanes; channels = p .channels; stride = stride; first = first }) (pairsOf p)
-pairs-told p lanes stride first l size apart layout begin = rw (size, apart, begin, layout)
+pub pairs-told : (p : Plan) (lanes first : ℕ) (l : Layout) → lanes ≡ execSize (p .control .exec) → l ≡ layoutFor p → first ≡ dataPlace l → _≡_ {A = Pairs} (record { lanes = lanes; channels = p .channels; stride = p .stride; first = first }) (pairsOf p)
+pairs-told p lanes first l size layout begin = rw (size, begin, layout)
 
-pub sources-told : (registers : Buffer) (p : Plan) (lanes from needed : ℕ) (room : Buffer) → lanes ≡ execSize (p .control .exec) → from ≡ getD (p .payload .at) 0 0 → needed ≡ scatterNeeded (p .control .exec) (p .channels) → room ≡ dataStaged registers (p .left) (p .right) lanes from needed → room ≡ sourcesStaged registers p
+pub sources-told : (registers : Buffer) (p : Plan) (lanes from needed : ℕ) (room : Buffer) → lanes ≡ execSize (p .control .exec) → from ≡ getD (p .payload .at) 0 0 → needed ≡ scatterNeeded (p .stride) (p .control .exec) (p .channels) → room ≡ dataStaged registers (p .left) (p .right) lanes from needed → room ≡ sourcesStaged registers p
 unfolding sourcesStaged
 sources-told registers p lanes from needed room size begin count made = rw (← size, ← begin, ← count) made
 

@@ -22,7 +22,7 @@ use Rattle.channels.specs.mirror.Prepared.{lanesOf}
 use Rattle.channels.specs.declared.Lanes.{Lanes}
 use Rattle.channels.proofs.LaneLaws.{lane-told}
 use Rattle.plan.specs.declared.Plan.{Plan}
-use Rattle.plan.specs.Needed.{enabledBelow, channelStride, scatterNeeded}
+use Rattle.plan.specs.Needed.{enabledBelow, scatterNeeded}
 use Rattle.staging.specs.Lanes.{lanesOn}
 use Rattle.staging.specs.Sources.{elementValue, eitherTainted}
 use Rattle.staging.specs.mirror.Room.{dataPlace, eitherStaged, elementsFit}
@@ -46,25 +46,28 @@ module _ (p : Plan) (fit : scatterFits p ≡ true) where
   abbrev count : ℕ
   count = execSize (p .control .exec)
 
-  parts : (leb count 16 ≡ true) × ((elementsFit 8 (p .left) count && elementsFit 8 (p .right) count) ≡ true)
+  parts : ((leb count 16 && leb (p .stride) 16) ≡ true) × ((elementsFit 8 (p .left) count && elementsFit 8 (p .right) count) ≡ true)
   unfolding scatterFits
-  parts = both-true (leb count 16) (elementsFit 8 (p .left) count && elementsFit 8 (p .right) count) fit
+  parts = both-true (leb count 16 && leb (p .stride) 16) (elementsFit 8 (p .left) count && elementsFit 8 (p .right) count) fit
 
   pub few : count ≤ 16
-  few = leb-true count 16 (parts .0)
+  few = leb-true count 16 (both-true (leb count 16) (leb (p .stride) 16) (parts .0) .0)
+
+  near : p .stride ≤ 16
+  near = leb-true (p .stride) 16 (both-true (leb count 16) (leb (p .stride) 16) (parts .0) .1)
 
   elements : (elementsFit 8 (p .left) count ≡ true) × (elementsFit 8 (p .right) count ≡ true)
   elements = both-true (elementsFit 8 (p .left) count) (elementsFit 8 (p .right) count) (parts .1)
 
   -- 16 lanes of 8 bytes, twice, and 64 dwords
-  room-enough : dataPlace (layoutFor p) + scatterNeeded (p .control .exec) (p .channels) ≤ 512
+  room-enough : dataPlace (layoutFor p) + scatterNeeded (p .stride) (p .control .exec) (p .channels) ≤ 512
   unfolding dataPlace
   room-enough =
       omega (
         arith,
         fit-bytes (p .left) 8 count 16 few (fit-size 8 (p .left) count (elements .0)),
         fit-bytes (p .right) 8 count 16 few (fit-size 8 (p .right) count (elements .1)),
-        needed-at-most (p .channels) (p .control .exec) few,
+        needed-at-most (p .channels) (p .stride) (p .control .exec) near few,
       )
 
   module _ (registers : Buffer) where
@@ -75,7 +78,7 @@ module _ (p : Plan) (fit : scatterFits p ≡ true) where
     from = getD (p .payload .at) 0 0
 
     abbrev needed : ℕ
-    needed = scatterNeeded (p .control .exec) (p .channels)
+    needed = scatterNeeded (p .stride) (p .control .exec) (p .channels)
 
     same-sum : (k : ℕ) → k < count → laneSum (room .bytes) (layoutFor p) k ≡ (elementValue (registers .bytes) (p .left) k + elementValue (registers .bytes) (p .right) k) % 2 ^ 64
     unfolding laneSum sourcesStaged
@@ -92,10 +95,10 @@ module _ (p : Plan) (fit : scatterFits p ≡ true) where
     dword-copied : (c lane k : ℕ) → c < 4 → bit (p .channels) c ≡ true → lane < count → k < 4 → Copied registers (sourceByte p c lane) room (rowPlace (pairsOf p) c + 4 * lane) k
     unfolding sourceByte rowPlace sourcesStaged
     dword-copied c lane k h on g l =
-        let d = 4 * (enabledBelow (p .channels) c * channelStride (p .control .exec)) + 4 * lane + k in
-        let e = data-copied registers (p .left) (p .right) 8 count (omega arith) (elements .0) (elements .1) from needed room-enough d (dword-needed (p .channels) (p .control .exec) c lane k h on g l) in
-        let t : dataPlace (layoutFor p) + 4 * (enabledBelow (p .channels) c * channelStride (p .control .exec)) + 4 * lane + k ≡ dataPlace (layoutFor p) + d = omega arith in
-        let f : from + 4 * (enabledBelow (p .channels) c * channelStride (p .control .exec) + lane) + k ≡ from + d = omega arith in
+        let d = 4 * (enabledBelow (p .channels) c * p .stride) + 4 * lane + k in
+        let e = data-copied registers (p .left) (p .right) 8 count (omega arith) (elements .0) (elements .1) from needed room-enough d (dword-needed (p .channels) (p .stride) (p .control .exec) c lane k h on g l) in
+        let t : dataPlace (layoutFor p) + 4 * (enabledBelow (p .channels) c * p .stride) + 4 * lane + k ≡ dataPlace (layoutFor p) + d = omega arith in
+        let f : from + 4 * (enabledBelow (p .channels) c * p .stride + lane) + k ≡ from + d = omega arith in
         record { byte = rw (t, f) (e .byte); taint = rw (t, f) (e .taint) }
 
     module _ (mask : ℕ) (lanes : Lanes) (told : lanes ≡ lanesOf (p .control .exec) (p .control .pred) mask (p .bits)) (on : List Bool) (sums : List ℕ) (worked : WorkedOut (room .bytes) (layoutFor p) lanes on sums) where

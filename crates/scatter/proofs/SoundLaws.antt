@@ -1,5 +1,5 @@
--- What `check` promises of a scatter's plan, in 16 lanes at most, is what the guard asks.
-use Prim.Native.Nat.{_≤_}
+-- What `check` promises of a scatter's plan, in 16 lanes at most and with channels at most 16 dwords apart, is what the guard asks.
+use Prim.Native.Nat.{ℕ, _≤_}
 use mathlib.Core.Path.{_≡_}
 use mathlib.Core.Bool.{true}
 use native.Mathlib.Omega.{arith}
@@ -13,13 +13,14 @@ use Rattle.plan.proofs.InstructionLaws.{Keeps}
 use Rattle.staging.proofs.FitLaws.{elements-fit}
 use Rattle.scatter.specs.mirror.Guarded.{scatterFits}
 
-pub sound-fits : (p : Plan) (c : Control) → execSize (c .exec) ≤ 16 → Keeps operation.Scatter c rule.Address rule.Dword p → scatterFits p ≡ true
+pub sound-fits : (p : Plan) (c : Control) (stride : ℕ) → execSize (c .exec) ≤ 16 → stride ≤ 16 → Keeps operation.Scatter c rule.Address rule.Dword stride p → scatterFits p ≡ true
 unfolding scatterFits
-sound-fits p c sixteen k =
+sound-fits p c stride sixteen near k =
     let lanes = execSize (p .control .exec) in
     let few : lanes ≤ 16 = rw (k .control) sixteen in
     rw (
       le-leb lanes 16 few,
+      le-leb (p .stride) 16 (omega (arith, near, k .stride-is)),
       elements-fit 8 (p .left) lanes (omega arith) (omega (arith, k .left)),
       elements-fit 8 (p .right) lanes (omega arith) (omega (arith, k .right)),
     )

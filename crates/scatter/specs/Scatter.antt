@@ -12,7 +12,7 @@ use Rattle.cells.specs.Over.{among, each, some, firstPair}
 use Rattle.cells.specs.Effect.{Effect, unless, unlessFound, writing}
 use Rattle.channels.specs.Bits.{bit}
 use Rattle.plan.specs.declared.Plan.{Plan}
-use Rattle.plan.specs.Needed.{enabledBelow, channelStride}
+use Rattle.plan.specs.Needed.{enabledBelow}
 use Rattle.staging.specs.Sources.{elementValue, eitherTainted}
 
 -- the memory window: its first address and its length
@@ -31,10 +31,11 @@ targetAddress c address element = (address + element + 4 * c) % 2 ^ 64
 unfoldable pub target : List ℕ → Plan → ℕ → ℕ → ℕ
 target bytes p c lane = targetAddress c (elementValue bytes (p .left) lane) (elementValue bytes (p .right) lane)
 
--- "Its data are dword p·max(ExecSize, 8)+i of Src, p the number of enabled channels below c": the register byte where they begin
+-- "Its data are dword p·max(ExecSize, 8)+i of Src, p the number of enabled channels below c", with the plan's stride in the place of the max
+-- (`channelStride`; document 02, request 5): the register byte where they begin
 unfoldable pub sourceByte : Plan → ℕ → ℕ → ℕ
 sourceByte p c lane =
-    getD (p .payload .at) 0 0 + 4 * (enabledBelow (p .channels) c * channelStride (p .control .exec) + lane)
+    getD (p .payload .at) 0 0 + 4 * (enabledBelow (p .channels) c * p .stride + lane)
 
 -- 11: "scatter address not a multiple of 4"
 unfoldable pub misaligned : ℕ → Bool

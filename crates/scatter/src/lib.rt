@@ -73,7 +73,7 @@ fn pairs_of(plan: Plan) -> Pairs
     Pairs {
         lanes: channels::split(plan.control.exec).size,
         channels: plan.channels,
-        stride: plan::channel_stride(plan.control.exec),
+        stride: plan.stride,
         first: staging::data_place(layout_for(plan)),
     }
 }
@@ -371,14 +371,15 @@ fn from_room(
     }
 }
 
-// Whether the lanes are no more than 16, and the elements of both addresses have room.
+// Whether the lanes are no more than 16, nor the dwords from a channel's data to the next channel's, and the elements of both addresses have room.
 fn fits(plan: Plan) -> bool
     ensures { λ r. ⌜ r ≡ scatterFits plan ⌝ }
 {
     let lanes = channels::split(plan.control.exec).size;
     let left = plan.left;
     let right = plan.right;
-    (lanes <= 16) & (staging::elements_fit(8, left, lanes) & staging::elements_fit(8, right, lanes))
+    ((lanes <= 16) & (plan.stride <= 16))
+        & (staging::elements_fit(8, left, lanes) & staging::elements_fit(8, right, lanes))
 }
 
 // The register byte where an operand begins.
@@ -398,7 +399,7 @@ fn stage_sources(registers: &[u8], register_taint: &[u8], plan: Plan) -> Room
     let right = plan.right;
     let source = plan.payload;
     let from = first_byte(source) as usize;
-    let needed = plan::scatter_needed(plan.control.exec, plan.channels) as usize;
+    let needed = plan::scatter_needed(plan.stride, plan.control.exec, plan.channels) as usize;
     staging::stage_with_data(registers, register_taint, left, right, lanes, from, needed)
 }
 

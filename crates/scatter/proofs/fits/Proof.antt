@@ -9,7 +9,7 @@ use Rattle.scatter.specs.mirror.Guarded.{scatterFits}
 returns : tie.Need-returns
 unfolding scatterFits
 returns c =
-    let s = c .before .before .before .before in
+    let s : tie.After-split = search c in
     rw (← ap (λ (e : Exec). e .size) (s .split .ensures), ← c .before .elements-fit .ensures, ← c .elements-fit2 .ensures)
 
 pub fits-spec : {M : Type 1} → statement M

@@ -8,9 +8,10 @@ use Rattle.scatter.proofs.PlanLaws.{pairs-told}
 
 returns : tie.Need-returns
 returns c =
-    let l = c .before in
-    let s = l .before in
-    pairs-told (s .before .before .args .plan) (s .before .split .result .size) _ _ _ (ap (λ (e : Exec). e .size) (s .before .split .ensures)) (s .channel-stride .ensures) (l .layout-for .ensures) (c .data-place .ensures)
+    let layout : tie.After-layout-for = search c in
+    let lanes : tie.After-split = search layout in
+    let start : tie.Start = search lanes in
+    pairs-told (start .args .plan) (lanes .split .result .size) _ _ (ap (λ (e : Exec). e .size) (lanes .split .ensures)) (layout .layout-for .ensures) (c .data-place .ensures)
 
 pub pairs-of-spec : {M : Type 1} → statement M
-pairs-of-spec = tie.close (tie.spec (λ c κs. search needs) (λ c κs. search needs) (λ c κs. search needs) (λ c κs. search needs) returns)
+pairs-of-spec = tie.close (tie.spec (λ c κs. search needs) (λ c κs. search needs) (λ c κs. search needs) returns)

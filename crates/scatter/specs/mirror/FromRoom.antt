@@ -16,7 +16,7 @@ use Rattle.channels.specs.Exec.{execSize}
 use Rattle.channels.specs.mirror.Prepared.{isOn}
 use Rattle.channels.specs.declared.Lanes.{Lanes}
 use Rattle.plan.specs.declared.Plan.{Plan}
-use Rattle.plan.specs.Needed.{enabledBelow, channelStride, scatterNeeded}
+use Rattle.plan.specs.Needed.{enabledBelow, scatterNeeded}
 use Rattle.staging.specs.declared.Layout.{Layout}
 use Rattle.staging.specs.mirror.Room.{layoutOf, dataPlace, dataStaged, firstNumber, secondNumber, eitherStaged}
 use Rattle.scatter.specs.Scatter.{Window}
@@ -35,14 +35,14 @@ pairsOf p =
     record {
       lanes = execSize (p .control .exec);
       channels = p .channels;
-      stride = channelStride (p .control .exec);
+      stride = p .stride;
       first = dataPlace (layoutFor p);
     }
 
 -- how the room comes to hold the sources: with the bytes of Src that the enabled channels need
 unfoldable pub sourcesStaged : Buffer → Plan → Buffer
 sourcesStaged registers p =
-    dataStaged registers (p .left) (p .right) (execSize (p .control .exec)) (getD (p .payload .at) 0 0) (scatterNeeded (p .control .exec) (p .channels))
+    dataStaged registers (p .left) (p .right) (execSize (p .control .exec)) (getD (p .payload .at) 0 0) (scatterNeeded (p .stride) (p .control .exec) (p .channels))
 
 -- ---- of each lane
 unfoldable pub laneSum : List ℕ → Layout → ℕ → ℕ

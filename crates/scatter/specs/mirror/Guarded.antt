@@ -15,10 +15,10 @@ use Rattle.staging.specs.Lanes.{lanesOn}
 use Rattle.staging.specs.mirror.Room.{elementsFit}
 use Rattle.scatter.specs.Scatter.{Window, scatterEffect}
 
--- "scatter 8 and 16 only", and UQ elements of 8 bytes
+-- "scatter 8 and 16 only", channels' data at most 16 dwords apart (max(16, 64/4)), and UQ elements of 8 bytes
 unfoldable pub scatterFits : Plan → Bool
 scatterFits p =
-    leb (execSize (p .control .exec)) 16
+    (leb (execSize (p .control .exec)) 16 && leb (p .stride) 16)
     && (elementsFit 8 (p .left) (execSize (p .control .exec)) && elementsFit 8 (p .right) (execSize (p .control .exec)))
 
 -- the window of a memory with this base
