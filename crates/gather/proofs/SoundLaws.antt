@@ -12,7 +12,7 @@ use Rattle.plan.proofs.InstructionLaws.{Keeps}
 use Rattle.staging.proofs.FitLaws.{elements-fit}
 use Rattle.gather.specs.mirror.Guarded.{gatherFits}
 
-pub sound-fits : (p : Plan) (c : Control) → Keeps operation.Gather c rule.Offset rule.Dword p → gatherFits p ≡ true
+pub sound-fits : (p : Plan) (c : Control) → Keeps operation.Gather c rule.Offset rule.Dword 0 p → gatherFits p ≡ true
 unfolding gatherFits
 sound-fits p c k =
     let lanes = execSize (p .control .exec) in

@@ -116,6 +116,7 @@ pub fn run(
         surfaces: surfaces.len(),
         memory: memory.len(),
         base: constants.base,
+        register_size: constants.register_size,
         taint,
     };
     if tables::tables_good(

@@ -12,7 +12,7 @@ use Rattle.plan.proofs.InstructionLaws.{Keeps}
 use Rattle.staging.proofs.FitLaws.{elements-fit}
 use Rattle.shl.specs.mirror.Guarded.{shlFits}
 
-pub sound-fits : (p : Plan) (c : Control) → Keeps operation.Shl c rule.Shift rule.Shift p → shlFits p ≡ true
+pub sound-fits : (p : Plan) (c : Control) → Keeps operation.Shl c rule.Shift rule.Shift 0 p → shlFits p ≡ true
 unfolding shlFits
 sound-fits p c k =
     let lanes = execSize (p .control .exec) in

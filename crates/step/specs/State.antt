@@ -1,9 +1,10 @@
 -- What a run is over. Document 01, "What the bench runs": "Lent for a run: kernel bytes, register file, surface bytes, memory window with
--- its 64-bit base, three tables, a 32-bit execution mask EM."
+-- its 64-bit base, three tables, a 32-bit execution mask EM"; document 02, request 5: "Let a run choose 32 or 64".
 use Prim.Native.Nat.{ℕ}
 use mathlib.Core.List.{List}
 use lib.ListN.{length}
 use Rattle.cells.specs.Buffer.{Buffer, buffer}
+use Rattle.tables.specs.Lengths.{chosenSize}
 use Rattle.tables.specs.declared.Lengths.{Lengths}
 use Rattle.tables.specs.Tables.{Tables}
 use Rattle.step.specs.declared.Constants.{Constants}
@@ -27,7 +28,11 @@ abbrev pub state : List ℕ → List ℕ → List ℕ → List ℕ → List ℕ 
 state registers registerTaint surfaces surfaceTaint memory memoryTaint =
     record { registers = buffer registers registerTaint; surfaces = buffer surfaces surfaceTaint; memory = buffer memory memoryTaint }
 
--- all lengths that 13 looks at
+-- the bytes of a register
+abbrev pub registerSize : Setup → ℕ
+registerSize x = chosenSize (x .constants .«register_size»)
+
+-- all lengths that 13 looks at, and the register size
 abbrev pub lengthsOf : Setup → State → Lengths
 lengthsOf x s =
     record {
@@ -36,6 +41,7 @@ lengthsOf x s =
       surfaces = length (s .surfaces .bytes);
       memory = length (s .memory .bytes);
       base = x .constants .base;
+      «register_size» = x .constants .«register_size»;
       taint = record {
         registers = length (s .registers .taint);
         surfaces = length (s .surfaces .taint);

@@ -84,6 +84,7 @@ lengths-unmarked x s l =
       surfaces = length (s .surfaces .bytes);
       memory = length (s .memory .bytes);
       base = x .constants .base;
+      «register_size» = x .constants .«register_size»;
       taint = record {
         registers = unmarked-length (s .registers) (l .registers-taint) i;
         surfaces = unmarked-length (s .surfaces) (l .surfaces-taint) i;

@@ -37,6 +37,7 @@ lengths-same x {s} {u} a =
       surfaces = sym (a .surfaces .size) i;
       memory = sym (a .memory .size) i;
       base = x .constants .base;
+      «register_size» = x .constants .«register_size»;
       taint = record {
         registers = ap length (a .registers .marks) i;
         surfaces = ap length (a .surfaces .marks) i;
