@@ -40,7 +40,7 @@ use Rattle.gather.specs.Gather.{isRead, gatheredByte, gatheredMark, gatherWrite
 use Rattle.scatter.specs.Scatter.{channelsOn, target, sourceByte, scatterPair, firstOffending, scatterEffect}
 use Rattle.scatter.proofs.AmongAlike.{among-alike}
 use Rattle.step.specs.declared.Constants.{Constants}
-use Rattle.step.specs.State.{Setup, State, lengthsOf}
+use Rattle.step.specs.State.{Setup, State, registerSize, lengthsOf}
 use Rattle.step.specs.Step.{Stepped, acted, planEffect, stepAt}
 use Rattle.step.proofs.StepOf.{stepOf}
 use Rattle.run.specs.Run.{stopped, runFrom, run}
@@ -138,7 +138,7 @@ module _ (x : Setup) (other : Predicates) (same : SamePredicates (x .tables .pre
   abbrev y : Setup
   y = record { kernel = x .kernel; tables = tables (x .tables .variables) other (x .tables .surfaces); constants = x .constants }
 
-  effect-alike : (s : State) (i : Instruction) → planEffect (x .constants) (checked (x .tables) i) s ≡ planEffect (x .constants) (checked (y .tables) i) s
+  effect-alike : (s : State) (i : Instruction) → planEffect (x .constants) (checked (registerSize x) (x .tables) i) s ≡ planEffect (x .constants) (checked (registerSize y) (y .tables) i) s
   unfolding checked
   effect-alike s i =
       let id = predicateId (controlOf i .pred) in
