@@ -110,32 +110,32 @@ tested-given P n d next here later = told (ltb 0 n)
     told true = here
     told false = later
 
-module _ (t : Variables) (exec : ℕ) where
-  operand-given : (o : Asked) → isGivenUncounted (located t exec o .number) ≡ true
+module _ (registerSize : ℕ) (t : Variables) (exec : ℕ) where
+  operand-given : (o : Asked) → isGivenUncounted (located registerSize t exec o .number) ≡ true
   unfolding locatedVector
   operand-given (vector r k (kind.General g)) =
       let v = variableAt t (g .index) in
-      ap isGivenUncounted (general-number t r k exec g)
-      ∙ general-given (inTable t (g .index)) (typeAllowed k (v .code)) (regionRefusal r (g .region) (execSize exec)) (elementsGood v (elementOf r g (sizeOf (v .code))) (execSize exec)) (region-named r (g .region) (execSize exec))
+      ap isGivenUncounted (general-number registerSize t r k exec g)
+      ∙ general-given (inTable t (g .index)) (typeAllowed k (v .code)) (regionRefusal r (g .region) (execSize exec)) (elementsGood registerSize v (elementOf registerSize r g (sizeOf (v .code))) (execSize exec)) (region-named r (g .region) (execSize exec))
   operand-given (vector r k (kind.Immediate i)) = located-immediate-given r k i
   operand-given (raw k bytes x) =
       let v = variableAt t (x .index) in
       ap isGivenUncounted (raw-number t k bytes x) ∙ raw-given (inTable t (x .index)) (typeAllowed k (v .code)) (rawGood v (x .offset) bytes)
 
-  operands-given : (place : ℕ) (os : List Asked) (next : Plan) → isGivenUncounted (next .number) ≡ true → isGivenUncounted (testedFrom place (map (located t exec) os) next .number) ≡ true
+  operands-given : (place : ℕ) (os : List Asked) (next : Plan) → isGivenUncounted (next .number) ≡ true → isGivenUncounted (testedFrom place (map (located registerSize t exec) os) next .number) ≡ true
   operands-given place [] next last = last
   operands-given place (o ∷ os) next last = tested-given (λ (n : ℕ). isGivenUncounted n ≡ true) _ _ _ (operand-given o) (operands-given (suc place) os next last)
 
-pub instruction-given : (t : Tables) (bits : ℕ) (i : Instruction) → isGivenUncounted (checkedOperands t bits i .number) ≡ true
+pub instruction-given : (registerSize : ℕ) (t : Tables) (bits : ℕ) (i : Instruction) → isGivenUncounted (checkedOperands registerSize t bits i .number) ≡ true
 unfolding checkedOperands checkedShl checkedGather checkedGatherOperands checkedScatter checkedSend shlDst shlSrc0 shlSrc1 gatherOffset gatherElementOffset gatherDst scatterAddress scatterElementOffset scatterSrc sendDesc sendSrc sendDst shlPlan gatherPlan scatterPlan refusedPlan isGivenUncounted namesOperand
-instruction-given t bits (instruction.Shl i) = operands-given (t .variables) (i .control .exec) 1 (operandsOf (instruction.Shl i)) _ refl
-instruction-given t bits (instruction.Gather i) = surfaced (ltb (i .access .surface) (length (t .surfaces .lengths)))
+instruction-given registerSize t bits (instruction.Shl i) = operands-given registerSize (t .variables) (i .control .exec) 1 (operandsOf registerSize (instruction.Shl i)) _ refl
+instruction-given registerSize t bits (instruction.Gather i) = surfaced (ltb (i .access .surface) (length (t .surfaces .lengths)))
   where
-    surfaced : (q : Bool) → isGivenUncounted (cond (not q) (refusedPlan 5 detail.None) (checkedGatherOperands (t .variables) bits (surfacePart (t .surfaces) (i .access .surface)) i) .number) ≡ true
-    surfaced true = operands-given (t .variables) (i .control .exec) 1 (operandsOf (instruction.Gather i)) _ refl
+    surfaced : (q : Bool) → isGivenUncounted (cond (not q) (refusedPlan 5 detail.None) (checkedGatherOperands registerSize (t .variables) bits (surfacePart (t .surfaces) (i .access .surface)) i) .number) ≡ true
+    surfaced true = operands-given registerSize (t .variables) (i .control .exec) 1 (operandsOf registerSize (instruction.Gather i)) _ refl
     surfaced false = refl
-instruction-given t bits (instruction.Scatter i) = operands-given (t .variables) (i .control .exec) 1 (operandsOf (instruction.Scatter i)) _ refl
-instruction-given t bits (instruction.RawSend i) = operands-given (t .variables) (i .control .exec) 1 (operandsOf (instruction.RawSend i)) _ refl
+instruction-given registerSize t bits (instruction.Scatter i) = operands-given registerSize (t .variables) (i .control .exec) 1 (operandsOf registerSize (instruction.Scatter i)) _ refl
+instruction-given registerSize t bits (instruction.RawSend i) = operands-given registerSize (t .variables) (i .control .exec) 1 (operandsOf registerSize (instruction.RawSend i)) _ refl
 
 -- 8, 5, 17 or none
 control-given : (p : PredicateRecord) (c : Control) → isGiven (controlRefusal p c) ≡ true
@@ -149,8 +149,8 @@ control-given p c = told (ltb 32 (lanesEnd (c .exec))) (hasPredicate (c .pred)) 
     told false true true true = refl
     told false true true false = refl
 
-pub checked-given : (t : Tables) (i : Instruction) → isGiven (checked t i .number) ≡ true
+pub checked-given : (registerSize : ℕ) (t : Tables) (i : Instruction) → isGiven (checked registerSize t i .number) ≡ true
 unfolding checked
-checked-given t i =
+checked-given registerSize t i =
     let p = predicateFor (t .predicates) (controlOf i) in
-    tested-given (λ (n : ℕ). isGiven n ≡ true) _ _ _ (control-given p (controlOf i)) (still-given _ (instruction-given t (bitsNamed p (controlOf i .pred)) i))
+    tested-given (λ (n : ℕ). isGiven n ≡ true) _ _ _ (control-given p (controlOf i)) (still-given _ (instruction-given registerSize t (bitsNamed p (controlOf i .pred)) i))

@@ -17,10 +17,10 @@ unfolding isGiven isGivenUncounted namesOperand
 six-is-none = refl
 
 -- an instruction is refused by one of 20 to 25 exactly where the one rule refused it by 6
-pub six-exactly : (t : Tables) (i : Instruction) → namesOperand (checked t i .number) ≡ eqb (numberBefore t i) 6
+pub six-exactly : (registerSize : ℕ) (t : Tables) (i : Instruction) → namesOperand (checked registerSize t i .number) ≡ eqb (numberBefore registerSize t i) 6
 unfolding asBefore
-six-exactly t i = subst (λ (n : ℕ). namesOperand (checked t i .number) ≡ eqb n 6) (checked-before t i) (told (namesOperand (checked t i .number)) refl)
+six-exactly registerSize t i = subst (λ (n : ℕ). namesOperand (checked registerSize t i .number) ≡ eqb n 6) (checked-before registerSize t i) (told (namesOperand (checked registerSize t i .number)) refl)
   where
-    told : (q : Bool) → namesOperand (checked t i .number) ≡ q → q ≡ eqb (cond q 6 (checked t i .number)) 6
+    told : (q : Bool) → namesOperand (checked registerSize t i .number) ≡ q → q ≡ eqb (cond q 6 (checked registerSize t i .number)) 6
     told true e = refl
-    told false e = sym (passes-not isGiven 6 six-is-none (checked t i .number) (checked-given t i))
+    told false e = sym (passes-not isGiven 6 six-is-none (checked registerSize t i .number) (checked-given registerSize t i))

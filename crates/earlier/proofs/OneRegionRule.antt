@@ -83,23 +83,23 @@ general-cases true true n allowed inside six refused good = told (ltb 0 n) refl
     told true e = rw (refused e) (six e)
     told false e = rw (good e) (reached inside)
 
-vector-before : (t : Variables) (r : Role) (k : TypeRule) (exec : ℕ) (x : Operand) → asBefore (locatedVector t r k exec x .number) ≡ vectorNumber t r k exec x
+vector-before : (registerSize : ℕ) (t : Variables) (r : Role) (k : TypeRule) (exec : ℕ) (x : Operand) → asBefore (locatedVector registerSize t r k exec x .number) ≡ vectorNumber registerSize t r k exec x
 unfolding vectorNumber generalNumber locatedVector
-vector-before t r k exec (kind.General g) =
+vector-before registerSize t r k exec (kind.General g) =
     let v = variableAt t (g .index) in
-    ap asBefore (general-number t r k exec g)
-    ∙ general-cases (inTable t (g .index)) (typeAllowed k (v .code)) (regionRefusal r (g .region) (execSize exec)) (regionAllowed r (g .region) (execSize exec)) (elementsGood v (elementOf r g (sizeOf (v .code))) (execSize exec))
+    ap asBefore (general-number registerSize t r k exec g)
+    ∙ general-cases (inTable t (g .index)) (typeAllowed k (v .code)) (regionRefusal r (g .region) (execSize exec)) (regionAllowed r (g .region) (execSize exec)) (elementsGood registerSize v (elementOf registerSize r g (sizeOf (v .code))) (execSize exec))
     (broken-six r (g .region) (execSize exec)) (broken-refused r (g .region) (execSize exec)) (unbroken-allowed r (g .region) (execSize exec))
-vector-before t r k exec (kind.Immediate i) = stays _ (located-immediate-unnamed r k i)
+vector-before registerSize t r k exec (kind.Immediate i) = stays _ (located-immediate-unnamed r k i)
 
 raw-before : (t : Variables) (k : TypeRule) (bytes : ℕ) (x : Raw) → asBefore (locatedRaw t k bytes x .number) ≡ locatedRaw t k bytes x .number
 raw-before t k bytes x = stays _ (raw-unnamed t k bytes x)
 
 -- ---- all tests before data
 
-operand-before : (t : Variables) (exec : ℕ) (o : Asked) → asBefore (located t exec o .number) ≡ askedNumber t exec o
-operand-before t exec (vector r k x) = vector-before t r k exec x
-operand-before t exec (raw k bytes x) = raw-before t k bytes x
+operand-before : (registerSize : ℕ) (t : Variables) (exec : ℕ) (o : Asked) → asBefore (located registerSize t exec o .number) ≡ askedNumber registerSize t exec o
+operand-before registerSize t exec (vector r k x) = vector-before registerSize t r k exec x
+operand-before registerSize t exec (raw k bytes x) = raw-before t k bytes x
 
 tested-before : (n : ℕ) (d : Detail) (next : Plan) (ns : List ℕ) (last : ℕ) → asBefore (next .number) ≡ firstRefusal ns last → asBefore (tested n d next .number) ≡ firstRefusal (asBefore n ∷ ns) last
 unfolding tested refusedPlan
@@ -109,27 +109,27 @@ tested-before n d next ns last e = told (ltb 0 n) ∙ sym (first-before n ns las
     told true = refl
     told false = e
 
-operands-before : (t : Variables) (exec place : ℕ) (os : List Asked) (next : Plan) → asBefore (testedFrom place (map (located t exec) os) next .number) ≡ firstRefusal (map (askedNumber t exec) os) (asBefore (next .number))
-operands-before t exec place [] next = refl
-operands-before t exec place (o ∷ os) next =
-    tested-before _ _ _ (map (askedNumber t exec) os) _ (operands-before t exec (suc place) os next)
-    ∙ ap (λ (n : ℕ). firstRefusal (n ∷ map (askedNumber t exec) os) (asBefore (next .number))) (operand-before t exec o)
+operands-before : (registerSize : ℕ) (t : Variables) (exec place : ℕ) (os : List Asked) (next : Plan) → asBefore (testedFrom place (map (located registerSize t exec) os) next .number) ≡ firstRefusal (map (askedNumber registerSize t exec) os) (asBefore (next .number))
+operands-before registerSize t exec place [] next = refl
+operands-before registerSize t exec place (o ∷ os) next =
+    tested-before _ _ _ (map (askedNumber registerSize t exec) os) _ (operands-before registerSize t exec (suc place) os next)
+    ∙ ap (λ (n : ℕ). firstRefusal (n ∷ map (askedNumber registerSize t exec) os) (asBefore (next .number))) (operand-before registerSize t exec o)
 
-module _ (t : Tables) (bits : ℕ) where
-  instruction-before : (i : Instruction) → asBefore (checkedOperands t bits i .number) ≡ firstRefusal (surfaceNumber t i ∷ operandNumbers (t .variables) i) (lastNumber i)
+module _ (registerSize : ℕ) (t : Tables) (bits : ℕ) where
+  instruction-before : (i : Instruction) → asBefore (checkedOperands registerSize t bits i .number) ≡ firstRefusal (surfaceNumber t i ∷ operandNumbers registerSize (t .variables) i) (lastNumber i)
   unfolding checkedOperands checkedShl checkedGather checkedGatherOperands checkedScatter checkedSend controlOf surfaceNumber lastNumber shlDst shlSrc0 shlSrc1 gatherOffset gatherElementOffset gatherDst scatterAddress scatterElementOffset scatterSrc sendDesc sendSrc sendDst shlPlan gatherPlan scatterPlan refusedPlan asBefore namesOperand
-  instruction-before (instruction.Shl i) = operands-before (t .variables) (i .control .exec) 1 (operandsOf (instruction.Shl i)) _
+  instruction-before (instruction.Shl i) = operands-before registerSize (t .variables) (i .control .exec) 1 (operandsOf registerSize (instruction.Shl i)) _
   instruction-before (instruction.Gather i) = surfaced (ltb (i .access .surface) (length (t .surfaces .lengths)))
     where
-      surfaced : (q : Bool) → asBefore (cond (not q) (refusedPlan 5 detail.None) (checkedGatherOperands (t .variables) bits (surfacePart (t .surfaces) (i .access .surface)) i) .number) ≡ firstRefusal (cond (not q) 5 0 ∷ operandNumbers (t .variables) (instruction.Gather i)) 0
-      surfaced true = operands-before (t .variables) (i .control .exec) 1 (operandsOf (instruction.Gather i)) _
+      surfaced : (q : Bool) → asBefore (cond (not q) (refusedPlan 5 detail.None) (checkedGatherOperands registerSize (t .variables) bits (surfacePart (t .surfaces) (i .access .surface)) i) .number) ≡ firstRefusal (cond (not q) 5 0 ∷ operandNumbers registerSize (t .variables) (instruction.Gather i)) 0
+      surfaced true = operands-before registerSize (t .variables) (i .control .exec) 1 (operandsOf registerSize (instruction.Gather i)) _
       surfaced false = refl
-  instruction-before (instruction.Scatter i) = operands-before (t .variables) (i .control .exec) 1 (operandsOf (instruction.Scatter i)) _
-  instruction-before (instruction.RawSend i) = operands-before (t .variables) (i .control .exec) 1 (operandsOf (instruction.RawSend i)) _
+  instruction-before (instruction.Scatter i) = operands-before registerSize (t .variables) (i .control .exec) 1 (operandsOf registerSize (instruction.Scatter i)) _
+  instruction-before (instruction.RawSend i) = operands-before registerSize (t .variables) (i .control .exec) 1 (operandsOf registerSize (instruction.RawSend i)) _
 
-pub checked-before : (t : Tables) (i : Instruction) → asBefore (checked t i .number) ≡ numberBefore t i
+pub checked-before : (registerSize : ℕ) (t : Tables) (i : Instruction) → asBefore (checked registerSize t i .number) ≡ numberBefore registerSize t i
 unfolding checked numberBefore
-checked-before t i =
+checked-before registerSize t i =
     let p = predicateFor (t .predicates) (controlOf i) in
-    tested-before (controlRefusal p (controlOf i)) _ _ (surfaceNumber t i ∷ operandNumbers (t .variables) i) (lastNumber i) (instruction-before t (bitsNamed p (controlOf i .pred)) i)
-    ∙ ap (λ (n : ℕ). firstRefusal (n ∷ surfaceNumber t i ∷ operandNumbers (t .variables) i) (lastNumber i)) (stays _ (control-unnamed p (controlOf i)))
+    tested-before (controlRefusal p (controlOf i)) _ _ (surfaceNumber t i ∷ operandNumbers registerSize (t .variables) i) (lastNumber i) (instruction-before registerSize t (bitsNamed p (controlOf i .pred)) i)
+    ∙ ap (λ (n : ℕ). firstRefusal (n ∷ surfaceNumber t i ∷ operandNumbers registerSize (t .variables) i) (lastNumber i)) (stays _ (control-unnamed p (controlOf i)))

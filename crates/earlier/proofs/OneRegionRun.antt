@@ -122,7 +122,7 @@ module _ (x : Setup) (s : State) where
 
   plan-before : (i : Read Instruction) → SameBefore (stepNow i) (stepThen i (numberBefore (registerSize x) (x .tables) (i .value))) s
   unfolding planEffect
-  plan-before i = subst (λ (n : ℕ). SameBefore (stepNow i) (stepThen i n) s) (checked-before (x .tables) (i .value)) (told (planned (i .value) .number) refl)
+  plan-before i = subst (λ (n : ℕ). SameBefore (stepNow i) (stepThen i n) s) (checked-before (registerSize x) (x .tables) (i .value)) (told (planned (i .value) .number) refl)
     where
       zero-then : asBefore 0 ≡ 0
       zero-then = sym (decoding-stays 0 (omega arith))
@@ -184,7 +184,7 @@ module _ (x : Setup) where
 
   told-given : (at : ℕ) (s : State) (n : ℕ) (d : Detail) → Tells x at s n d → isGiven n ≡ true
   told-given at s n d (undecoded {n = k} e) = still-given k (small-given k (omega (arith, refusal-at-most-four (x .kernel) at k e)))
-  told-given at s n d (tested {i = i} is e names) = subst (λ (k : ℕ). isGiven k ≡ true) e (checked-given (x .tables) i)
+  told-given at s n d (tested {i = i} is e names) = subst (λ (k : ℕ). isGiven k ≡ true) e (checked-given (registerSize x) (x .tables) i)
   told-given at s n d (performed is e own) = own-given _ _ _ _ _ _ own
 
   step-given : (at : ℕ) (s : State) → isGiven (stepAt x at s .effect .number) ≡ true

@@ -41,13 +41,13 @@ control-counted t i =
     told false true true false = refl
 
 -- 17, or what it was before
-pub checked-counted : (t : Tables) (i : Instruction) → checked t i ≡ cond (pastCount (t .predicates) (controlOf i)) (refusedPlan 17 detail.None) (checkedUncounted t i)
+pub checked-counted : (registerSize : ℕ) (t : Tables) (i : Instruction) → checked registerSize t i ≡ cond (pastCount (t .predicates) (controlOf i)) (refusedPlan 17 detail.None) (checkedUncounted registerSize t i)
 unfolding checked checkedUncounted tested bitsNamed bitsUncounted predicateAt
-checked-counted t i =
+checked-counted registerSize t i =
     rw (control-counted (t .predicates) i) (told (pastCount (t .predicates) (controlOf i)))
   where
     next : Plan
-    next = checkedOperands t (cond (hasPredicate (controlOf i .pred)) (getD (t .predicates .bits) (predicateId (controlOf i .pred)) 0) 0) i
+    next = checkedOperands registerSize t (cond (hasPredicate (controlOf i .pred)) (getD (t .predicates .bits) (predicateId (controlOf i .pred)) 0) 0) i
 
     told : (q : Bool) → cond (ltb 0 (cond q 17 (controlUncounted (t .predicates .bits) (controlOf i)))) (refusedPlan (cond q 17 (controlUncounted (t .predicates .bits) (controlOf i))) detail.None) next
         ≡ cond q (refusedPlan 17 detail.None) (cond (ltb 0 (controlUncounted (t .predicates .bits) (controlOf i))) (refusedPlan (controlUncounted (t .predicates .bits) (controlOf i)) detail.None) next)
@@ -55,10 +55,10 @@ checked-counted t i =
     told false = refl
 
 -- "Whatever is not refused keeps its enabled channels", and all else that is run of it
-pub accepted-uncounted : (t : Tables) (i : Instruction) → checked t i .number ≡ 0 → checked t i ≡ checkedUncounted t i
-accepted-uncounted t i z = checked-counted t i ∙ told (pastCount (t .predicates) (controlOf i)) (sym (ap (λ (p : Plan). p .number) (checked-counted t i)) ∙ z)
+pub accepted-uncounted : (registerSize : ℕ) (t : Tables) (i : Instruction) → checked registerSize t i .number ≡ 0 → checked registerSize t i ≡ checkedUncounted registerSize t i
+accepted-uncounted registerSize t i z = checked-counted registerSize t i ∙ told (pastCount (t .predicates) (controlOf i)) (sym (ap (λ (p : Plan). p .number) (checked-counted registerSize t i)) ∙ z)
   where
-    told : (q : Bool) → cond q (refusedPlan 17 detail.None) (checkedUncounted t i) .number ≡ 0 → cond q (refusedPlan 17 detail.None) (checkedUncounted t i) ≡ checkedUncounted t i
+    told : (q : Bool) → cond q (refusedPlan 17 detail.None) (checkedUncounted registerSize t i) .number ≡ 0 → cond q (refusedPlan 17 detail.None) (checkedUncounted registerSize t i) ≡ checkedUncounted registerSize t i
     told true e = absurd (omega (arith, refusal-number 17 detail.None, e))
     told false e = refl
 
@@ -71,18 +71,18 @@ control-uncounted-given bits c = told (ltb 32 (lanesEnd (c .exec))) (hasPredicat
     told false true = refl
     told false false = refl
 
-uncounted-given : (t : Tables) (i : Instruction) → isGivenUncounted (checkedUncounted t i .number) ≡ true
+uncounted-given : (registerSize : ℕ) (t : Tables) (i : Instruction) → isGivenUncounted (checkedUncounted registerSize t i .number) ≡ true
 unfolding checkedUncounted
-uncounted-given t i = tested-given (λ (n : ℕ). isGivenUncounted n ≡ true) _ _ _ (control-uncounted-given (t .predicates .bits) (controlOf i)) (instruction-given t _ i)
+uncounted-given registerSize t i = tested-given (λ (n : ℕ). isGivenUncounted n ≡ true) _ _ _ (control-uncounted-given (t .predicates .bits) (controlOf i)) (instruction-given registerSize t _ i)
 
 seventeen-is-none : isGivenUncounted 17 ≡ false
 unfolding isGivenUncounted namesOperand
 seventeen-is-none = refl
 
 -- 17 is given exactly there
-pub seventeen-exactly : (t : Tables) (i : Instruction) → eqb (checked t i .number) 17 ≡ pastCount (t .predicates) (controlOf i)
-seventeen-exactly t i = ap (λ (p : Plan). eqb (p .number) 17) (checked-counted t i) ∙ told (pastCount (t .predicates) (controlOf i))
+pub seventeen-exactly : (registerSize : ℕ) (t : Tables) (i : Instruction) → eqb (checked registerSize t i .number) 17 ≡ pastCount (t .predicates) (controlOf i)
+seventeen-exactly registerSize t i = ap (λ (p : Plan). eqb (p .number) 17) (checked-counted registerSize t i) ∙ told (pastCount (t .predicates) (controlOf i))
   where
-    told : (q : Bool) → eqb (cond q (refusedPlan 17 detail.None) (checkedUncounted t i) .number) 17 ≡ q
+    told : (q : Bool) → eqb (cond q (refusedPlan 17 detail.None) (checkedUncounted registerSize t i) .number) 17 ≡ q
     told true = eq-eqb _ 17 (refusal-number 17 detail.None)
-    told false = passes-not isGivenUncounted 17 seventeen-is-none (checkedUncounted t i .number) (uncounted-given t i)
+    told false = passes-not isGivenUncounted 17 seventeen-is-none (checkedUncounted registerSize t i .number) (uncounted-given registerSize t i)

@@ -47,7 +47,7 @@ module _ (x : Setup) where
 
   checked-unless : (s : State) (i : Instruction) → planEffect (x .constants) (checked (registerSize x) (x .tables) i) s .number ≢ 17 → checked (registerSize x) (x .tables) i ≡ checkedUncounted (registerSize x) (x .tables) i
   checked-unless s i h =
-      let is = checked-counted (x .tables) i in
+      let is = checked-counted (registerSize x) (x .tables) i in
       is ∙ told (pastCount (x .tables .predicates) (controlOf i)) (subst (λ (p : Plan). planEffect (x .constants) p s .number ≢ 17) is h)
     where
       told : (q : Bool) → planEffect (x .constants) (cond q (refusedPlan 17 detail.None) (checkedUncounted (registerSize x) (x .tables) i)) s .number ≢ 17 → cond q (refusedPlan 17 detail.None) (checkedUncounted (registerSize x) (x .tables) i) ≡ checkedUncounted (registerSize x) (x .tables) i
@@ -81,7 +81,7 @@ module _ (x : Setup) where
   tables-still s =
       let l = lengthsOf x s in
       let p = x .tables .predicates in
-      still (lengthsGood l) (variablesGood (l .registers) (x .tables .variables)) (leb (length (p .bits)) 64) (eqb (length (p .counts)) (length (p .bits))) (everyBelow (length (p .counts)) (countGoodAt (p .counts))) (surfacesGood (l .surfaces) (x .tables .surfaces))
+      still (lengthsGood l) (variablesGood (l .«register_size») (l .registers) (x .tables .variables)) (leb (length (p .bits)) 64) (eqb (length (p .counts)) (length (p .bits))) (everyBelow (length (p .counts)) (countGoodAt (p .counts))) (surfacesGood (l .surfaces) (x .tables .surfaces))
     where
       still : (a b f g h d : Bool) → (a && b && (f && g && h) && d) ≡ true → (a && b && f && d) ≡ true
       still true true true true true d e = e
@@ -150,7 +150,7 @@ module _ (p : Predicates) (all : AllThirtyTwo p) where
 
 module _ (x : Setup) (all : AllThirtyTwo (x .tables .predicates)) where
   checked-uncounted : (i : Instruction) → checked (registerSize x) (x .tables) i ≡ checkedUncounted (registerSize x) (x .tables) i
-  checked-uncounted i = checked-counted (x .tables) i ∙ ap (λ (q : Bool). cond q (refusedPlan 17 detail.None) (checkedUncounted (registerSize x) (x .tables) i)) (never-past (x .tables .predicates) all (controlOf i))
+  checked-uncounted i = checked-counted (registerSize x) (x .tables) i ∙ ap (λ (q : Bool). cond q (refusedPlan 17 detail.None) (checkedUncounted (registerSize x) (x .tables) i)) (never-past (x .tables .predicates) all (controlOf i))
 
   step-uncounted : (at : ℕ) (s : State) → stepAt x at s ≡ stepUncounted x at s
   unfolding stepAt stepUncounted

@@ -1,6 +1,6 @@
 -- The number of the first failing test before data, with document 01's one rule of regions, 6, in the place of 20 to 25. Document 01, "The numbers
 -- given back": "A run then tests 8; predicate 5; surface 5; each operand in order 5, 4 (type), 6, 7; 9". The tests of exec byte and pred word are
--- those of now, 17 among them.
+-- those of now, 17 among them, and registers have the size of now.
 use Prim.Native.Nat.{ℕ, zero, suc}
 use mathlib.Core.Bool.{cond, not}
 use mathlib.Core.List.{List, [], _∷_, map}
@@ -29,17 +29,17 @@ use Rattle.plan.specs.Control.{controlOf}
 use Rattle.plan.specs.Places.{Asked, vector, raw, operandsOf}
 
 -- "4 (type), 6, 7": 6 where document 01's rule of the region's parameters (`regionAllowed`) does not hold
-unfoldable pub generalNumber : Role → TypeRule → ℕ → General → Variable → ℕ
-generalNumber role rule lanes g v =
+unfoldable pub generalNumber : ℕ → Role → TypeRule → ℕ → General → Variable → ℕ
+generalNumber registerSize role rule lanes g v =
     cond (not (typeAllowed rule (v .code))) 4
     (cond (not (regionAllowed role (g .region) lanes)) 6
-    (cond (not (elementsGood v (elementOf role g (sizeOf (v .code))) lanes)) 7 0))
+    (cond (not (elementsGood registerSize v (elementOf registerSize role g (sizeOf (v .code))) lanes)) 7 0))
 
 -- a vector operand or a scalar
-unfoldable pub vectorNumber : Variables → Role → TypeRule → ℕ → Operand → ℕ
-vectorNumber t role rule exec (operand.General g) =
-    cond (not (inTable t (g .index))) 5 (generalNumber role rule (execSize exec) g (variableAt t (g .index)))
-vectorNumber t role rule exec (operand.Immediate i) = locatedImmediate role rule i .number
+unfoldable pub vectorNumber : ℕ → Variables → Role → TypeRule → ℕ → Operand → ℕ
+vectorNumber registerSize t role rule exec (operand.General g) =
+    cond (not (inTable t (g .index))) 5 (generalNumber registerSize role rule (execSize exec) g (variableAt t (g .index)))
+vectorNumber registerSize t role rule exec (operand.Immediate i) = locatedImmediate role rule i .number
 
 -- the first of these numbers that is not 0, else the last one
 abbrev pub firstRefusal : List ℕ → ℕ → ℕ
@@ -48,13 +48,13 @@ firstRefusal (zero ∷ ns) last = firstRefusal ns last
 firstRefusal (suc n ∷ ns) last = suc n
 
 -- raw operands have no region
-abbrev pub askedNumber : Variables → ℕ → Asked → ℕ
-askedNumber t exec (vector role rule o) = vectorNumber t role rule exec o
-askedNumber t exec (raw rule bytes r) = locatedRaw t rule bytes r .number
+abbrev pub askedNumber : ℕ → Variables → ℕ → Asked → ℕ
+askedNumber registerSize t exec (vector role rule o) = vectorNumber registerSize t role rule exec o
+askedNumber registerSize t exec (raw rule bytes r) = locatedRaw t rule bytes r .number
 
 -- "each operand in order"
-abbrev pub operandNumbers : Variables → Instruction → List ℕ
-operandNumbers t i = map (askedNumber t (controlOf i .exec)) (operandsOf i)
+abbrev pub operandNumbers : ℕ → Variables → Instruction → List ℕ
+operandNumbers registerSize t i = map (askedNumber registerSize t (controlOf i .exec)) (operandsOf registerSize i)
 
 -- "surface 5", of a gather
 unfoldable pub surfaceNumber : Tables → Instruction → ℕ
@@ -70,9 +70,9 @@ lastNumber (instruction.Shl i) = 0
 lastNumber (instruction.Gather i) = 0
 lastNumber (instruction.Scatter i) = 0
 
-unfoldable pub numberBefore : Tables → Instruction → ℕ
-numberBefore t i =
-    firstRefusal (controlRefusal (predicateFor (t .predicates) (controlOf i)) (controlOf i) ∷ surfaceNumber t i ∷ operandNumbers (t .variables) i) (lastNumber i)
+unfoldable pub numberBefore : ℕ → Tables → Instruction → ℕ
+numberBefore registerSize t i =
+    firstRefusal (controlRefusal (predicateFor (t .predicates) (controlOf i)) (controlOf i) ∷ surfaceNumber t i ∷ operandNumbers registerSize (t .variables) i) (lastNumber i)
 
 -- "6 becomes 20 to 24 .. 25", turned back
 unfoldable pub asBefore : ℕ → ℕ

@@ -30,7 +30,7 @@ use Rattle.run.specs.Run.{Outcome, stopped, runFrom}
 unfoldable pub tablesUncounted : Lengths → Tables → Bool
 tablesUncounted l t =
     lengthsGood l
-    && variablesGood (l .registers) (t .variables)
+    && variablesGood (l .«register_size») (l .registers) (t .variables)
     && leb (length (t .predicates .bits)) 64
     && surfacesGood (l .surfaces) (t .surfaces)
 
@@ -44,10 +44,10 @@ controlUncounted bits control =
 unfoldable pub bitsUncounted : List ℕ → ℕ → ℕ
 bitsUncounted bits pred = cond (hasPredicate pred) (getD bits (predicateId pred) 0) 0
 
-unfoldable pub checkedUncounted : Tables → Instruction → Plan
-checkedUncounted t i =
+unfoldable pub checkedUncounted : ℕ → Tables → Instruction → Plan
+checkedUncounted registerSize t i =
     tested (controlUncounted (t .predicates .bits) (controlOf i)) detail.None
-    (checkedOperands t (bitsUncounted (t .predicates .bits) (controlOf i .pred)) i)
+    (checkedOperands registerSize t (bitsUncounted (t .predicates .bits) (controlOf i .pred)) i)
 
 unfoldable pub stepUncounted : Setup → ℕ → State → Stepped
 stepUncounted x at s =

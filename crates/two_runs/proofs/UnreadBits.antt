@@ -82,25 +82,25 @@ module _ (c : Constants) (s : State) where
     unfolding planEffect acted gatherPlan unless lanesOn gatherEffect gatherLane gatherWrites gatheredMark gatheredByte isRead
     gather-alike l r d bytes surface t = rw (lanes-alike control a b h (c .mask))
 
-    scatter-alike : (l r d : Elements) (channels : ℕ) → SameEffect (scatterPlan control a l r d channels) (scatterPlan control b l r d channels)
+    scatter-alike : (l r d : Elements) (channels stride : ℕ) → SameEffect (scatterPlan control a l r d channels stride) (scatterPlan control b l r d channels stride)
     unfolding planEffect acted scatterPlan unless lanesOn scatterEffect scatterPair firstOffending target sourceByte channelsOn
-    scatter-alike l r d channels = rw (lanes-alike control a b h (c .mask))
+    scatter-alike l r d channels stride = rw (lanes-alike control a b h (c .mask))
 
   -- past the tests of the pred word; the rest looks at no predicate
-  module _ (t : Tables) (other : Predicates) where
+  module _ (registerSize : ℕ) (t : Tables) (other : Predicates) where
     abbrev u : Tables
     u = tables (t .variables) other (t .surfaces)
 
-    instruction-alike : (i : Instruction) (a b : ℕ) → SameLanes (controlOf i) a b → SameEffect (checkedOperands t a i) (checkedOperands u b i)
+    instruction-alike : (i : Instruction) (a b : ℕ) → SameLanes (controlOf i) a b → SameEffect (checkedOperands registerSize t a i) (checkedOperands registerSize u b i)
     unfolding checkedOperands controlOf checkedShl checkedGather checkedGatherOperands checkedScatter
-    instruction-alike (instruction.Shl i) a b h = operands-alike 1 (shlOperands (t .variables) i) _ _ (shl-alike (i .control) a b h _ _ _)
+    instruction-alike (instruction.Shl i) a b h = operands-alike 1 (shlOperands registerSize (t .variables) i) _ _ (shl-alike (i .control) a b h _ _ _)
     instruction-alike (instruction.Gather i) a b h = surfaced (ltb (i .access .surface) (length (t .surfaces .lengths)))
       where
-        surfaced : (q : Bool) → SameEffect (cond (not q) (refusedPlan 5 detail.None) (checkedGatherOperands (t .variables) a (surfacePart (t .surfaces) (i .access .surface)) i))
-            (cond (not q) (refusedPlan 5 detail.None) (checkedGatherOperands (t .variables) b (surfacePart (t .surfaces) (i .access .surface)) i))
-        surfaced true = operands-alike 1 (gatherOperands (t .variables) i) _ _ (gather-alike (i .control) a b h _ _ _ _ (i .access .surface) (t .surfaces))
+        surfaced : (q : Bool) → SameEffect (cond (not q) (refusedPlan 5 detail.None) (checkedGatherOperands registerSize (t .variables) a (surfacePart (t .surfaces) (i .access .surface)) i))
+            (cond (not q) (refusedPlan 5 detail.None) (checkedGatherOperands registerSize (t .variables) b (surfacePart (t .surfaces) (i .access .surface)) i))
+        surfaced true = operands-alike 1 (gatherOperands registerSize (t .variables) i) _ _ (gather-alike (i .control) a b h _ _ _ _ (i .access .surface) (t .surfaces))
         surfaced false = refl
-    instruction-alike (instruction.Scatter i) a b h = operands-alike 1 (scatterOperands (t .variables) i) _ _ (scatter-alike (i .control) a b h _ _ _ _)
+    instruction-alike (instruction.Scatter i) a b h = operands-alike 1 (scatterOperands registerSize (t .variables) i) _ _ (scatter-alike (i .control) a b h _ _ _ _ _)
     instruction-alike (instruction.RawSend i) a b h = refl
 
 -- ---- the tests of the pred word, and 13
@@ -145,7 +145,7 @@ module _ (x : Setup) (other : Predicates) (same : SamePredicates (x .tables .pre
       let p = x .tables .predicates in
       rw (← refusal-alike p other same id (controlOf i))
       (tested-alike (x .constants) s (controlRefusal (predicateAt p id) (controlOf i)) detail.None _ _
-      (λ z. instruction-alike (x .constants) s (x .tables) other i _ _ (passed-alike p other same id (controlOf i) z)))
+      (λ z. instruction-alike (x .constants) s (registerSize x) (x .tables) other i _ _ (passed-alike p other same id (controlOf i) z)))
 
   step-alike : (at : ℕ) (s : State) → stepAt x at s ≡ stepAt y at s
   unfolding stepAt
