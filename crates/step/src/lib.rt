@@ -12,10 +12,11 @@ ghost use Rattle.step.specs.Borrowed.{lent};
 ghost use Rattle.step.specs.Step.{planEffect, stepAt, after};
 ghost use Rattle.step.specs.mirror.Fits.{Fits};
 
-// What stays the same in a run beside the borrowed slices: the memory window's base, and the execution mask (EM).
+// What stays the same in a run beside the borrowed slices: the memory window's base, the execution mask (EM), and the bytes of a register.
 pub struct Constants {
     pub base: u64,
     pub mask: u32,
+    pub register_size: u8,
 }
 
 // What one instruction gave: its number with what it tells, and where the next one begins.
