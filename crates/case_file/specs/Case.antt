@@ -35,7 +35,7 @@ baseOf content = numberAt 8 content 0
 unfoldable pub memoryOf : List ℕ → List ℕ
 memoryOf content = drop 8 content
 
--- document 02, request 5: "A frame 0b with one byte, 20 or 40 in hex, picks the size; absent means 32"
+-- document 02, request 5: "A frame 0b with one byte, 20 or 40 in hex, picks the size; absent means 32"; to "any other size" the run answers 13
 unfoldable pub registerSizeOf : List (List ℕ) → ℕ
 registerSizeOf [] = 32
 registerSizeOf (content ∷ contents) = getD content 0 0
