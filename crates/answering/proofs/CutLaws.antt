@@ -51,7 +51,7 @@ length-taint size kind c taint t h e = ap (λ (l : List ℕ). length l) e ∙ to
 pub setup-cut : (c : Case) (kernel types starts counts bits elements surfaces lengths k t s n p q l : List ℕ) (bytes variables words numbers : ℕ) →
     bytes ≡ lengthOf 7 c → variables ≡ metOf 2 c → numbers ≡ metOf 3 c → words ≡ metOf 4 c →
     k ≡ take bytes kernel → t ≡ take variables types → s ≡ take variables starts → n ≡ take variables counts → p ≡ take numbers bits → q ≡ take numbers elements → l ≡ take words lengths →
-    setup k (whole.tables (record { types = t; starts = s; counts = n }) (record { bits = p; counts = q }) (record { lengths = l })) (record { base = c .settings .base; mask = c .settings .mask }) ≡ setupOf c kernel (tables types starts counts bits elements surfaces lengths)
+    setup k (whole.tables (record { types = t; starts = s; counts = n }) (record { bits = p; counts = q }) (record { lengths = l })) (record { base = c .settings .base; mask = c .settings .mask; «register_size» = c .settings .«register_size» }) ≡ setupOf c kernel (tables types starts counts bits elements surfaces lengths)
 unfolding setupOf
 setup-cut c kernel types starts counts bits elements surfaces lengths k t s n p q l bytes variables words numbers a b d e f g h i j m o =
     rw (f, g, h, i, j, m, o, a, b, d, e)

@@ -83,6 +83,7 @@ fn run_case(
     let constants = Constants {
         base: case.settings.base,
         mask: case.settings.mask,
+        register_size: case.settings.register_size,
     };
     let variables = frames::met_of(2, case);
     let predicates = frames::met_of(3, case);

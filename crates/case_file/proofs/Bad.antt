@@ -11,7 +11,7 @@ use Rattle.hex.proofs.DigitLaws.{cond-both}
 use Rattle.frames.specs.mirror.Reading.{Reading}
 use Rattle.frames.specs.mirror.Lines.{KINDS, next, badLine, metOf}
 use Rattle.frames.specs.mirror.Repeated.{variableRead, predicateSized, predicateRead}
-use Rattle.frames.specs.mirror.Once.{Once, memoryRead, maskRead, onceRead}
+use Rattle.frames.specs.mirror.Once.{Once, memoryRead, maskRead, registerSizeRead, onceRead}
 use Rattle.frames.specs.mirror.Frames.{frameRead}
 use Rattle.case_file.specs.Frames.{kindOf, contentOf}
 use Rattle.case_file.specs.BadLine.{repeats, contentGood}
@@ -28,17 +28,17 @@ module _ (r : Reading) where
   unfolding frameRead onceRead badLine
   second k f e₂ e₃ e₄ m = rw (e₂, e₃, e₄, m) refl
 
-  -- none of the ten kinds
-  unlisted : (k : ℕ) (f : List ℕ) → eqb k 1 ≡ false → eqb k 2 ≡ false → eqb k 3 ≡ false → eqb k 4 ≡ false → eqb k 5 ≡ false → eqb k 6 ≡ false → eqb k 7 ≡ false → eqb k 8 ≡ false → eqb k 9 ≡ false → eqb k 10 ≡ false → Bad k f
+  -- none of the eleven kinds
+  unlisted : (k : ℕ) (f : List ℕ) → eqb k 1 ≡ false → eqb k 2 ≡ false → eqb k 3 ≡ false → eqb k 4 ≡ false → eqb k 5 ≡ false → eqb k 6 ≡ false → eqb k 7 ≡ false → eqb k 8 ≡ false → eqb k 9 ≡ false → eqb k 10 ≡ false → eqb k 11 ≡ false → Bad k f
   unfolding frameRead onceRead badLine
-  unlisted k f e₁ e₂ e₃ e₄ e₅ e₆ e₇ e₈ e₉ e₁₀ =
+  unlisted k f e₁ e₂ e₃ e₄ e₅ e₆ e₇ e₈ e₉ e₁₀ e₁₁ =
       rw (e₂, e₃, e₄)
-      (cond-both (λ (o : Once). o .case .bad ≡ next (r .case .lines)) (ltb 0 (metOf k (r .case))) (λ _. refl) (λ _. rw (e₁, e₅, e₆, e₇, e₈, e₉, e₁₀) refl))
+      (cond-both (λ (o : Once). o .case .bad ≡ next (r .case .lines)) (ltb 0 (metOf k (r .case))) (λ _. refl) (λ _. rw (e₁, e₅, e₆, e₇, e₈, e₉, e₁₀, e₁₁) refl))
 
-  late : (k : ℕ) (f : List ℕ) → 10 < k → Bad k f
+  late : (k : ℕ) (f : List ℕ) → 11 < k → Bad k f
   late k f h =
       unlisted k f (ne-eqb k 1 (λ e. absurd (omega arith))) (ne-eqb k 2 (λ e. absurd (omega arith))) (ne-eqb k 3 (λ e. absurd (omega arith))) (ne-eqb k 4 (λ e. absurd (omega arith))) (ne-eqb k 5 (λ e. absurd (omega arith)))
-      (ne-eqb k 6 (λ e. absurd (omega arith))) (ne-eqb k 7 (λ e. absurd (omega arith))) (ne-eqb k 8 (λ e. absurd (omega arith))) (ne-eqb k 9 (λ e. absurd (omega arith))) (ne-eqb k 10 (λ e. absurd (omega arith)))
+      (ne-eqb k 6 (λ e. absurd (omega arith))) (ne-eqb k 7 (λ e. absurd (omega arith))) (ne-eqb k 8 (λ e. absurd (omega arith))) (ne-eqb k 9 (λ e. absurd (omega arith))) (ne-eqb k 10 (λ e. absurd (omega arith))) (ne-eqb k 11 (λ e. absurd (omega arith)))
 
   variable-bad : (c : List ℕ) → eqb (length c) 5 ≡ false → Bad 2 (2 ∷ c)
   unfolding frameRead variableRead badLine
@@ -59,6 +59,11 @@ module _ (r : Reading) where
   mask-bad c e =
       cond-both (λ (o : Once). o .case .bad ≡ next (r .case .lines)) (ltb 0 (metOf 6 (r .case))) (λ _. refl) (λ _. rw e refl)
 
+  register-size-bad : (c : List ℕ) → eqb (length c) 1 ≡ false → Bad 11 (11 ∷ c)
+  unfolding frameRead onceRead registerSizeRead badLine
+  register-size-bad c e =
+      cond-both (λ (o : Once). o .case .bad ≡ next (r .case .lines)) (ltb 0 (metOf 11 (r .case))) (λ _. refl) (λ _. rw e refl)
+
 left-false : (a : Bool) → (a && true) ≡ false → a ≡ false
 left-false true e = e
 left-false false e = refl
@@ -77,8 +82,8 @@ module _ (g : Kinds) (n : ℕ) (r : Reading) (j : Judges g n (r .case)) where
 
   pub frame-bad : (f : List ℕ) → (contentGood (kindOf f) (contentOf f) && (repeats (kindOf f) || eqb (length (g (kindOf f))) 0)) ≡ false → Bad r (kindOf f) f
   unfolding repeats contentGood
-  frame-bad [] e = unlisted r 0 [] refl refl refl refl refl refl refl refl refl refl
-  frame-bad (zero ∷ c) e = unlisted r 0 (0 ∷ c) refl refl refl refl refl refl refl refl refl refl
+  frame-bad [] e = unlisted r 0 [] refl refl refl refl refl refl refl refl refl refl refl
+  frame-bad (zero ∷ c) e = unlisted r 0 (0 ∷ c) refl refl refl refl refl refl refl refl refl refl refl
   frame-bad (suc zero ∷ c) e = second r 1 (1 ∷ c) refl refl refl (some 1 (omega arith) refl e)
   frame-bad (suc (suc zero) ∷ c) e = variable-bad r c (left-false (eqb (length c) 5) e)
   frame-bad (suc (suc (suc zero)) ∷ c) e = predicate-bad r c (left-false (fourOrFive c) e)
@@ -91,5 +96,7 @@ module _ (g : Kinds) (n : ℕ) (r : Reading) (j : Judges g n (r .case)) where
   frame-bad (suc (suc (suc (suc (suc (suc (suc (suc zero))))))) ∷ c) e = second r 8 (8 ∷ c) refl refl refl (some 8 (omega arith) refl e)
   frame-bad (suc (suc (suc (suc (suc (suc (suc (suc (suc zero)))))))) ∷ c) e = second r 9 (9 ∷ c) refl refl refl (some 9 (omega arith) refl e)
   frame-bad (suc (suc (suc (suc (suc (suc (suc (suc (suc (suc zero))))))))) ∷ c) e = second r 10 (10 ∷ c) refl refl refl (some 10 (omega arith) refl e)
-  frame-bad (suc (suc (suc (suc (suc (suc (suc (suc (suc (suc (suc k)))))))))) ∷ c) e =
-      late r (suc (suc (suc (suc (suc (suc (suc (suc (suc (suc (suc k))))))))))) (suc (suc (suc (suc (suc (suc (suc (suc (suc (suc (suc k)))))))))) ∷ c) (omega arith)
+  frame-bad (suc (suc (suc (suc (suc (suc (suc (suc (suc (suc (suc zero)))))))))) ∷ c) e =
+      either-false (eqb (length c) 1) (eqb (length (g 11)) 0) (register-size-bad r c) (λ m. second r 11 (11 ∷ c) refl refl refl (some 11 (omega arith) refl m)) e
+  frame-bad (suc (suc (suc (suc (suc (suc (suc (suc (suc (suc (suc (suc k))))))))))) ∷ c) e =
+      late r (suc (suc (suc (suc (suc (suc (suc (suc (suc (suc (suc (suc k)))))))))))) (suc (suc (suc (suc (suc (suc (suc (suc (suc (suc (suc (suc k))))))))))) ∷ c) (omega arith)

@@ -12,9 +12,9 @@ use Rattle.hex.specs.Storing.{fits}
 use Rattle.hex.proofs.DigitLaws.{cond-both}
 use Rattle.frames.specs.declared.Case.{Case}
 use Rattle.frames.specs.mirror.Reading.{Reading}
-use Rattle.frames.specs.mirror.Lines.{KINDS, next, goodLine, metOf, lengthOf, counted, sized, based, masked}
+use Rattle.frames.specs.mirror.Lines.{KINDS, next, goodLine, metOf, lengthOf, counted, sized, based, masked, registersSized}
 use Rattle.frames.specs.mirror.Repeated.{Variables, variableRead, Predicates, predicateSized, predicateRead, Surfaces, surfaceRead}
-use Rattle.frames.specs.mirror.Once.{contentRead, memoryRead, maskRead, onceRead}
+use Rattle.frames.specs.mirror.Once.{contentRead, memoryRead, maskRead, registerSizeRead, onceRead}
 use Rattle.frames.specs.mirror.Frames.{frameRead}
 use Rattle.case_file.specs.Frames.{kindOf, contentOf}
 use Rattle.case_file.specs.BadLine.{repeats}
@@ -64,6 +64,10 @@ module _ (kind : ℕ) (c d : Case) (m : Made kind c d) where
   unfolding masked
   with-mask n = record { bad = m .bad; lines = m .lines; full = m .full; count = m .count; met = m .met; once = m .once }
 
+  with-register-size : (n : ℕ) → Made kind c (registersSized n d)
+  unfolding registersSized
+  with-register-size n = record { bad = m .bad; lines = m .lines; full = m .full; count = m .count; met = m .met; once = m .once }
+
 module _ (r : Reading) where
   abbrev M : ℕ → Case → Type 0
   M kind d = Made kind (r .case) d
@@ -105,13 +109,14 @@ module _ (r : Reading) where
   plain-made k plain.memoryTaint c none = rw none (content-made 10 (length c) _)
 
   frame-made : (f : List ℕ) → Good f → (repeats (kindOf f) ≡ false → metOf (kindOf f) (r .case) ≡ 0) → M (kindOf f) (frameRead (kindOf f) f r .case)
-  unfolding frameRead onceRead contentRead memoryRead maskRead repeats
+  unfolding frameRead onceRead contentRead memoryRead maskRead registerSizeRead repeats
   frame-made f (good.content k p c) none = plain-made k p c (none (plain-once k p))
   frame-made f (good.variable c five) none = variable-made c five
   frame-made f (good.predicate c long) none = predicate-made c long
   frame-made f (good.surface c) none = surface-made c
   frame-made f (good.memory c eight) none = rw (none refl, le-ltb (length c) 8 eight) (with-base 5 (r .case) _ (content-made 5 _ _) _)
   frame-made f (good.mask c four) none = rw (none refl, four) (with-mask 6 (r .case) _ (first 6 true (r .case)) _)
+  frame-made f (good.registerSize c one) none = rw (none refl, one) (with-register-size 11 (r .case) _ (first 11 true (r .case)) _)
 
 -- what decides which line is bad: how many lines there were, and how many frames of the kinds that come once at most
 pub record Judges (g : Kinds) (n : ℕ) (c : Case) : Type 0 where
@@ -127,6 +132,7 @@ listed f (good.predicate c e) = omega arith
 listed f (good.surface c) = omega arith
 listed f (good.memory c e) = omega arith
 listed f (good.mask c e) = omega arith
+listed f (good.registerSize c e) = omega arith
 
 met-at : (k : ℕ) (c : Case) → k < KINDS → metOf k c ≡ getD (c .met) k 0
 unfolding metOf

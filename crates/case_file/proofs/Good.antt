@@ -1,4 +1,4 @@
--- A good frame is of one of ten kinds.
+-- A good frame is of one of eleven kinds.
 use mathlib.Core.Path.{_≡_, sym, _∙_}
 use mathlib.Core.Bool.{Bool, true, false, true≢false, _||_}
 use mathlib.Core.List.{List, [], _∷_}
@@ -23,12 +23,13 @@ pub data Good : List ℕ → Type 0 where
   surface : (c : List ℕ) → Good (4 ∷ c)
   memory : (c : List ℕ) → 8 ≤ length c → Good (5 ∷ c)
   mask : (c : List ℕ) → length c ≡ 4 → Good (6 ∷ c)
+  registerSize : (c : List ℕ) → length c ≡ 1 → Good (11 ∷ c)
 
--- a kind past 0x0a
-late : (k : ℕ) (c : List ℕ) → 10 < k → contentGood k c ≡ false
+-- a kind past 0x0b
+late : (k : ℕ) (c : List ℕ) → 11 < k → contentGood k c ≡ false
 unfolding contentGood
 late k c h =
-    rw (ne-eqb k 2 (λ e. absurd (omega arith)), ne-eqb k 3 (λ e. absurd (omega arith)), ne-eqb k 5 (λ e. absurd (omega arith)), ne-eqb k 6 (λ e. absurd (omega arith)), le-leb 1 k (omega arith), lt-leb k 10 h)
+    rw (ne-eqb k 2 (λ e. absurd (omega arith)), ne-eqb k 3 (λ e. absurd (omega arith)), ne-eqb k 5 (λ e. absurd (omega arith)), ne-eqb k 6 (λ e. absurd (omega arith)), ne-eqb k 11 (λ e. absurd (omega arith)), le-leb 1 k (omega arith), lt-leb k 10 (omega arith))
 
 pub good-frame : (f : List ℕ) → contentGood (kindOf f) (contentOf f) ≡ true → Good f
 unfolding contentGood
@@ -44,5 +45,6 @@ good-frame (suc (suc (suc (suc (suc (suc (suc zero)))))) ∷ c) e = content 7 pl
 good-frame (suc (suc (suc (suc (suc (suc (suc (suc zero))))))) ∷ c) e = content 8 plain.registerTaint c
 good-frame (suc (suc (suc (suc (suc (suc (suc (suc (suc zero)))))))) ∷ c) e = content 9 plain.surfaceTaint c
 good-frame (suc (suc (suc (suc (suc (suc (suc (suc (suc (suc zero))))))))) ∷ c) e = content 10 plain.memoryTaint c
-good-frame (suc (suc (suc (suc (suc (suc (suc (suc (suc (suc (suc k)))))))))) ∷ c) e =
-    absurd (true≢false (sym e ∙ late (suc (suc (suc (suc (suc (suc (suc (suc (suc (suc (suc k))))))))))) c (omega arith)))
+good-frame (suc (suc (suc (suc (suc (suc (suc (suc (suc (suc (suc zero)))))))))) ∷ c) e = registerSize c (eqb-true (length c) 1 e)
+good-frame (suc (suc (suc (suc (suc (suc (suc (suc (suc (suc (suc (suc k))))))))))) ∷ c) e =
+    absurd (true≢false (sym e ∙ late (suc (suc (suc (suc (suc (suc (suc (suc (suc (suc (suc (suc k)))))))))))) c (omega arith)))

@@ -20,7 +20,7 @@ use Rattle.case_file.proofs.ByKind.{Kinds, added, one-more, first-new, 
 use Rattle.case_file.proofs.Plain as plain
 use Rattle.case_file.proofs.Plain.{Plain, bufferOf, sizeOf, plain-first}
 use Rattle.case_file.proofs.Loaded.{readingAt}
-use Rattle.case_file.proofs.Room.{flatten-more, content-read, content-full, memory-read, memory-full, mask-read, variable-read, variable-full, predicate-read, predicate-full, surface-read, surface-long, surface-full}
+use Rattle.case_file.proofs.Room.{flatten-more, content-read, content-full, memory-read, memory-full, mask-read, register-size-read, variable-read, variable-full, predicate-read, predicate-full, surface-read, surface-long, surface-full}
 use Rattle.case_file.proofs.Good as good
 use Rattle.case_file.proofs.Good.{Good}
 use Rattle.case_file.proofs.Broken as broken
@@ -151,6 +151,7 @@ module _ (z : Contents) (t : Tables) (s : Sizes z t) (g : Kinds) (n : ℕ) (few 
       (λ x. (memory-read z t g n c e eight (omega (arith, x, s .memory)), few-memory g c few e x))
       (λ x. (memory-full z t g n c e eight (omega (arith, x, s .memory)), broken.memory (rw (first-new (g 5) c e) x)))
   read-held f (good.mask c four) q = inl (record { lines = next n; same = mask-read z t g n c (none-yet (g 6) q) four; few = few })
+  read-held f (good.registerSize c one) q = inl (record { lines = next n; same = register-size-read z t g n c (none-yet (g 11) q) one; few = few })
   read-held f (good.variable c five) q =
       held-by _ _ (length (g 2) + 1) 256
       (λ x. (variable-read z t g n c five (omega (arith, x, s .types)) (omega (arith, x, s .starts)) (omega (arith, x, s .counts)), few-variables g c few (omega (arith, x))))

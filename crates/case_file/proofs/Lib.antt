@@ -12,3 +12,4 @@ pub mod Lines
 pub mod Whole
 pub mod Same
 pub mod OldFrames
+pub mod OldSize

@@ -6,7 +6,7 @@ use lib.ListN.{length}
 use Rattle.frames.specs.declared.Case.{Case}
 use Rattle.frames.specs.mirror.Reading.{Contents, contents, Tables, tables, Reading, reading}
 use Rattle.case_file.specs.Frames.{firstOf}
-use Rattle.case_file.specs.Case.{typeOf, startOf, countOf, dwordOf, predicateCountOf, baseOf, memoryOf}
+use Rattle.case_file.specs.Case.{typeOf, startOf, countOf, dwordOf, predicateCountOf, baseOf, memoryOf, registerSizeOf}
 use Rattle.case_file.proofs.Padded.{padded}
 use Rattle.case_file.proofs.ByKind.{Kinds}
 
@@ -16,9 +16,9 @@ caseAt g lines =
       lines = lines;
       bad = 0;
       full = false;
-      met = 0 ∷ length (g 1) ∷ length (g 2) ∷ length (g 3) ∷ length (g 4) ∷ length (g 5) ∷ length (g 6) ∷ length (g 7) ∷ length (g 8) ∷ length (g 9) ∷ length (g 10) ∷ [];
-      lengths = 0 ∷ length (firstOf (g 1)) ∷ 0 ∷ 0 ∷ length (flatten (g 4)) ∷ length (memoryOf (firstOf (g 5))) ∷ 0 ∷ length (firstOf (g 7)) ∷ length (firstOf (g 8)) ∷ length (firstOf (g 9)) ∷ length (firstOf (g 10)) ∷ [];
-      settings = record { base = baseOf (firstOf (g 5)); mask = dwordOf (firstOf (g 6)) };
+      met = 0 ∷ length (g 1) ∷ length (g 2) ∷ length (g 3) ∷ length (g 4) ∷ length (g 5) ∷ length (g 6) ∷ length (g 7) ∷ length (g 8) ∷ length (g 9) ∷ length (g 10) ∷ length (g 11) ∷ [];
+      lengths = 0 ∷ length (firstOf (g 1)) ∷ 0 ∷ 0 ∷ length (flatten (g 4)) ∷ length (memoryOf (firstOf (g 5))) ∷ 0 ∷ length (firstOf (g 7)) ∷ length (firstOf (g 8)) ∷ length (firstOf (g 9)) ∷ length (firstOf (g 10)) ∷ 0 ∷ [];
+      settings = record { base = baseOf (firstOf (g 5)); mask = dwordOf (firstOf (g 6)); «register_size» = registerSizeOf (g 11) };
     }
 
 -- over buffers of whatever was in them

@@ -9,12 +9,12 @@ use lib.Dec.{ltb}
 use borrow.Author.Tests.{lt-ltb, le-leb, le-ltb, lt-leb}
 use Rattle.little_endian.specs.LittleEndian.{numberAt}
 use Rattle.frames.specs.mirror.Reading.{Contents, Tables}
-use Rattle.frames.specs.mirror.Lines.{next, goodLine, metOf, lengthOf, counted, sized, based, masked}
+use Rattle.frames.specs.mirror.Lines.{next, goodLine, metOf, lengthOf, counted, sized, based, masked, registersSized}
 use Rattle.frames.specs.mirror.Repeated.{variableRead, predicateSized, predicateCount, predicateRead, surfaceRead}
-use Rattle.frames.specs.mirror.Once.{contentRead, memoryRead, maskRead, onceRead}
+use Rattle.frames.specs.mirror.Once.{contentRead, memoryRead, maskRead, registerSizeRead, onceRead}
 use Rattle.frames.specs.mirror.Frames.{frameRead}
 use Rattle.case_file.specs.Frames.{firstOf}
-use Rattle.case_file.specs.Case.{typeOf, startOf, countOf, dwordOf, predicateCountOf, baseOf, memoryOf}
+use Rattle.case_file.specs.Case.{typeOf, startOf, countOf, dwordOf, predicateCountOf, baseOf, memoryOf, registerSizeOf}
 use Rattle.case_file.proofs.Padded.{padded, fits-padded, stored-padded, fits-once, stored-once, no-room, length-table, set-table}
 use Rattle.case_file.proofs.ByKind.{Kinds, added, one-more}
 use Rattle.case_file.proofs.Plain as plain
@@ -95,6 +95,10 @@ module _ (z : Contents) (t : Tables) (g : Kinds) (n : ℕ) (c : List ℕ) where
   pub mask-read : g 6 ≡ [] → length c ≡ 4 → frameRead 6 (6 ∷ c) (readingAt z t g n) ≡ readingAt z t (added 6 c g) (next n)
   unfolding frameRead onceRead maskRead metOf counted masked goodLine firstOf
   mask-read e four = rw (e, four, dword-behind 6 c) refl
+
+  pub register-size-read : g 11 ≡ [] → length c ≡ 1 → frameRead 11 (11 ∷ c) (readingAt z t g n) ≡ readingAt z t (added 11 c g) (next n)
+  unfolding frameRead onceRead registerSizeRead metOf counted registersSized goodLine registerSizeOf
+  register-size-read e one = rw (e, one) refl
 
   pub variable-read : length c ≡ 5 → length (g 2) < length (t .types) → length (g 2) < length (t .starts) → length (g 2) < length (t .counts) →
       frameRead 2 (2 ∷ c) (readingAt z t g n) ≡ readingAt z t (added 2 c g) (next n)

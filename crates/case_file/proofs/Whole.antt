@@ -34,7 +34,7 @@ use Rattle.answering.specs.mirror.Puts.{Puts}
 use Rattle.answering.specs.mirror.Bench.{goodOutput, caseOutput, unread, benchOutput}
 use Rattle.case_file.specs.Frames.{ofKind, firstOf}
 use Rattle.case_file.specs.BadLine.{firstBad}
-use Rattle.case_file.specs.Case.{typeOf, startOf, countOf, dwordOf, predicateCountOf, baseOf, memoryOf, marksOf, caseSetup, caseState}
+use Rattle.case_file.specs.Case.{typeOf, startOf, countOf, dwordOf, predicateCountOf, baseOf, memoryOf, registerSizeOf, marksOf, caseSetup, caseState}
 use Rattle.case_file.specs.Output.{framesOutput, positionOf, answered, caseFileOutput}
 use Rattle.case_file.specs.Verdict.{judged, caseFileVerdict}
 use Rattle.case_file.specs.Forms.{caseFileText}
@@ -115,7 +115,7 @@ module _ (f : Form) (z : Contents) (t : Tables) (s : Sizes z t) where
   none-met k = cond-both (λ (m : ℕ). m ≡ 0) (ltb k KINDS) (λ h. getD-replicate {A = ℕ} KINDS k 0 0 (ltb-true k KINDS h)) (λ _. refl)
 
   at-start : After z t s [] start
-  unfolding positionOf nothing ofKind firstOf flatten memoryOf baseOf dwordOf numberAt metOf
+  unfolding positionOf nothing ofKind firstOf flatten memoryOf baseOf dwordOf registerSizeOf numberAt metOf
   at-start =
       record {
         judges = record { places = refl; met = λ k _ _. none-met k; bad = refl; lines = refl };

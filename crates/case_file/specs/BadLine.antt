@@ -15,7 +15,8 @@ contentGood kind content =
     (cond (eqb kind 0x03) (eqb (length content) 4 || eqb (length content) 5)  -- "predicate ud", "a further count byte"
     (cond (eqb kind 0x05) (leb 8 (length content))  -- "base uq and memory"
     (cond (eqb kind 0x06) (eqb (length content) 4)  -- "EM ud"
-    (leb 0x01 kind && leb kind 0x0a))))  -- any bytes: registers, surface, kernel, marks
+    (cond (eqb kind 0x0b) (eqb (length content) 1)  -- "one byte"; whether a card has such registers is the run's to say
+    (leb 0x01 kind && leb kind 0x0a)))))  -- any bytes: registers, surface, kernel, marks
 
 -- "02, 03, 04 repeat .. others once at most"
 unfoldable pub repeats : ℕ → Bool

@@ -35,6 +35,11 @@ baseOf content = numberAt 8 content 0
 unfoldable pub memoryOf : List ℕ → List ℕ
 memoryOf content = drop 8 content
 
+-- document 02, request 5: "A frame 0b with one byte, 20 or 40 in hex, picks the size; absent means 32"; to "any other size" the run answers 13
+unfoldable pub registerSizeOf : List (List ℕ) → ℕ
+registerSizeOf [] = 32
+registerSizeOf (content ∷ contents) = getD content 0 0
+
 -- what does not change
 unfoldable pub caseSetup : List (List ℕ) → Setup
 caseSetup frames =
@@ -49,7 +54,7 @@ caseSetup frames =
         predicates = record { bits = map dwordOf (ofKind 0x03 frames); counts = map predicateCountOf (ofKind 0x03 frames) };
         surfaces = record { lengths = map length (ofKind 0x04 frames) };
       };
-      constants = record { base = baseOf (onlyOf 0x05 frames); mask = dwordOf (onlyOf 0x06 frames) };
+      constants = record { base = baseOf (onlyOf 0x05 frames); mask = dwordOf (onlyOf 0x06 frames); «register_size» = registerSizeOf (ofKind 0x0b frames) };
     }
 
 -- "absent means .. marks all 0": as many as there are bytes to mark

@@ -1,6 +1,7 @@
 -- The frames of a case file. Document 01, "The bench table": "first byte the kind: 01 registers, 02 variable (type ub, start uw, count uw), 03
 -- predicate ud, 04 surface, 05 base uq and memory, 06 EM ud, 07 kernel, 08, 09, 0a marks of registers, surfaces in order, memory"; document 02,
--- request 3: "frame 03 takes a further count byte, and an old four-byte frame means 32".
+-- request 3: "frame 03 takes a further count byte, and an old four-byte frame means 32"; request 5: "A frame 0b with one byte, 20 or 40 in hex, picks
+-- the size; absent means 32".
 use Prim.Native.Nat.{ℕ}
 use mathlib.Core.Bool.{cond}
 use mathlib.Core.List.{List, [], _∷_}

@@ -8,9 +8,9 @@ use Rattle.hex.specs.Digits.{isDecimal, isLetter, isDigit, digitOf, allDigits}
 use Rattle.hex.specs.Bytes.{isHex, hexBytes}
 use Rattle.hex.specs.Storing.{placed, fits, stored}
 use Rattle.frames.specs.mirror.Reading.{Reading, reading, contents, tables}
-use Rattle.frames.specs.mirror.Lines.{nothing, next, badLine, longLine, goodLine, metOf, lengthOf, counted, sized, based, masked}
+use Rattle.frames.specs.mirror.Lines.{nothing, next, badLine, longLine, goodLine, metOf, lengthOf, counted, sized, based, masked, registersSized}
 use Rattle.frames.specs.mirror.Repeated.{variableRead, predicateSized, predicateCount, predicateRead, surfaceRead}
-use Rattle.frames.specs.mirror.Once.{contentRead, memoryRead, maskRead, onceRead}
+use Rattle.frames.specs.mirror.Once.{contentRead, memoryRead, maskRead, registerSizeRead, onceRead}
 use Rattle.frames.specs.mirror.Frames.{frameRead, lineRead}
 use Rattle.frames.specs.mirror.Verdicts.{verdict, verdictOf, taintLength}
 use Rattle.line_blocks.specs.LinesOf.{linesFrom, linesOf}
@@ -52,8 +52,8 @@ rows =
     ∷ row (48 ∷ 103 ∷ []) 14 1
     -- a carriage return
     ∷ row (48 ∷ 49 ∷ 13 ∷ 10 ∷ []) 14 1
-    -- kind 0b
-    ∷ row (48 ∷ 98 ∷ []) 14 1
+    -- kind 0c
+    ∷ row (48 ∷ 99 ∷ []) 14 1
     -- kind 00
     ∷ row (48 ∷ 48 ∷ []) 14 1
     -- a variable of four bytes
@@ -74,6 +74,16 @@ rows =
     ∷ row (48 ∷ 53 ∷ 48 ∷ 48 ∷ 48 ∷ 48 ∷ 48 ∷ 48 ∷ 48 ∷ 48 ∷ 48 ∷ 48 ∷ 48 ∷ 48 ∷ 48 ∷ 48 ∷ []) 14 1
     -- a base and no memory
     ∷ row (48 ∷ 53 ∷ 48 ∷ 48 ∷ 48 ∷ 48 ∷ 48 ∷ 48 ∷ 48 ∷ 48 ∷ 48 ∷ 48 ∷ 48 ∷ 48 ∷ 48 ∷ 48 ∷ 48 ∷ 48 ∷ []) 0 0
+    -- a register size without its byte
+    ∷ row (48 ∷ 98 ∷ []) 14 1
+    -- of two bytes
+    ∷ row (48 ∷ 98 ∷ 52 ∷ 48 ∷ 48 ∷ 48 ∷ []) 14 1
+    -- a second one
+    ∷ row (48 ∷ 98 ∷ 50 ∷ 48 ∷ 10 ∷ 48 ∷ 98 ∷ 52 ∷ 48 ∷ []) 14 2
+    -- one that no card has, which the run judges
+    ∷ row (48 ∷ 98 ∷ 51 ∷ 48 ∷ []) 0 0
+    -- and a bad line behind it
+    ∷ row (48 ∷ 98 ∷ 51 ∷ 48 ∷ 10 ∷ 122 ∷ 122 ∷ []) 14 2
     -- a third variable
     ∷ row (48 ∷ 50 ∷ 48 ∷ 50 ∷ 48 ∷ 48 ∷ 48 ∷ 48 ∷ 48 ∷ 56 ∷ 48 ∷ 48 ∷ 10 ∷ 48 ∷ 50 ∷ 48 ∷ 50 ∷ 48 ∷ 48 ∷ 48 ∷ 48 ∷ 48 ∷ 56 ∷ 48 ∷ 48 ∷ 10 ∷ 48 ∷ 50 ∷ 48 ∷ 50 ∷ 48 ∷ 48 ∷ 48 ∷ 48 ∷ 48 ∷ 56 ∷ 48 ∷ 48 ∷ 10 ∷ []) 13 0
     -- and a bad line behind it
@@ -98,27 +108,40 @@ All [] = Unit
 All (w ∷ ws) = Holds w × All ws
 
 verdicts : All rows
-unfolding numberAt isDecimal isLetter isDigit digitOf allDigits isHex hexBytes placed fits stored nothing next badLine longLine goodLine metOf lengthOf counted sized based masked variableRead predicateSized predicateCount predicateRead surfaceRead contentRead memoryRead maskRead onceRead frameRead lineRead linesFrom linesOf anyLineRead linesRead textRead verdictOf
-verdicts = (refl, (refl, (refl, (refl, (refl, (refl, (refl, (refl, (refl, (refl, (refl, (refl, (refl, (refl, (refl, (refl, (refl, (refl, (refl, (refl, (refl, (refl, (refl, (refl, (refl, (refl, (refl, tt)))))))))))))))))))))))))))
+unfolding numberAt isDecimal isLetter isDigit digitOf allDigits isHex hexBytes placed fits stored nothing next badLine longLine goodLine metOf lengthOf counted sized based masked registersSized variableRead predicateSized predicateCount predicateRead surfaceRead contentRead memoryRead maskRead registerSizeRead onceRead frameRead lineRead linesFrom linesOf anyLineRead linesRead textRead verdictOf
+verdicts = (refl, (refl, (refl, (refl, (refl, (refl, (refl, (refl, (refl, (refl, (refl, (refl, (refl, (refl, (refl, (refl, (refl, (refl, (refl, (refl, (refl, (refl, (refl, (refl, (refl, (refl, (refl, (refl, (refl, (refl, (refl, (refl, tt))))))))))))))))))))))))))))))))
 
 -- a taint frame that is there has its own length, an empty one too; an absent one has the buffer's
 taint-empty : taintLength 8 1 (textRead 40 (48 ∷ 49 ∷ 48 ∷ 50 ∷ 48 ∷ 51 ∷ 10 ∷ 48 ∷ 56 ∷ []) zeros .case) ≡ 0
-unfolding numberAt isDecimal isLetter isDigit digitOf allDigits isHex hexBytes placed fits stored nothing next badLine longLine goodLine metOf lengthOf counted sized based masked variableRead predicateSized predicateCount predicateRead surfaceRead contentRead memoryRead maskRead onceRead frameRead lineRead linesFrom linesOf anyLineRead linesRead textRead verdictOf taintLength
+unfolding numberAt isDecimal isLetter isDigit digitOf allDigits isHex hexBytes placed fits stored nothing next badLine longLine goodLine metOf lengthOf counted sized based masked registersSized variableRead predicateSized predicateCount predicateRead surfaceRead contentRead memoryRead maskRead registerSizeRead onceRead frameRead lineRead linesFrom linesOf anyLineRead linesRead textRead verdictOf taintLength
 taint-empty = refl
 
 taint-absent : taintLength 8 1 (textRead 40 (48 ∷ 49 ∷ 48 ∷ 50 ∷ 48 ∷ 51 ∷ []) zeros .case) ≡ 2
-unfolding numberAt isDecimal isLetter isDigit digitOf allDigits isHex hexBytes placed fits stored nothing next badLine longLine goodLine metOf lengthOf counted sized based masked variableRead predicateSized predicateCount predicateRead surfaceRead contentRead memoryRead maskRead onceRead frameRead lineRead linesFrom linesOf anyLineRead linesRead textRead verdictOf taintLength
+unfolding numberAt isDecimal isLetter isDigit digitOf allDigits isHex hexBytes placed fits stored nothing next badLine longLine goodLine metOf lengthOf counted sized based masked registersSized variableRead predicateSized predicateCount predicateRead surfaceRead contentRead memoryRead maskRead registerSizeRead onceRead frameRead lineRead linesFrom linesOf anyLineRead linesRead textRead verdictOf taintLength
 taint-absent = refl
 
 -- "an old four-byte frame means 32" (document 02, request 3); a count byte is stored as it stands
 old-count : textRead 40 (48 ∷ 51 ∷ 102 ∷ 102 ∷ 48 ∷ 48 ∷ 48 ∷ 48 ∷ 48 ∷ 48 ∷ []) zeros .tables .predicateCounts ≡ 32 ∷ []
-unfolding numberAt isDecimal isLetter isDigit digitOf allDigits isHex hexBytes placed fits stored nothing next badLine longLine goodLine metOf lengthOf counted sized based masked variableRead predicateSized predicateCount predicateRead surfaceRead contentRead memoryRead maskRead onceRead frameRead lineRead linesFrom linesOf anyLineRead linesRead textRead
+unfolding numberAt isDecimal isLetter isDigit digitOf allDigits isHex hexBytes placed fits stored nothing next badLine longLine goodLine metOf lengthOf counted sized based masked registersSized variableRead predicateSized predicateCount predicateRead surfaceRead contentRead memoryRead maskRead registerSizeRead onceRead frameRead lineRead linesFrom linesOf anyLineRead linesRead textRead
 old-count = refl
 
 own-count : textRead 40 (48 ∷ 51 ∷ 102 ∷ 102 ∷ 48 ∷ 48 ∷ 48 ∷ 48 ∷ 48 ∷ 48 ∷ 48 ∷ 56 ∷ []) zeros .tables .predicateCounts ≡ 8 ∷ []
-unfolding numberAt isDecimal isLetter isDigit digitOf allDigits isHex hexBytes placed fits stored nothing next badLine longLine goodLine metOf lengthOf counted sized based masked variableRead predicateSized predicateCount predicateRead surfaceRead contentRead memoryRead maskRead onceRead frameRead lineRead linesFrom linesOf anyLineRead linesRead textRead
+unfolding numberAt isDecimal isLetter isDigit digitOf allDigits isHex hexBytes placed fits stored nothing next badLine longLine goodLine metOf lengthOf counted sized based masked registersSized variableRead predicateSized predicateCount predicateRead surfaceRead contentRead memoryRead maskRead registerSizeRead onceRead frameRead lineRead linesFrom linesOf anyLineRead linesRead textRead
 own-count = refl
 
 bad-count : textRead 40 (48 ∷ 51 ∷ 102 ∷ 102 ∷ 102 ∷ 102 ∷ 102 ∷ 102 ∷ 102 ∷ 102 ∷ 48 ∷ 48 ∷ []) zeros .tables .predicateCounts ≡ 0 ∷ []
-unfolding numberAt isDecimal isLetter isDigit digitOf allDigits isHex hexBytes placed fits stored nothing next badLine longLine goodLine metOf lengthOf counted sized based masked variableRead predicateSized predicateCount predicateRead surfaceRead contentRead memoryRead maskRead onceRead frameRead lineRead linesFrom linesOf anyLineRead linesRead textRead
+unfolding numberAt isDecimal isLetter isDigit digitOf allDigits isHex hexBytes placed fits stored nothing next badLine longLine goodLine metOf lengthOf counted sized based masked registersSized variableRead predicateSized predicateCount predicateRead surfaceRead contentRead memoryRead maskRead registerSizeRead onceRead frameRead lineRead linesFrom linesOf anyLineRead linesRead textRead
 bad-count = refl
+
+-- "A frame 0b with one byte, 20 or 40 in hex, picks the size; absent means 32" (document 02, request 5); any byte is stored as it stands
+no-size : textRead 40 [] zeros .case .settings .«register_size» ≡ 32
+unfolding numberAt isDecimal isLetter isDigit digitOf allDigits isHex hexBytes placed fits stored nothing next badLine longLine goodLine metOf lengthOf counted sized based masked registersSized variableRead predicateSized predicateCount predicateRead surfaceRead contentRead memoryRead maskRead registerSizeRead onceRead frameRead lineRead linesFrom linesOf anyLineRead linesRead textRead
+no-size = refl
+
+own-size : textRead 40 (48 ∷ 98 ∷ 52 ∷ 48 ∷ []) zeros .case .settings .«register_size» ≡ 64
+unfolding numberAt isDecimal isLetter isDigit digitOf allDigits isHex hexBytes placed fits stored nothing next badLine longLine goodLine metOf lengthOf counted sized based masked registersSized variableRead predicateSized predicateCount predicateRead surfaceRead contentRead memoryRead maskRead registerSizeRead onceRead frameRead lineRead linesFrom linesOf anyLineRead linesRead textRead
+own-size = refl
+
+odd-size : textRead 40 (48 ∷ 98 ∷ 51 ∷ 48 ∷ []) zeros .case .settings .«register_size» ≡ 48
+unfolding numberAt isDecimal isLetter isDigit digitOf allDigits isHex hexBytes placed fits stored nothing next badLine longLine goodLine metOf lengthOf counted sized based masked registersSized variableRead predicateSized predicateCount predicateRead surfaceRead contentRead memoryRead maskRead registerSizeRead onceRead frameRead lineRead linesFrom linesOf anyLineRead linesRead textRead
+odd-size = refl

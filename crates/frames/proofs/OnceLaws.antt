@@ -9,7 +9,7 @@ use borrow.Author.Tests.{lt-ltb, le-ltb}
 use Rattle.frames.specs.declared.Case.{Case}
 use Rattle.frames.specs.mirror.Reading.{Contents, contents}
 use Rattle.frames.specs.mirror.Lines.{badLine, metOf}
-use Rattle.frames.specs.mirror.Once.{kept, contentRead, memoryRead, maskRead, once, onceRead}
+use Rattle.frames.specs.mirror.Once.{kept, contentRead, memoryRead, maskRead, registerSizeRead, once, onceRead}
 
 module _ (kind met : ℕ) (bytes : List ℕ) (case : Case) (t : Contents) (m : met ≡ metOf kind case) where
   pub second-frame : (c : Case) → 0 < met → c ≡ badLine case → once c t ≡ onceRead kind bytes (once case t)
@@ -51,9 +51,13 @@ module _ (kind met : ℕ) (bytes : List ℕ) (case : Case) (t : Contents) (m : m
     unfolding onceRead
     memory-taint-frame c b k e = rw (← m, le-ltb 0 met none, k, ← e)
 
+    pub register-size-frame : (c : Case) → kind ≡ 11 → c ≡ registerSizeRead bytes case → once c t ≡ onceRead kind bytes (once case t)
+    unfolding onceRead
+    register-size-frame c k e = rw (← m, le-ltb 0 met none, k, e)
+
     pub other-frame : (c : Case) →
-        eqb kind 1 ≡ false → eqb kind 5 ≡ false → eqb kind 6 ≡ false → eqb kind 7 ≡ false → eqb kind 8 ≡ false → eqb kind 9 ≡ false → eqb kind 10 ≡ false →
+        eqb kind 1 ≡ false → eqb kind 5 ≡ false → eqb kind 6 ≡ false → eqb kind 7 ≡ false → eqb kind 8 ≡ false → eqb kind 9 ≡ false → eqb kind 10 ≡ false → eqb kind 11 ≡ false →
         c ≡ badLine case →
         once c t ≡ onceRead kind bytes (once case t)
     unfolding onceRead
-    other-frame c k₁ k₅ k₆ k₇ k₈ k₉ k₁₀ e = rw (← m, le-ltb 0 met none, k₁, k₅, k₆, k₇, k₈, k₉, k₁₀, e)
+    other-frame c k₁ k₅ k₆ k₇ k₈ k₉ k₁₀ k₁₁ e = rw (← m, le-ltb 0 met none, k₁, k₅, k₆, k₇, k₈, k₉, k₁₀, k₁₁, e)

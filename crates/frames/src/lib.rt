@@ -5,24 +5,28 @@ ghost use lib.ListN.{drop};
 ghost use Rattle.hex.specs.Bytes.{hexBytes};
 ghost use Rattle.frames.specs.mirror.Reading.{reading};
 ghost use Rattle.frames.specs.mirror.Lent.{lentContents, lentTables};
-ghost use Rattle.frames.specs.mirror.Lines.{KINDS, nothing, next, badLine, goodLine, metOf, lengthOf, counted, sized, based, masked};
+ghost use Rattle.frames.specs.mirror.Lines.{KINDS, nothing, next, badLine, goodLine, metOf, lengthOf, counted, sized, based, masked, registersSized};
 ghost use Rattle.frames.specs.mirror.Repeated.{variables, variableRead, predicates, predicateSized, predicateCount, predicateRead, surfaces, surfaceRead};
-ghost use Rattle.frames.specs.mirror.Once.{kept, contentRead, memoryRead, maskRead, once, onceRead};
+ghost use Rattle.frames.specs.mirror.Once.{kept, contentRead, memoryRead, maskRead, registerSizeRead, once, onceRead};
 ghost use Rattle.frames.specs.mirror.Frames.{lineRead};
 ghost use Rattle.frames.specs.mirror.Verdicts.{taintLength, verdictOf};
 
 const LAST_LINE: u32 = 4294967295;
 
-// One place for each kind from 0x00 to 0x0a.
-const KINDS: usize = 11;
+// One place for each kind from 0x00 to 0x0b.
+const KINDS: usize = 12;
 
 // The elements of a predicate whose frame has no count byte.
 const OLD_COUNT: u8 = 32;
 
-// The constants that frames set: the address of the first byte of memory, and the execution mask.
+// The bytes of a register where no frame says it.
+const OLD_REGISTER_SIZE: u8 = 32;
+
+// The constants that frames set: the address of the first byte of memory, the execution mask, and the bytes of a register.
 pub struct Settings {
     pub base: u64,
     pub mask: u32,
+    pub register_size: u8,
 }
 
 // What the lines so far came to, but for the contents, which stand in the caller's buffers.
@@ -53,7 +57,11 @@ pub fn start() -> Case
         full: false,
         met: [0; KINDS],
         lengths: [0; KINDS],
-        settings: Settings { base: 0, mask: 0 },
+        settings: Settings {
+            base: 0,
+            mask: 0,
+            register_size: OLD_REGISTER_SIZE,
+        },
     }
 }
 
@@ -134,6 +142,14 @@ fn set_mask(mask: u32, case: Case) -> Case
 {
     let mut c = case;
     c.settings.mask = mask;
+    c
+}
+
+fn set_register_size(register_size: u8, case: Case) -> Case
+    ensures { λ r. ⌜ r ≡ registersSized «register_size» case ⌝ }
+{
+    let mut c = case;
+    c.settings.register_size = register_size;
     c
 }
 
@@ -261,6 +277,17 @@ fn put_mask(line: &[u8], case: Case) -> Case
     }
 }
 
+// The byte is stored as it stands: a run refuses the sizes that no card has.
+fn put_register_size(line: &[u8], case: Case) -> Case
+    ensures { λ r. ⌜ r ≡ registerSizeRead (hexBytes (now (line .entry))) case ⌝ }
+{
+    if hex::content_length(line, 1) == 1 {
+        set_register_size(hex::byte(line, 1), count(11, 1, good_line(true, case)))
+    } else {
+        bad_line(case)
+    }
+}
+
 // A frame of a kind that may come once.
 fn take_once(
     line: &[u8],
@@ -298,6 +325,9 @@ fn take_once(
     }
     if kind == 10 {
         return put_content(line, 1, 10, memory_taint, case);
+    }
+    if kind == 11 {
+        return put_register_size(line, case);
     }
     bad_line(case)
 }

@@ -12,7 +12,7 @@ use Rattle.verdict_line.specs.VerdictLine.{detailText, verdictLine}
 use Rattle.answering.specs.Outcome.{answerVerdict}
 use Rattle.case_file.specs.Frames.{ofKind, firstOf}
 use Rattle.case_file.specs.BadLine.{contentGood, repeats, frameGood, fileLineGood, firstBad}
-use Rattle.case_file.specs.Case.{typeOf, startOf, countOf, dwordOf, predicateCountOf, baseOf, memoryOf, caseSetup, marksOf, caseState}
+use Rattle.case_file.specs.Case.{typeOf, startOf, countOf, dwordOf, predicateCountOf, baseOf, memoryOf, registerSizeOf, caseSetup, marksOf, caseState}
 use Rattle.case_file.specs.Output.{positionOf}
 use Rattle.case_file.specs.Verdict.{judged, caseFileVerdict}
 use Rattle.worked.specs.Case.{hex}
@@ -27,7 +27,7 @@ pub region-of-the-second :
     ++ lineOf (hex 5 0x060f000000)
     ++ lineOf (hex 49 0x07240300000001000000000200000000005502050201000000240300000001000000000100000000005502050201000000))
     ≡ text "23 1 24 operand 1" ++ lineEnd
-unfolding opened hex bytesOf isDecimal isLetter isDigit digitOf allDigits characterOf isHex hexBytes hexOf digits linesFrom linesOf lineOf detailText verdictLine answerVerdict ofKind firstOf flatten contentGood repeats frameGood fileLineGood firstBad typeOf startOf countOf dwordOf predicateCountOf baseOf memoryOf caseSetup marksOf caseState positionOf judged caseFileVerdict
+unfolding opened hex bytesOf isDecimal isLetter isDigit digitOf allDigits characterOf isHex hexBytes hexOf digits linesFrom linesOf lineOf detailText verdictLine answerVerdict ofKind firstOf flatten contentGood repeats frameGood fileLineGood firstBad typeOf startOf countOf dwordOf predicateCountOf baseOf memoryOf registerSizeOf caseSetup marksOf caseState positionOf judged caseFileVerdict
 region-of-the-second = refl
 
 -- 25, place 1, though the width is over ExecSize
@@ -40,7 +40,7 @@ pub scalar-region :
     ++ lineOf (hex 5 0x060f000000)
     ++ lineOf (hex 25 0x07780200000002000000000000000055020000000001000000))
     ≡ text "25 0 0 operand 1" ++ lineEnd
-unfolding opened hex bytesOf isDecimal isLetter isDigit digitOf allDigits characterOf isHex hexBytes hexOf digits linesFrom linesOf lineOf detailText verdictLine answerVerdict ofKind firstOf flatten contentGood repeats frameGood fileLineGood firstBad typeOf startOf countOf dwordOf predicateCountOf baseOf memoryOf caseSetup marksOf caseState positionOf judged caseFileVerdict
+unfolding opened hex bytesOf isDecimal isLetter isDigit digitOf allDigits characterOf isHex hexBytes hexOf digits linesFrom linesOf lineOf detailText verdictLine answerVerdict ofKind firstOf flatten contentGood repeats frameGood fileLineGood firstBad typeOf startOf countOf dwordOf predicateCountOf baseOf memoryOf registerSizeOf caseSetup marksOf caseState positionOf judged caseFileVerdict
 scalar-region = refl
 
 -- 12, channel 3, lane 2
@@ -53,5 +53,5 @@ pub pair-outside :
     ++ lineOf (hex 5 0x0607000000)
     ++ lineOf (hex 27 0x074e07030000090000050b00000000000000000000000001000000))
     ≡ text "12 0 0 channel 3 lane 2" ++ lineEnd
-unfolding opened hex bytesOf isDecimal isLetter isDigit digitOf allDigits characterOf isHex hexBytes hexOf digits linesFrom linesOf lineOf detailText verdictLine answerVerdict ofKind firstOf flatten contentGood repeats frameGood fileLineGood firstBad typeOf startOf countOf dwordOf predicateCountOf baseOf memoryOf caseSetup marksOf caseState positionOf judged caseFileVerdict
+unfolding opened hex bytesOf isDecimal isLetter isDigit digitOf allDigits characterOf isHex hexBytes hexOf digits linesFrom linesOf lineOf detailText verdictLine answerVerdict ofKind firstOf flatten contentGood repeats frameGood fileLineGood firstBad typeOf startOf countOf dwordOf predicateCountOf baseOf memoryOf registerSizeOf caseSetup marksOf caseState positionOf judged caseFileVerdict
 pair-outside = refl

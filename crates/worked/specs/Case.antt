@@ -55,7 +55,7 @@ given r =
 
 unfoldable pub played : Case → Given
 played c =
-    given (plainRun (record { kernel = c .kernel; tables = c .tables; constants = record { base = c .base; mask = c .mask } }) (c .registers) (c .surfaces) (c .memory))
+    given (plainRun (record { kernel = c .kernel; tables = c .tables; constants = record { base = c .base; mask = c .mask; «register_size» = 32 } }) (c .registers) (c .surfaces) (c .memory))
 
 -- a row of the table: a number that a definition gives, or a whole run
 pub data Row : Type 0 where

@@ -11,12 +11,12 @@ use Rattle.answered_input.proofs.answer_input.Tie as tie
 abbrev ends : tie.After-answer-ended → tie.After-finish
 ends c = search c
 
--- where the buffers of the tables came back from reading, from there
-abbrev came : tie.After-finish → tie.After-types2
+-- where the last buffer came back from reading, from there
+abbrev came : tie.After-finish → tie.After-surface-lengths2
 came c = search c
 
 -- where the input is read, from there
-abbrev reads : tie.After-types2 → tie.After-read-all
+abbrev reads : tie.After-surface-lengths2 → tie.After-read-all
 reads c = search c
 
 returns : tie.Need-returns

@@ -20,7 +20,7 @@ setupOf c kernel t =
     setup
     (take (lengthOf 7 c) kernel)
     (tables (variables (take (metOf 2 c) (t .types)) (take (metOf 2 c) (t .starts)) (take (metOf 2 c) (t .counts))) (predicates (take (metOf 3 c) (t .predicateBits)) (take (metOf 3 c) (t .predicateCounts))) (surfaces (take (metOf 4 c) (t .lengths))))
-    (record { base = c .settings .base; mask = c .settings .mask })
+    (record { base = c .settings .base; mask = c .settings .mask; «register_size» = c .settings .«register_size» })
 
 -- "absent means .. marks all 0"; the buffer has this size
 unfoldable pub taintOf : ℕ → ℕ → Case → List ℕ → List ℕ

@@ -1,7 +1,7 @@
 -- `frames::take_once` meets its contract: at each return the law of the frame's kind.
 use borrow.Author.Needs.{needs}
 use borrow.Author.Tests.{ne-eqb}
-use Rattle.frames.proofs.OnceLaws.{second-frame, registers-frame, memory-frame, mask-frame, kernel-frame, register-taint-frame, surface-taint-frame, memory-taint-frame, other-frame}
+use Rattle.frames.proofs.OnceLaws.{second-frame, registers-frame, memory-frame, mask-frame, kernel-frame, register-taint-frame, surface-taint-frame, memory-taint-frame, register-size-frame, other-frame}
 use Rattle.frames.proofs.take_once.Statement.{statement}
 use Rattle.frames.proofs.take_once.Tie as tie
 
@@ -69,7 +69,16 @@ returns-8 c =
 
 returns-9 : tie.Need-returns-9
 returns-9 c =
-    let not8 : tie.Else8 = search c in
+    let put : tie.After-put-register-size = search c in
+    let kind : tie.Then9 = search put in
+    let none : tie.Else1 = search kind in
+    let m : tie.After-met-of = search none in
+    register-size-frame _ _ _ _ _ (m .met-of .ensures) (none .if1 .left) _ (kind .if9 .taken) (put .put-register-size .ensures)
+
+returns-10 : tie.Need-returns-10
+returns-10 c =
+    let not9 : tie.Else9 = search c in
+    let not8 : tie.Else8 = search not9 in
     let not7 : tie.Else7 = search not8 in
     let not6 : tie.Else6 = search not7 in
     let not5 : tie.Else5 = search not6 in
@@ -79,10 +88,10 @@ returns-9 c =
     let none : tie.Else1 = search not2 in
     let m : tie.After-met-of = search none in
     other-frame _ _ _ _ _ (m .met-of .ensures) (none .if1 .left) _
-    (ne-eqb _ _ (not2 .if2 .left)) (ne-eqb _ _ (not3 .if3 .left)) (ne-eqb _ _ (not4 .if4 .left)) (ne-eqb _ _ (not5 .if5 .left)) (ne-eqb _ _ (not6 .if6 .left)) (ne-eqb _ _ (not7 .if7 .left)) (ne-eqb _ _ (not8 .if8 .left))
+    (ne-eqb _ _ (not2 .if2 .left)) (ne-eqb _ _ (not3 .if3 .left)) (ne-eqb _ _ (not4 .if4 .left)) (ne-eqb _ _ (not5 .if5 .left)) (ne-eqb _ _ (not6 .if6 .left)) (ne-eqb _ _ (not7 .if7 .left)) (ne-eqb _ _ (not8 .if8 .left)) (ne-eqb _ _ (not9 .if9 .left))
     (c .bad-line2 .ensures)
 
 pub take-once-spec : {M : Type 1} → statement M
 take-once-spec =
     tie.close
-    (tie.spec (λ c κs. search needs) (λ c κs. search needs) returns (λ c κs. search needs) (λ c. search needs) returns-2 (λ c κs. search needs) (λ c. search needs) returns-3 (λ c κs. search needs) returns-4 (λ c κs. search needs) (λ c. search needs) returns-5 (λ c κs. search needs) (λ c. search needs) returns-6 (λ c κs. search needs) (λ c. search needs) returns-7 (λ c κs. search needs) (λ c. search needs) returns-8 (λ c κs. search needs) returns-9)
+    (tie.spec (λ c κs. search needs) (λ c κs. search needs) returns (λ c κs. search needs) (λ c. search needs) returns-2 (λ c κs. search needs) (λ c. search needs) returns-3 (λ c κs. search needs) returns-4 (λ c κs. search needs) (λ c. search needs) returns-5 (λ c κs. search needs) (λ c. search needs) returns-6 (λ c κs. search needs) (λ c. search needs) returns-7 (λ c κs. search needs) (λ c. search needs) returns-8 (λ c κs. search needs) returns-9 (λ c κs. search needs) returns-10)

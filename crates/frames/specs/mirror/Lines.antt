@@ -6,13 +6,13 @@ use lib.ListN.{getD, set, replicate}
 use Rattle.frames.specs.declared.Settings.{Settings}
 use Rattle.frames.specs.declared.Case.{Case}
 
--- a place for each kind from 0x00 to 0x0a
+-- a place for each kind from 0x00 to 0x0b
 abbrev pub KINDS : ℕ
-KINDS = 11
+KINDS = 12
 
--- "absent means empty, base 0, EM 0"
+-- "absent means empty, base 0, EM 0"; document 02, request 5, of the register size: "absent means 32"
 unfoldable pub nothing : Case
-nothing = record { lines = 0; bad = 0; full = false; met = replicate KINDS 0; lengths = replicate KINDS 0; settings = record { base = 0; mask = 0 } }
+nothing = record { lines = 0; bad = 0; full = false; met = replicate KINDS 0; lengths = replicate KINDS 0; settings = record { base = 0; mask = 0; «register_size» = 32 } }
 
 -- the number of the line after n lines; it stays at the largest ud
 unfoldable pub next : ℕ → ℕ
@@ -47,7 +47,10 @@ abbrev withSettings : Settings → Case → Case
 withSettings settings c = record { lines = c .lines; bad = c .bad; full = c .full; met = c .met; lengths = c .lengths; settings = settings }
 
 unfoldable pub based : ℕ → Case → Case
-based base c = withSettings (record { base = base; mask = c .settings .mask }) c
+based base c = withSettings (record { base = base; mask = c .settings .mask; «register_size» = c .settings .«register_size» }) c
 
 unfoldable pub masked : ℕ → Case → Case
-masked mask c = withSettings (record { base = c .settings .base; mask = mask }) c
+masked mask c = withSettings (record { base = c .settings .base; mask = mask; «register_size» = c .settings .«register_size» }) c
+
+unfoldable pub registersSized : ℕ → Case → Case
+registersSized size c = withSettings (record { base = c .settings .base; mask = c .settings .mask; «register_size» = size }) c

@@ -1,15 +1,15 @@
 -- The frames that come "once at most". Document 01, "The bench table": "01 registers, .. 05 base uq and memory, 06 EM ud, 07 kernel,
--- 08, 09, 0a marks of registers, surfaces in order, memory".
+-- 08, 09, 0a marks of registers, surfaces in order, memory"; document 02, request 5: "A frame 0b with one byte, 20 or 40 in hex, picks the size".
 use Prim.Native.Nat.{ℕ}
 use mathlib.Core.Bool.{true, cond}
 use mathlib.Core.List.{List}
 use lib.Dec.{ltb, eqb}
-use lib.ListN.{length, drop}
+use lib.ListN.{length, getD, drop}
 use Rattle.little_endian.specs.LittleEndian.{numberAt}
 use Rattle.hex.specs.Storing.{fits, stored}
 use Rattle.frames.specs.declared.Case.{Case}
 use Rattle.frames.specs.mirror.Reading.{Contents, contents}
-use Rattle.frames.specs.mirror.Lines.{badLine, goodLine, metOf, counted, sized, based, masked}
+use Rattle.frames.specs.mirror.Lines.{badLine, goodLine, metOf, counted, sized, based, masked, registersSized}
 
 pub record Kept : Type 0 where
   pub case : Case
@@ -37,6 +37,13 @@ unfoldable pub maskRead : List ℕ → Case → Case
 maskRead bytes c =
     cond (eqb (length (drop 1 bytes)) 4)
     (masked (numberAt 4 bytes 1) (counted 6 1 (goodLine true c)))
+    (badLine c)
+
+-- "A frame 0b with one byte": any byte, which is stored as it stands; a size that is neither 32 nor 64 is 13, as the run says
+unfoldable pub registerSizeRead : List ℕ → Case → Case
+registerSizeRead bytes c =
+    cond (eqb (length (drop 1 bytes)) 1)
+    (registersSized (getD bytes 1 0) (counted 11 1 (goodLine true c)))
     (badLine c)
 
 pub record Once : Type 0 where
@@ -76,4 +83,5 @@ onceRead kind bytes o =
     (cond (eqb kind 8) (inRegisterTaint (o .contents) (contentRead 8 (drop 1 bytes) (kept (o .case) (o .contents .registerTaint))))
     (cond (eqb kind 9) (inSurfaceTaint (o .contents) (contentRead 9 (drop 1 bytes) (kept (o .case) (o .contents .surfaceTaint))))
     (cond (eqb kind 10) (inMemoryTaint (o .contents) (contentRead 10 (drop 1 bytes) (kept (o .case) (o .contents .memoryTaint))))
-    (once (badLine (o .case)) (o .contents)))))))))
+    (cond (eqb kind 11) (once (registerSizeRead bytes (o .case)) (o .contents))
+    (once (badLine (o .case)) (o .contents))))))))))
