@@ -41,7 +41,7 @@ pub(crate) fn lanes(line: &[u8]) {
     output::text(b"\n");
 }
 
-fn lengths_of(line: &[u8]) -> Lengths {
+fn lengths_of(register_size: u8, line: &[u8]) -> Lengths {
     let taint = TaintLengths {
         registers: numbers::size(line, 16),
         surfaces: numbers::size(line, 18),
@@ -53,11 +53,18 @@ fn lengths_of(line: &[u8]) -> Lengths {
         surfaces: numbers::size(line, 4),
         memory: numbers::size(line, 6),
         base: numbers::qword(line, 8),
+        register_size,
         taint,
     }
 }
 
-fn tables_good(line: &[u8], variables: &[u8], predicates: &[u8], surfaces: &[u8]) -> bool {
+fn tables_good(
+    register_size: u8,
+    line: &[u8],
+    variables: &[u8],
+    predicates: &[u8],
+    surfaces: &[u8],
+) -> bool {
     let types = numbers::bytes_of(variables, 2, 0);
     let starts = numbers::words_of(variables, 3, 5, 0);
     let counts = numbers::words_of(variables, 5, 5, 1);
@@ -65,7 +72,7 @@ fn tables_good(line: &[u8], variables: &[u8], predicates: &[u8], surfaces: &[u8]
     let predicate_counts = numbers::bytes_of(predicates, 6, 32);
     let lengths = numbers::words_of(surfaces, 2, 2, 0);
     tables::tables_good(
-        lengths_of(line),
+        lengths_of(register_size, line),
         &types[..numbers::entries(line, 22)],
         &starts[..numbers::entries(line, 24)],
         &counts[..numbers::entries(line, 26)],
@@ -76,8 +83,14 @@ fn tables_good(line: &[u8], variables: &[u8], predicates: &[u8], surfaces: &[u8]
 }
 
 // A line of the lengths lent and of the tables' numbers of entries.
-pub(crate) fn tables(line: &[u8], variables: &[u8], predicates: &[u8], surfaces: &[u8]) {
-    if tables_good(line, variables, predicates, surfaces) {
+pub(crate) fn tables(
+    register_size: u8,
+    line: &[u8],
+    variables: &[u8],
+    predicates: &[u8],
+    surfaces: &[u8],
+) {
+    if tables_good(register_size, line, variables, predicates, surfaces) {
         output::text(b" 0\n");
     } else {
         output::text(b" 13\n");
@@ -107,12 +120,13 @@ fn elements(elements: Elements, lanes: usize) {
     }
 }
 
-// The predicate's bits, the block's bytes, the channels and where the surface lies.
-fn others(bits: u32, bytes: u8, channels: u8, start: u32, length: u32) {
+// The predicate's bits, the block's bytes, the channels with the dwords from one's data to the next one's, and where the surface lies.
+fn others(bits: u32, bytes: u8, channels: u8, stride: u8, start: u32, length: u32) {
     output::text(b" |");
     output::word(bits);
     output::number(bytes as u64);
     output::number(channels as u64);
+    output::number(stride as u64);
     output::number(start as u64);
     output::number(length as u64);
 }
@@ -126,6 +140,7 @@ fn accepted(plan: Plan) {
         plan.bits,
         plan.bytes,
         plan.channels,
+        plan.stride,
         plan.start,
         plan.length,
     );
@@ -156,7 +171,13 @@ fn planned(plan: Plan) {
     }
 }
 
-fn plan_of(instruction: Instruction, variables: &[u8], predicates: &[u8], surfaces: &[u8]) -> Plan {
+fn plan_of(
+    register_size: u8,
+    instruction: Instruction,
+    variables: &[u8],
+    predicates: &[u8],
+    surfaces: &[u8],
+) -> Plan {
     let types = numbers::bytes_of(variables, 2, 0);
     let starts = numbers::words_of(variables, 3, 5, 0);
     let counts = numbers::words_of(variables, 5, 5, 1);
@@ -164,6 +185,7 @@ fn plan_of(instruction: Instruction, variables: &[u8], predicates: &[u8], surfac
     let predicate_counts = numbers::bytes_of(predicates, 6, 32);
     let lengths = numbers::words_of(surfaces, 2, 2, 0);
     plan::check(
+        register_size,
         &types[..numbers::entries(variables, 0)],
         &starts[..numbers::entries(variables, 0)],
         &counts[..numbers::entries(variables, 0)],
@@ -175,11 +197,17 @@ fn plan_of(instruction: Instruction, variables: &[u8], predicates: &[u8], surfac
 }
 
 // A kernel of one instruction.
-pub(crate) fn instruction(line: &[u8], variables: &[u8], predicates: &[u8], surfaces: &[u8]) {
+pub(crate) fn instruction(
+    register_size: u8,
+    line: &[u8],
+    variables: &[u8],
+    predicates: &[u8],
+    surfaces: &[u8],
+) {
     let kernel = numbers::kernel_of(line);
     match decoder::decode(&kernel, 0) {
         Decoded::Accepted(instruction, _) => {
-            planned(plan_of(instruction, variables, predicates, surfaces));
+            planned(plan_of(register_size, instruction, variables, predicates, surfaces));
         }
         Decoded::Refused(number) => {
             output::number(number as u64);

@@ -7,7 +7,13 @@ mod output;
 ghost use Prim.Native.Nat.{_≤_, _<_};
 ghost use lib.ListN.{length};
 
-fn answer_line(line: &[u8], variables: &[u8], predicates: &[u8], surfaces: &[u8]) {
+fn answer_line(
+    register_size: u8,
+    line: &[u8],
+    variables: &[u8],
+    predicates: &[u8],
+    surfaces: &[u8],
+) {
     if line.len() == 0 {
         return;
     }
@@ -19,10 +25,10 @@ fn answer_line(line: &[u8], variables: &[u8], predicates: &[u8], surfaces: &[u8]
         return answers::lanes(&line[1..]);
     }
     if kind == b't' {
-        return answers::tables(&line[1..], variables, predicates, surfaces);
+        return answers::tables(register_size, &line[1..], variables, predicates, surfaces);
     }
     if kind == b'k' {
-        answers::instruction(&line[1..], variables, predicates, surfaces);
+        answers::instruction(register_size, &line[1..], variables, predicates, surfaces);
     }
 }
 
@@ -46,8 +52,20 @@ fn latest(text: &[u8], at: usize, table: u8, before: usize) -> usize
     if text[at] == table { at + 1 } else { before }
 }
 
+// The size of a register from this line on.
+fn chosen(text: &[u8], at: usize, before: u8) -> u8
+    requires { ⌜ at < length (now text) ⌝ }
+{
+    if text[at] == b'r' {
+        numbers::byte(&text[at + 1..], 0)
+    } else {
+        before
+    }
+}
+
 fn answer_lines(text: &[u8]) {
     let mut at = 0;
+    let mut register_size: u8 = 32;
     let mut variables = 0;
     let mut predicates = 0;
     let mut surfaces = 0;
@@ -56,7 +74,9 @@ fn answer_lines(text: &[u8]) {
         variables = latest(text, at, b'v', variables);
         predicates = latest(text, at, b'p', predicates);
         surfaces = latest(text, at, b's', surfaces);
+        register_size = chosen(text, at, register_size);
         answer_line(
+            register_size,
             &text[at..next],
             &text[variables..],
             &text[predicates..],

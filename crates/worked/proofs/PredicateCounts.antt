@@ -1,23 +1,11 @@
 -- Whole cases with a predicate that has a count (document 02, request 3): computed from the definitions.
 use mathlib.Core.Path.{_≡_, refl}
-use mathlib.Core.List.{List, _++_, flatten}
+use mathlib.Core.List.{List, _++_}
 use Prim.Native.Nat.{ℕ}
-use Rattle.little_endian.specs.LittleEndian.{bytesOf}
-use Rattle.hex.specs.Digits.{isDecimal, isLetter, isDigit, digitOf, allDigits, characterOf}
-use Rattle.hex.specs.Bytes.{isHex, hexBytes, hexOf}
-use Rattle.line_blocks.specs.LinesOf.{linesFrom, linesOf}
-use Rattle.output.specs.Output.{lineOf, answerLine, contentLine, memoryLine, bufferLines, outputBytes}
-use Rattle.answering.specs.Outcome.{outcomeOutput}
-use Rattle.case_file.specs.Frames.{ofKind, firstOf}
-use Rattle.case_file.specs.BadLine.{contentGood, repeats, frameGood, fileLineGood, firstBad}
-use Rattle.case_file.specs.Case.{typeOf, startOf, countOf, dwordOf, predicateCountOf, baseOf, memoryOf, registerSizeOf, caseSetup, marksOf, caseState}
-use Rattle.case_file.specs.Output.{framesOutput, positionOf, answered, caseFileOutput}
+use Rattle.output.specs.Output.{lineOf}
+use Rattle.case_file.specs.Output.{caseFileOutput}
 use Rattle.worked.specs.Case.{hex}
-use Rattle.worked.proofs.Opened.{opened}
-
-unfoldable output-opened : Type 0
-unfolding opened hex bytesOf isDecimal isLetter isDigit digitOf allDigits characterOf isHex hexBytes hexOf linesFrom linesOf lineOf answerLine contentLine memoryLine bufferLines outputBytes outcomeOutput ofKind firstOf flatten contentGood repeats frameGood fileLineGood firstBad typeOf startOf countOf dwordOf predicateCountOf baseOf memoryOf registerSizeOf caseSetup marksOf caseState framesOutput positionOf answered caseFileOutput
-output-opened = Unit {0}
+use Rattle.worked.proofs.OutputOpened.{output-opened}
 
 -- all over 16 channels, a shift of UB elements by 1, under this frame of a predicate
 abbrev shifted-under : List ℕ → List ℕ
