@@ -5,3 +5,4 @@ pub mod OneRegionRun
 pub mod Uncounted
 pub mod UncountedRun
 pub mod ExecBits
+pub mod RegistersOf32

@@ -4,3 +4,4 @@ pub mod Given
 pub mod Uncounted
 pub mod PastCount
 pub mod ExecBits
+pub mod RegistersOf32

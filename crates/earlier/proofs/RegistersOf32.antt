@@ -1,0 +1,92 @@
+-- With registers of 32 bytes every definition that has a register's size is document 01's, and a run that chose another size than 32 and 64 is 13.
+-- What stands above these definitions hands the size on and does nothing else with it.
+use Prim.Native.Nat.{ℕ}
+use mathlib.Core.Path.{_≡_, refl, sym, ap, _∙_}
+use mathlib.Core.Bool.{Bool, true, false, cond, _&&_}
+use native.Mathlib.Omega.{arith}
+use lib.Dec.{ltb, eqb}
+use borrow.Author.Tests.{ltb-true, ltb-false}
+use Rattle.channels.specs.Exec.{execSize}
+use Rattle.field_groups.specs.declared.General.{General}
+use Rattle.decoder.specs.declared.Scatter.{Scatter}
+use Rattle.decoder.specs.declared.Instruction.the-variants as instruction
+use Rattle.tables.specs.declared.Lengths.{Lengths}
+use Rattle.tables.specs.Lengths.{registerSizeGood, chosenSize, registersGood, lengthsGood}
+use Rattle.tables.specs.Variables.{lineGood}
+use Rattle.tables.specs.Tables.{Tables, tablesGood}
+use Rattle.regions.specs.Regions.{rowElements, firstElement}
+use Rattle.regions.specs.Reach.{twoRegisters}
+use Rattle.plan.specs.declared.Plan.{Plan}
+use Rattle.plan.specs.Needed.{channelStride, scatterNeeded, registersNeeded}
+use Rattle.plan.specs.Checked.{checked}
+use Rattle.plan.proofs.InstructionLaws.{plan-keeps}
+use Rattle.scatter.specs.Scatter.{sourceByte}
+use Rattle.step.specs.State.{Setup, State, registerSize, lengthsOf}
+use Rattle.run.specs.Run.{stopped, run}
+use Rattle.run.proofs.Whole.{tables-refused}
+use Rattle.earlier.specs.RegistersOf32.{registersGood32, lengthsGood32, lineGood32, firstElement32, twoRegisters32, registersNeeded32, channelStride32, scatterNeeded32, sourceByte32}
+
+-- ---- tables and lengths
+
+pub registers-32 : (bytes : ℕ) → registersGood 32 bytes ≡ registersGood32 bytes
+unfolding registersGood registersGood32
+registers-32 bytes = refl
+
+pub lengths-32 : (l : Lengths) → l .«register_size» ≡ 32 → lengthsGood l ≡ lengthsGood32 l
+unfolding lengthsGood lengthsGood32 registerSizeGood registersGood registersGood32
+lengths-32 l e = rw e
+
+pub line-32 : (start bytes : ℕ) → lineGood 32 start bytes ≡ lineGood32 start bytes
+unfolding lineGood lineGood32
+line-32 start bytes = refl
+
+-- ---- operands
+
+pub first-element-32 : (g : General) (size : ℕ) → firstElement 32 g size ≡ firstElement32 g size
+unfolding firstElement rowElements firstElement32
+first-element-32 g size = refl
+
+pub two-registers-32 : (first last : ℕ) → twoRegisters 32 first last ≡ twoRegisters32 first last
+unfolding twoRegisters twoRegisters32
+two-registers-32 first last = refl
+
+pub registers-needed-32 : (count : ℕ) → registersNeeded 32 count ≡ registersNeeded32 count
+unfolding registersNeeded registersNeeded32
+registers-needed-32 count = refl
+
+-- ---- a scatter's channels
+
+pub stride-32 : (exec : ℕ) → channelStride 32 exec ≡ channelStride32 exec
+unfolding channelStride channelStride32
+stride-32 exec = told (ltb (execSize exec) 8) refl
+  where
+    told : (q : Bool) → ltb (execSize exec) 8 ≡ q → channelStride 32 exec ≡ cond q 8 (execSize exec)
+    told true e = omega (arith, ltb-true (execSize exec) 8 e)
+    told false e = omega (arith, ltb-false (execSize exec) 8 e)
+
+pub scatter-needed-32 : (exec channels : ℕ) → scatterNeeded (channelStride 32 exec) exec channels ≡ scatterNeeded32 exec channels
+unfolding scatterNeeded scatterNeeded32
+scatter-needed-32 exec channels = rw (stride-32 exec)
+
+-- an accepted scatter takes its data from where it took them
+pub source-byte-32 : (t : Tables) (i : Scatter) (c lane : ℕ) → checked 32 t (instruction.Scatter i) .number ≡ 0
+    → sourceByte (checked 32 t (instruction.Scatter i)) c lane ≡ sourceByte32 (checked 32 t (instruction.Scatter i)) c lane
+unfolding sourceByte sourceByte32
+source-byte-32 t i c lane z =
+    let k = plan-keeps 32 t (instruction.Scatter i) z in
+    rw (k .stride-is, k .control, stride-32 (i .control .exec))
+
+-- ---- the size that a run chose
+
+pub chosen-32 : (x : Setup) → x .constants .«register_size» ≡ 32 → registerSize x ≡ 32
+unfolding chosenSize
+chosen-32 x e = rw e
+
+pub chosen-64 : (x : Setup) → x .constants .«register_size» ≡ 64 → registerSize x ≡ 64
+unfolding chosenSize
+chosen-64 x e = rw e
+
+-- "any other size is 13", and nothing changes
+pub other-size : (x : Setup) (s : State) → registerSizeGood (x .constants .«register_size») ≡ false → run x s ≡ stopped 13 0 0 s
+unfolding tablesGood lengthsGood
+other-size x s e = tables-refused x s (rw e)
