@@ -6,3 +6,4 @@ pub mod Uncounted
 pub mod UncountedRun
 pub mod ExecBits
 pub mod RegistersOf32
+pub mod RunOf32

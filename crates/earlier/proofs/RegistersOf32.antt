@@ -1,30 +1,23 @@
--- With registers of 32 bytes every definition that has a register's size is document 01's, and a run that chose another size than 32 and 64 is 13.
--- What stands above these definitions hands the size on and does nothing else with it.
+-- With registers of 32 bytes every definition that looks at their size is document 01's, and a run that chose another size than 32 and 64 is 13.
 use Prim.Native.Nat.{ℕ}
-use mathlib.Core.Path.{_≡_, refl, sym, ap, _∙_}
-use mathlib.Core.Bool.{Bool, true, false, cond, _&&_}
+use mathlib.Core.Path.{_≡_, refl}
+use mathlib.Core.Bool.{Bool, true, false, cond}
 use native.Mathlib.Omega.{arith}
-use lib.Dec.{ltb, eqb}
+use lib.Dec.{ltb}
 use borrow.Author.Tests.{ltb-true, ltb-false}
 use Rattle.channels.specs.Exec.{execSize}
 use Rattle.field_groups.specs.declared.General.{General}
-use Rattle.decoder.specs.declared.Scatter.{Scatter}
-use Rattle.decoder.specs.declared.Instruction.the-variants as instruction
 use Rattle.tables.specs.declared.Lengths.{Lengths}
 use Rattle.tables.specs.Lengths.{registerSizeGood, chosenSize, registersGood, lengthsGood}
 use Rattle.tables.specs.Variables.{lineGood}
-use Rattle.tables.specs.Tables.{Tables, tablesGood}
+use Rattle.tables.specs.Tables.{tablesGood}
 use Rattle.regions.specs.Regions.{rowElements, firstElement}
 use Rattle.regions.specs.Reach.{twoRegisters}
-use Rattle.plan.specs.declared.Plan.{Plan}
 use Rattle.plan.specs.Needed.{channelStride, scatterNeeded, registersNeeded}
-use Rattle.plan.specs.Checked.{checked}
-use Rattle.plan.proofs.InstructionLaws.{plan-keeps}
-use Rattle.scatter.specs.Scatter.{sourceByte}
-use Rattle.step.specs.State.{Setup, State, registerSize, lengthsOf}
+use Rattle.step.specs.State.{Setup, State, registerSize}
 use Rattle.run.specs.Run.{stopped, run}
 use Rattle.run.proofs.Whole.{tables-refused}
-use Rattle.earlier.specs.RegistersOf32.{registersGood32, lengthsGood32, lineGood32, firstElement32, twoRegisters32, registersNeeded32, channelStride32, scatterNeeded32, sourceByte32}
+use Rattle.earlier.specs.RegistersOf32.{registersGood32, lengthsGood32, lineGood32, firstElement32, twoRegisters32, registersNeeded32, channelStride32, scatterNeeded32}
 
 -- ---- tables and lengths
 
@@ -68,23 +61,11 @@ pub scatter-needed-32 : (exec channels : ℕ) → scatterNeeded (channelStride 3
 unfolding scatterNeeded scatterNeeded32
 scatter-needed-32 exec channels = rw (stride-32 exec)
 
--- an accepted scatter takes its data from where it took them
-pub source-byte-32 : (t : Tables) (i : Scatter) (c lane : ℕ) → checked 32 t (instruction.Scatter i) .number ≡ 0
-    → sourceByte (checked 32 t (instruction.Scatter i)) c lane ≡ sourceByte32 (checked 32 t (instruction.Scatter i)) c lane
-unfolding sourceByte sourceByte32
-source-byte-32 t i c lane z =
-    let k = plan-keeps 32 t (instruction.Scatter i) z in
-    rw (k .stride-is, k .control, stride-32 (i .control .exec))
-
 -- ---- the size that a run chose
 
 pub chosen-32 : (x : Setup) → x .constants .«register_size» ≡ 32 → registerSize x ≡ 32
 unfolding chosenSize
 chosen-32 x e = rw e
-
-pub chosen-64 : (x : Setup) → x .constants .«register_size» ≡ 64 → registerSize x ≡ 64
-unfolding chosenSize
-chosen-64 x e = rw e
 
 -- "any other size is 13", and nothing changes
 pub other-size : (x : Setup) (s : State) → registerSizeGood (x .constants .«register_size») ≡ false → run x s ≡ stopped 13 0 0 s

@@ -5,3 +5,4 @@ pub mod Uncounted
 pub mod PastCount
 pub mod ExecBits
 pub mod RegistersOf32
+pub mod RunOf32
