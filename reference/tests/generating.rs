@@ -235,7 +235,7 @@ fn kernel(case: &Case, seen: &mut BTreeSet<String>) {
                 see("destination overlaps source", same);
             }
             0x78 => {
-                let offset = element::scalar(case, &it.scalar).bits;
+                let offset = element::scalar(case, &it.scalar, case.register_size.bytes()).bits;
                 let length = case.surfaces[usize::from(it.surface)].len() as u64;
                 for lane in 0..lanes {
                     let sum = offset + element::raw(case, &it.element_offset, lane).bits;
@@ -246,7 +246,7 @@ fn kernel(case: &Case, seen: &mut BTreeSet<String>) {
                 }
             }
             0x4e => {
-                let address = element::scalar(case, &it.scalar).bits;
+                let address = element::scalar(case, &it.scalar, case.register_size.bytes()).bits;
                 let mut addresses = BTreeSet::new();
                 for lane in 0..lanes {
                     let offset = element::raw(case, &it.element_offset, lane).bits;

@@ -123,7 +123,7 @@ fn slip_1_answers_11(mut case: Case, scatter: &Instruction) -> bool {
     // A refusal changes nothing, so the run leaves what the refused scatter meets.
     run(&mut case);
     let on = lanes_on(&case, scatter);
-    let address = element::scalar(&case, &scatter.scalar);
+    let address = element::scalar(&case, &scatter.scalar, case.register_size.bytes());
     for lane in (0..scatter.exec_size()).filter(|lane| on[*lane as usize]) {
         let offset = element::raw(&case, &scatter.element_offset, lane);
         // The 4c of a channel leaves the remainder by 4 as it is.
