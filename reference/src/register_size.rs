@@ -41,6 +41,8 @@ pub struct Followers {
     /// "Scatter data of successive channels": where they are read, and how many there must be.
     pub scatter_data: u64,
     pub scatter_need: u64,
+    /// "at most 4,096" with either size.
+    pub largest_file: u64,
 }
 
 impl Followers {
@@ -54,6 +56,7 @@ impl Followers {
             file: bytes,
             scatter_data: bytes,
             scatter_need: bytes,
+            largest_file: 4096,
         }
     }
 }

@@ -24,7 +24,7 @@ pub struct Answer {
 }
 
 /// "13 answers 0 and 0."
-const BROKEN_SIZES: Answer = Answer {
+pub const BROKEN_SIZES: Answer = Answer {
     number: SIZES,
     completed: 0,
     position: 0,
@@ -41,16 +41,8 @@ pub fn run(case: &mut Case) -> Answer {
     run_kernel(case, &followers)
 }
 
-/// The run by what follows the register size, which itself is not judged here.
-pub fn run_by(case: &mut Case, followers: &Followers) -> Answer {
-    if sizes::check_by(case, followers).is_err() {
-        return BROKEN_SIZES;
-    }
-    run_kernel(case, followers)
-}
-
 /// Instruction by instruction, the sizes being right.
-fn run_kernel(case: &mut Case, followers: &Followers) -> Answer {
+pub fn run_kernel(case: &mut Case, followers: &Followers) -> Answer {
     let mut completed = 0;
     let mut position = 0;
     while position < case.kernel.len() {

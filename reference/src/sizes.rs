@@ -27,9 +27,9 @@ pub fn check_by(case: &Case, followers: &Followers) -> Result<(), u8> {
 fn sizes_hold(case: &Case, followers: &Followers) -> bool {
     let registers = case.registers.len() as u64;
     let variable_holds = |it: &Variable| variable_holds(it, registers, followers.placing);
-    // "Register file: multiple of 32, at most 4,096." Only the multiple follows the size.
+    // "Register file: multiple of 32, at most 4,096."
     is_whole_registers(followers.file, registers)
-        && registers <= 4096
+        && registers <= followers.largest_file
         // "Kernel and memory: at most 4,096 each."
         && case.kernel.len() <= 4096
         && case.memory.len() <= 4096
