@@ -33,7 +33,7 @@ const fn edge(name: &'static str, numbers: [u8; 2], make: fn(&mut Random, Scene)
     }
 }
 
-const EDGES: [Edge; 36] = [
+const EDGES: [Edge; 38] = [
     edge("a long variable at a register's start", [0, 0], |r, s| {
         let (start, bytes) = (register(&s), long(r, &s));
         placed(r, s, start, bytes)
@@ -177,27 +177,34 @@ const EDGES: [Edge; 36] = [
     edge("RAW_SEND's registers one element short", [7, 7], |r, s| {
         sent(r, s, 1)
     }),
-    edge("a scatter's data just there", [0, 0], |r, s| {
-        scattered(r, s, Data::Enough)
+    edge("eight lanes' data just there", [0, 0], |r, s| {
+        scattered(r, s, 8, Data::Enough)
     }),
-    edge("a scatter's data one dword short", [7, 7], |r, s| {
-        scattered(r, s, Data::OneShort)
+    edge("eight lanes' data one dword short", [7, 7], |r, s| {
+        scattered(r, s, 8, Data::OneShort)
     }),
     edge(
-        "a scatter's data as of 32-byte registers",
+        "eight lanes' data as 32-byte registers ask",
         [0, 7],
-        |r, s| scattered(r, s, Data::Of32),
+        |r, s| scattered(r, s, 8, Data::Of32),
     ),
+    edge("sixteen lanes' data just there", [0, 0], |r, s| {
+        scattered(r, s, 16, Data::Enough)
+    }),
+    edge("sixteen lanes' data one dword short", [7, 7], |r, s| {
+        scattered(r, s, 16, Data::OneShort)
+    }),
 ];
 
-/// Each edge with each size, and each size that is none.
-pub const WAYS: usize = 2 * EDGES.len() + OTHER_SIZES.len();
+/// Each edge with each size, and each size that is none, 48 more often.
+pub const WAYS: usize = 2 * EDGES.len() + OTHER_SIZES.len() + 3;
 
 pub fn one_edge(random: &mut Random, way: usize) -> Meant {
     let sizes = [RegisterSize::OF_32, RegisterSize::OF_64];
     let (size, edge) = (way % 2, EDGES.get(way / 2));
     let Some(edge) = edge else {
-        let wrong = OTHER_SIZES[way - 2 * EDGES.len()];
+        let wrong = OTHER_SIZES.get(way - 2 * EDGES.len());
+        let wrong = *wrong.unwrap_or(&0x30);
         let scene = wrong_size(random, wrong);
         return (scene, format!("{WRONG_SIZE} {wrong:02x}"), 13, Detail::None);
     };
@@ -414,18 +421,14 @@ fn sent(random: &mut Random, mut scene: Scene, lacking: u16) -> Scene {
 enum Data {
     Enough,
     OneShort,
-    /// As much as 32-byte registers need, with eight lanes.
+    /// As much as 32-byte registers need.
     Of32,
 }
 
 /// A scatter of two channels or more with its data in a variable of their own.
-fn scattered(random: &mut Random, first: Scene, data: Data) -> Scene {
+fn scattered(random: &mut Random, first: Scene, exec_size: u16, data: Data) -> Scene {
     let mut scene = first;
-    let (exec_size, channels, dwords) = loop {
-        let exec_size = match data {
-            Data::Of32 => 8,
-            _ => random.pick(&[8, 16]),
-        };
+    let (channels, dwords) = loop {
         let top = scene.guarded.unwrap().top_channel;
         let channels = random.range(1, (2 << top) - 1) as u8;
         let further = u16::from(channels.count_ones() as u8) - 1;
@@ -436,7 +439,7 @@ fn scattered(random: &mut Random, first: Scene, data: Data) -> Scene {
         };
         let dwords = further * apart + exec_size;
         if further > 0 && u64::from(dwords) <= scene.work / 4 {
-            break (exec_size, channels, dwords);
+            break (channels, dwords);
         }
         scene = base_scene_of(random, scene.case.register_size);
         scene.case.kernel = prefix(random, &scene);
