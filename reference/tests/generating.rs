@@ -95,7 +95,7 @@ fn both_register_sizes_in_every_mode() {
             last += u64::from(lines.last().is_some_and(is_size));
         }
         if mode == Mode::BadLines {
-            assert_eq!(sizes, [Choice::NotRead].into());
+            assert_eq!(sizes, [Choice::NotReadOf64, Choice::NotRead].into());
         } else {
             let good = [Choice::Absent, Choice::Of32, Choice::Of64];
             assert!(good.iter().all(|it| sizes.contains(it)), "{mode:?}");

@@ -388,11 +388,12 @@ fn the_fixed_seed_reaches_the_rare_places() {
 
     // Both register sizes in every mode that has good lines, 32 with a frame and without; other sizes and every edge.
     for mode in Mode::ALL {
-        let [absent, of_32, of_64, other, not_read] =
-            Choice::ALL.map(|choice| report.sized(mode, choice));
-        let all = absent + of_32 + of_64 + other + not_read;
+        let sized = Choice::ALL.map(|choice| report.sized(mode, choice));
+        let all: u64 = sized.iter().sum();
+        let [absent, of_32, of_64, _, not_read_of_64, not_read] = sized;
         if mode == Mode::BadLines {
-            assert_eq!(all, not_read);
+            assert_eq!(all, not_read_of_64 + not_read);
+            assert!(not_read_of_64 >= all / 4);
             continue;
         }
         assert!(absent >= all / 10 && of_32 >= all / 10, "{mode:?}");

@@ -17,16 +17,18 @@ pub enum Choice {
     Of64,
     /// A size that is none.
     Other,
-    /// A line is bad.
+    /// A line is bad; a frame of 64 is there, or not.
+    NotReadOf64,
     NotRead,
 }
 
 impl Choice {
-    pub const ALL: [Choice; 5] = [
+    pub const ALL: [Choice; 6] = [
         Choice::Absent,
         Choice::Of32,
         Choice::Of64,
         Choice::Other,
+        Choice::NotReadOf64,
         Choice::NotRead,
     ];
 
@@ -36,15 +38,19 @@ impl Choice {
             Choice::Of32 => "32, 0b20",
             Choice::Of64 => "64, 0b40",
             Choice::Other => "another",
-            Choice::NotRead => "bad line",
+            Choice::NotReadOf64 => "14, 0b40",
+            Choice::NotRead => "14, other",
         }
     }
 
     pub fn of(file: &[u8]) -> Choice {
-        let Ok(case) = read_case(file) else {
-            return Choice::NotRead;
-        };
         let mut lines = file.split(|byte| *byte == 0x0a);
+        let Ok(case) = read_case(file) else {
+            return match lines.any(|line| line == b"0b40") {
+                true => Choice::NotReadOf64,
+                false => Choice::NotRead,
+            };
+        };
         match case.register_size {
             RegisterSize::OF_32 if lines.any(|line| line.starts_with(b"0b")) => Choice::Of32,
             RegisterSize::OF_32 => Choice::Absent,
