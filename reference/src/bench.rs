@@ -10,37 +10,37 @@ use crate::run::{run, Answer};
 
 /// The answer to a case file.
 pub fn answer(input: &[u8]) -> Answer {
-    answered(input).0
+    match read_case(input) {
+        Ok(mut case) => run(&mut case),
+        Err(line_number) => bad_line(line_number),
+    }
 }
 
-/// The answer to a case file, and what the run left unless it is 13 or 14.
-fn answered(input: &[u8]) -> (Answer, Option<Case>) {
-    match read_case(input) {
-        Ok(mut case) => match run(&mut case) {
-            // "13 likewise, position 0."
-            answer if answer.number == SIZES => (answer, None),
-            answer => (answer, Some(case)),
-        },
-        // "is 14, at the first such line and before any 13: only the 40 line, completed 0, line number
-        // from 1 as position"
-        Err(line_number) => {
-            let answer = Answer {
-                number: BAD_LINE,
-                completed: 0,
-                position: line_number,
-                detail: Detail::None,
-            };
-            (answer, None)
-        }
+/// "is 14, at the first such line and before any 13: only the 40 line, completed 0, line number from 1 as position"
+pub fn bad_line(line_number: usize) -> Answer {
+    Answer {
+        number: BAD_LINE,
+        completed: 0,
+        position: line_number,
+        detail: Detail::None,
     }
 }
 
 /// "It writes 40 (number ub, completed uw, position ud), then 01, 05, 08, 0a."
 pub fn bench(input: &[u8]) -> Vec<u8> {
-    let (answer, left) = answered(input);
-    let Some(case) = left else {
-        return file_of(vec![answer_line(&answer)]);
-    };
+    match read_case(input) {
+        Ok(case) => bench_of(case, run),
+        Err(line_number) => only(&bad_line(line_number)),
+    }
+}
+
+/// What is written for a case by a run.
+pub fn bench_of(mut case: Case, run: impl FnOnce(&mut Case) -> Answer) -> Vec<u8> {
+    let answer = run(&mut case);
+    // "13 likewise, position 0."
+    if answer.number == SIZES {
+        return only(&answer);
+    }
     file_of(vec![
         answer_line(&answer),
         line(0x01, &[&case.registers]),
@@ -48,6 +48,11 @@ pub fn bench(input: &[u8]) -> Vec<u8> {
         line(0x08, &[&case.register_taint]),
         line(0x0a, &[&case.memory_taint]),
     ])
+}
+
+/// "only the 40 line"
+pub fn only(answer: &Answer) -> Vec<u8> {
+    file_of(vec![answer_line(answer)])
 }
 
 fn answer_line(answer: &Answer) -> Vec<u8> {

@@ -1,5 +1,7 @@
 //! A case: everything lent for a marked run, as one case file (document 01's bench file) gives it.
 
+use crate::register_size::RegisterSize;
+
 /// "A variable has type, start byte and element count (at least 1)."
 #[derive(Clone, Copy, Debug, Default, PartialEq, Eq)]
 pub struct Variable {
@@ -30,6 +32,8 @@ impl Predicate {
 /// is marked".
 #[derive(Clone, Debug, Default, PartialEq, Eq)]
 pub struct Case {
+    /// Document 02, request 5: the size that the run chooses.
+    pub register_size: RegisterSize,
     pub kernel: Vec<u8>,
     /// The register file.
     pub registers: Vec<u8>,

@@ -4,6 +4,7 @@
 
 use crate::case::{Case, Predicate, Variable};
 use crate::hex;
+use crate::register_size::RegisterSize;
 
 /// "one over 16,386 characters included"; the 0x0a is not counted.
 pub const LONGEST_LINE: usize = 16_386;
@@ -62,6 +63,7 @@ struct Frames {
     register_taint: Option<Vec<u8>>,
     surface_taint: Option<Vec<u8>>,
     memory_taint: Option<Vec<u8>>,
+    register_size: Option<RegisterSize>,
 }
 
 impl Frames {
@@ -118,17 +120,25 @@ impl Frames {
             0x08 => once(&mut self.register_taint, body.to_vec()),
             0x09 => once(&mut self.surface_taint, body.to_vec()),
             0x0a => once(&mut self.memory_taint, body.to_vec()),
+            // "A frame 0b with one byte ... picks the size"; which bytes are good, 13 says.
+            0x0b => {
+                let [size] = body else {
+                    return false;
+                };
+                once(&mut self.register_size, RegisterSize(*size))
+            }
             // "Anything else ... is 14"
             _ => false,
         }
     }
 
-    /// "absent means empty, base 0, EM 0, marks all 0"
+    /// "absent means empty, base 0, EM 0, marks all 0", and registers of 32 bytes.
     fn case(self) -> Case {
         let registers = self.registers.unwrap_or_default();
         let (base, memory) = self.base_and_memory.unwrap_or_default();
         let surface_bytes = self.surfaces.iter().map(Vec::len).sum();
         Case {
+            register_size: self.register_size.unwrap_or_default(),
             register_taint: self.register_taint.unwrap_or(vec![0; registers.len()]),
             surface_taint: self.surface_taint.unwrap_or(vec![0; surface_bytes]),
             memory_taint: self.memory_taint.unwrap_or(vec![0; memory.len()]),

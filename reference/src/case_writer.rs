@@ -34,7 +34,13 @@ pub fn case_lines(case: &Case) -> Vec<Vec<u8>> {
     lines.push(line(0x08, &[&case.register_taint]));
     lines.push(line(0x09, &[&case.surface_taint]));
     lines.push(line(0x0a, &[&case.memory_taint]));
+    lines.push(register_size_line(case));
     lines
+}
+
+/// "A frame 0b with one byte"
+pub fn register_size_line(case: &Case) -> Vec<u8> {
+    line(0x0b, &[&[case.register_size.0]])
 }
 
 /// "05 base uq and memory"

@@ -49,22 +49,22 @@ fn immediate(operand: &VectorOperand) -> Element {
     }
 }
 
-/// The element of a vector source for each lane.
-pub fn sources(case: &Case, operand: &VectorOperand, exec_size: u64) -> Vec<Element> {
+/// The element of a vector source for each lane; a row has `row` bytes.
+pub fn sources(case: &Case, operand: &VectorOperand, exec_size: u64, row: u64) -> Vec<Element> {
     if operand.is_immediate() {
         return vec![immediate(operand); exec_size as usize];
     }
     let variable = case.variables[usize::from(operand.index)];
     let size = element_type::size(variable.type_code).unwrap();
-    region::source_elements(operand, variable.type_code, exec_size)
+    region::source_elements(operand, variable.type_code, exec_size, row)
         .iter()
         .map(|e| read(case, u64::from(variable.start) + e * size, size))
         .collect()
 }
 
 /// The one element of a scalar.
-pub fn scalar(case: &Case, operand: &VectorOperand) -> Element {
-    sources(case, operand, 1)[0]
+pub fn scalar(case: &Case, operand: &VectorOperand, row: u64) -> Element {
+    sources(case, operand, 1, row)[0]
 }
 
 /// The type of a vector operand's elements.

@@ -3,12 +3,13 @@
 use crate::case::Case;
 use crate::element;
 use crate::instruction::Instruction;
+use crate::register_size::Followers;
 
-pub fn gather(case: &mut Case, instruction: &Instruction, on: &[bool]) {
+pub fn gather(case: &mut Case, instruction: &Instruction, on: &[bool], followers: &Followers) {
     let exec_size = instruction.exec_size();
 
     // "All sources are read before any write."
-    let offset = element::scalar(case, &instruction.scalar);
+    let offset = element::scalar(case, &instruction.scalar, followers.rows);
     let mut element_offsets = Vec::new();
     for lane in 0..exec_size {
         element_offsets.push(element::raw(case, &instruction.element_offset, lane));

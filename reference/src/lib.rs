@@ -14,6 +14,8 @@
 //! - request 2, which region rule: `region`, `operands`, `refusal`, `verdict`
 //! - request 3, predicates have lengths: `case`, `case_file`, `sizes`, `run_checks`
 //! - request 4, the exec byte's table, printed: `exec_line`
+//! - request 5, cards with 64-byte registers: `register_size`, and `case`, `case_file`, `sizes`, `region`, `operands`,
+//!   `run_checks`, `scatter`, where its functions are used
 //!
 //! Beside the interpreter stand the generators of cases and lines (`assemble`, `generate`), the comparisons (`source`,
 //! `command`, `difference`, `comparison`, `line_comparison`, `exec_comparison`) and the programs (`programs`, `panics`).
@@ -51,6 +53,7 @@ pub mod programs;
 pub mod read;
 pub mod refusal;
 pub mod region;
+pub mod register_size;
 pub mod run;
 pub mod run_checks;
 pub mod scatter;

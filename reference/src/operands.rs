@@ -9,7 +9,7 @@ use crate::instruction::{RawOperand, VectorOperand};
 use crate::number::{NOT_ALLOWED, NOT_IN_TABLE, OUTSIDE, SCALAR_REGION};
 use crate::refusal::Refusal;
 use crate::region::{self, Region, RULES};
-use crate::sizes::REGISTER;
+use crate::register_size::{in_two_registers, Followers};
 
 /// 5: "variable ... not in its table"
 fn variable(case: &Case, index: u16) -> Result<Variable, u8> {
@@ -36,6 +36,7 @@ pub fn vector(
     role: Role,
     exec_size: u64,
     allowed: &[u8],
+    followers: &Followers,
 ) -> Result<(), Refusal> {
     if operand.is_immediate() {
         type_is_one_of(operand.immediate_type, allowed)?;
@@ -47,11 +48,12 @@ pub fn vector(
     if let Some(number) = region::first_broken(&RULES, &region) {
         return Err(Refusal::of_operand(number, place));
     }
-    let elements = match role {
-        Role::Source => region::source_elements(operand, variable.type_code, exec_size),
-        Role::Destination => region::destination_elements(operand, variable.type_code, exec_size),
+    let elements_of = match role {
+        Role::Source => region::source_elements,
+        Role::Destination => region::destination_elements,
     };
-    elements_lie_well(&variable, &elements)?;
+    let elements = elements_of(operand, variable.type_code, exec_size, followers.rows);
+    elements_lie_well(&variable, &elements, followers.two_registers)?;
     Ok(())
 }
 
@@ -61,6 +63,7 @@ pub fn scalar(
     operand: &VectorOperand,
     place: usize,
     allowed: u8,
+    followers: &Followers,
 ) -> Result<(), Refusal> {
     if operand.is_immediate() {
         type_is_one_of(operand.immediate_type, &[allowed])?;
@@ -73,14 +76,14 @@ pub fn scalar(
         return Err(Refusal::of_operand(SCALAR_REGION, place));
     }
     // Its one element is that of a region of ExecSize 1.
-    let elements = region::source_elements(operand, variable.type_code, 1);
-    elements_lie_well(&variable, &elements)?;
+    let elements = region::source_elements(operand, variable.type_code, 1, followers.rows);
+    elements_lie_well(&variable, &elements, followers.two_registers)?;
     Ok(())
 }
 
 /// "All ExecSize elements, enabled or not, lie in the variable and touch at most two adjacent
 /// registers, lowest byte to highest."
-fn elements_lie_well(variable: &Variable, elements: &[u64]) -> Result<(), u8> {
+fn elements_lie_well(variable: &Variable, elements: &[u64], register: u64) -> Result<(), u8> {
     let size = element_type::size(variable.type_code).unwrap();
     let start = u64::from(variable.start);
     if elements.iter().any(|&e| e >= u64::from(variable.count)) {
@@ -88,7 +91,7 @@ fn elements_lie_well(variable: &Variable, elements: &[u64]) -> Result<(), u8> {
     }
     let lowest_byte = start + elements.iter().min().unwrap() * size;
     let highest_byte = start + elements.iter().max().unwrap() * size + size - 1;
-    if highest_byte / REGISTER - lowest_byte / REGISTER > 1 {
+    if !in_two_registers(register, lowest_byte, highest_byte) {
         return Err(OUTSIDE);
     }
     Ok(())

@@ -7,6 +7,7 @@ use crate::instruction::VectorOperand;
 use crate::number::{
     DESTINATION_STRIDE_0, NULL, STRIDE_OVER_4, WIDTH_0_OR_32, WIDTH_OVER_EXEC_SIZE,
 };
+use crate::register_size::elements_in_a_row;
 
 /// "codes 0 Null, 1..7 for 0, 1, 2, 4, 8, 16, 32". Decoding lets no code over 7 pass.
 fn value(code: u16) -> Option<u64> {
@@ -115,31 +116,41 @@ pub fn scalar_is_right(region: u16) -> bool {
     vertical(region) == Some(0) && width(region) == Some(1) && horizontal(region) == Some(0)
 }
 
-/// "R·(32/size)+C", the element at the region's origin.
-fn origin(operand: &VectorOperand, type_code: u8) -> u64 {
+/// "R·(32/size)+C", the element at the region's origin; a row has `row` bytes, the register's size.
+fn origin(operand: &VectorOperand, type_code: u8, row: u64) -> u64 {
     let size = element_type::size(type_code).unwrap();
-    u64::from(operand.row) * (32 / size) + u64::from(operand.column)
+    u64::from(operand.row) * elements_in_a_row(row, size) + u64::from(operand.column)
 }
 
 /// "General source element (i, j): R·(32/size)+C+i·V+j·H, for ExecSize/Width rows of Width."
 /// One element number for each lane, the region being right.
-pub fn source_elements(operand: &VectorOperand, type_code: u8, exec_size: u64) -> Vec<u64> {
+pub fn source_elements(
+    operand: &VectorOperand,
+    type_code: u8,
+    exec_size: u64,
+    row: u64,
+) -> Vec<u64> {
     let v = vertical(operand.region).unwrap();
     let w = width(operand.region).unwrap();
     let h = horizontal(operand.region).unwrap();
     let mut elements = Vec::new();
     for i in 0..exec_size / w {
         for j in 0..w {
-            elements.push(origin(operand, type_code) + i * v + j * h);
+            elements.push(origin(operand, type_code, row) + i * v + j * h);
         }
     }
     elements
 }
 
 /// 003: "DstDataElements[i] = VN[FirstElementIndex + i *HorzStride]".
-pub fn destination_elements(operand: &VectorOperand, type_code: u8, exec_size: u64) -> Vec<u64> {
+pub fn destination_elements(
+    operand: &VectorOperand,
+    type_code: u8,
+    exec_size: u64,
+    row: u64,
+) -> Vec<u64> {
     let h = horizontal(operand.region).unwrap();
     (0..exec_size)
-        .map(|i| origin(operand, type_code) + i * h)
+        .map(|i| origin(operand, type_code, row) + i * h)
         .collect()
 }

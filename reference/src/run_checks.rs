@@ -8,9 +8,10 @@ use crate::instruction::{Instruction, GATHER, RAW_SEND, SHL};
 use crate::number;
 use crate::operands;
 use crate::refusal::Refusal;
+use crate::register_size::{bytes_of_registers, scatter_dwords, Followers};
 
 /// Operands stand with their places in field order, from 1.
-pub fn check(case: &Case, instruction: &Instruction) -> Result<(), Refusal> {
+pub fn check(case: &Case, instruction: &Instruction, followers: &Followers) -> Result<(), Refusal> {
     let exec_size = instruction.exec_size();
 
     // 8: "offset + ExecSize over 32"
@@ -36,13 +37,16 @@ pub fn check(case: &Case, instruction: &Instruction) -> Result<(), Refusal> {
     match instruction.opcode {
         SHL => {
             let types = &SHL_TYPES;
-            operands::vector(case, &instruction.dst, 1, Destination, exec_size, types)?;
-            operands::vector(case, &instruction.src0, 2, Source, exec_size, types)?;
-            operands::vector(case, &instruction.src1, 3, Source, exec_size, types)
+            let vector = |operand, place, role| {
+                operands::vector(case, operand, place, role, exec_size, types, followers)
+            };
+            vector(&instruction.dst, 1, Destination)?;
+            vector(&instruction.src0, 2, Source)?;
+            vector(&instruction.src1, 3, Source)
         }
         GATHER => {
             // "Offset and Element_offset are UD; Dst is UD, D or F." "surfaces not counted"
-            operands::scalar(case, &instruction.scalar, 1, UD)?;
+            operands::scalar(case, &instruction.scalar, 1, UD, followers)?;
             operands::raw(
                 case,
                 &instruction.element_offset,
@@ -58,35 +62,25 @@ pub fn check(case: &Case, instruction: &Instruction) -> Result<(), Refusal> {
         }
         RAW_SEND => {
             // 002: Desc "Must have type UD".
-            operands::scalar(case, &instruction.scalar, 1, UD)?;
-            // "RAW_SEND needs 32 bytes per register counted"
-            operands::raw(
-                case,
-                &instruction.raw_src,
-                None,
-                32 * u64::from(instruction.num_src),
-            )?;
-            operands::raw(
-                case,
-                &instruction.raw_dst,
-                None,
-                32 * u64::from(instruction.num_dst),
-            )?;
+            operands::scalar(case, &instruction.scalar, 1, UD, followers)?;
+            let bytes = |count: u8| bytes_of_registers(followers.raw_send, u64::from(count));
+            let (src, dst) = (&instruction.raw_src, &instruction.raw_dst);
+            operands::raw(case, src, None, bytes(instruction.num_src))?;
+            operands::raw(case, dst, None, bytes(instruction.num_dst))?;
             // 9: "RAW_SEND, otherwise good"
             Err(number::RAW_SEND.into())
         }
         _ => {
             // "Address and Element_offset are UQ; Src is UD, D or F."
-            operands::scalar(case, &instruction.scalar, 1, UQ)?;
+            operands::scalar(case, &instruction.scalar, 1, UQ, followers)?;
             operands::raw(
                 case,
                 &instruction.element_offset,
                 Some(&[UQ]),
                 8 * exec_size,
             )?;
-            // "Scatter with k channels needs (k-1)·max(ExecSize, 8)+ExecSize dwords."
             let k = u64::from(instruction.channels.count_ones());
-            let dwords = (k - 1) * exec_size.max(8) + exec_size;
+            let dwords = scatter_dwords(followers.scatter_need, exec_size, k);
             operands::raw(case, &instruction.raw_src, Some(&DWORD_TYPES), 4 * dwords)
         }
     }

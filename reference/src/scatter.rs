@@ -7,6 +7,7 @@ use crate::element;
 use crate::instruction::Instruction;
 use crate::number::{NOT_IN_WINDOW, TAINTED_ADDRESS, UNALIGNED};
 use crate::refusal::{Detail, Refusal};
+use crate::register_size::{channel_stride, Followers};
 
 /// One enabled channel-and-lane pair.
 struct Pair {
@@ -29,9 +30,14 @@ impl Pair {
     }
 }
 
-pub fn scatter(case: &mut Case, instruction: &Instruction, on: &[bool]) -> Result<(), Refusal> {
+pub fn scatter(
+    case: &mut Case,
+    instruction: &Instruction,
+    on: &[bool],
+    followers: &Followers,
+) -> Result<(), Refusal> {
     let exec_size = instruction.exec_size();
-    let address = element::scalar(case, &instruction.scalar);
+    let address = element::scalar(case, &instruction.scalar, followers.rows);
 
     // "10 over all lanes": "A marked byte in any enabled lane's scatter address or element offset
     // gives 10."
@@ -63,8 +69,8 @@ pub fn scatter(case: &mut Case, instruction: &Instruction, on: &[bool]) -> Resul
                 channel,
                 lane,
                 address: (sum % (1u128 << 64)) as u64,
-                // "Its data are dword p·max(ExecSize, 8)+i of Src"
-                dword: enabled_below * exec_size.max(8) + lane,
+                // "Its data are dword p·max(ExecSize, 8)+i of Src", with the stride of the register size.
+                dword: enabled_below * channel_stride(followers.scatter_data, exec_size) + lane,
             });
         }
         enabled_below += 1;

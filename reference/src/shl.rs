@@ -6,18 +6,20 @@ use crate::element;
 use crate::element_type;
 use crate::instruction::Instruction;
 use crate::region;
+use crate::register_size::Followers;
 
-pub fn shl(case: &mut Case, instruction: &Instruction, on: &[bool]) {
+pub fn shl(case: &mut Case, instruction: &Instruction, on: &[bool], followers: &Followers) {
     let exec_size = instruction.exec_size();
 
     // "All sources are read before any write."
-    let src0 = element::sources(case, &instruction.src0, exec_size);
-    let src1 = element::sources(case, &instruction.src1, exec_size);
+    let row = followers.rows;
+    let src0 = element::sources(case, &instruction.src0, exec_size, row);
+    let src1 = element::sources(case, &instruction.src1, exec_size, row);
     let src0_type = element::type_of(case, &instruction.src0);
 
     let variable = case.variables[usize::from(instruction.dst.index)];
     let size = element_type::size(variable.type_code).unwrap();
-    let places = region::destination_elements(&instruction.dst, variable.type_code, exec_size);
+    let places = region::destination_elements(&instruction.dst, variable.type_code, exec_size, row);
 
     for lane in 0..exec_size as usize {
         if !on[lane] {

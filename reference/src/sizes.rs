@@ -3,24 +3,33 @@
 use crate::case::{Case, Variable};
 use crate::element_type;
 use crate::number::SIZES;
-
-/// "A register is 32 bytes."
-pub const REGISTER: u64 = 32;
+use crate::register_size::{is_well_placed, is_whole_registers, Followers};
 
 /// Every entry of every table is judged, used or not.
 pub fn check(case: &Case) -> Result<(), u8> {
-    if sizes_hold(case) {
+    // "Refusals: any other size is 13."
+    if case.register_size.is_good() {
+        check_by(case, &Followers::of(case.register_size))
+    } else {
+        Err(SIZES)
+    }
+}
+
+/// The same by what follows the register size, which itself is not judged here.
+pub fn check_by(case: &Case, followers: &Followers) -> Result<(), u8> {
+    if sizes_hold(case, followers) {
         Ok(())
     } else {
         Err(SIZES)
     }
 }
 
-fn sizes_hold(case: &Case) -> bool {
+fn sizes_hold(case: &Case, followers: &Followers) -> bool {
     let registers = case.registers.len() as u64;
+    let variable_holds = |it: &Variable| variable_holds(it, registers, followers.placing);
     // "Register file: multiple of 32, at most 4,096."
-    registers % REGISTER == 0
-        && registers <= 4096
+    is_whole_registers(followers.file, registers)
+        && registers <= followers.largest_file
         // "Kernel and memory: at most 4,096 each."
         && case.kernel.len() <= 4096
         && case.memory.len() <= 4096
@@ -33,7 +42,7 @@ fn sizes_hold(case: &Case) -> bool {
         && case.surfaces.iter().all(|surface| surface.len() <= 1024)
         // "a count from 1 to 32", "a bad count is 13"
         && case.predicates.iter().all(|it| (1..=32).contains(&it.count))
-        && case.variables.iter().all(|variable| variable_holds(variable, registers))
+        && case.variables.iter().all(variable_holds)
         // "or marks differ in length from their buffer"
         && case.register_taint.len() == case.registers.len()
         && case.surface_taint.len() == case.surface_bytes()
@@ -41,8 +50,8 @@ fn sizes_hold(case: &Case) -> bool {
 }
 
 /// "It lies in the file, starts at a multiple of its element size, at a multiple of 32 if it is 32
-/// bytes or longer, and otherwise crosses no 32-byte line."
-fn variable_holds(variable: &Variable, registers: u64) -> bool {
+/// bytes or longer, and otherwise crosses no 32-byte line", `register` in the place of 32.
+fn variable_holds(variable: &Variable, registers: u64, register: u64) -> bool {
     // "(a type not listed too)"
     let size = match element_type::size(variable.type_code) {
         Some(size) => size,
@@ -54,13 +63,5 @@ fn variable_holds(variable: &Variable, registers: u64) -> bool {
     }
     let start = u64::from(variable.start);
     let bytes = size * u64::from(variable.count);
-    let last = start + bytes - 1;
-    if last >= registers || start % size != 0 {
-        return false;
-    }
-    if bytes >= REGISTER {
-        start % REGISTER == 0
-    } else {
-        start / REGISTER == last / REGISTER
-    }
+    start + bytes <= registers && start % size == 0 && is_well_placed(register, start, bytes)
 }

@@ -4,6 +4,7 @@ use reference::bench::bench;
 use reference::case::{Case, Predicate, Variable};
 use reference::case_file::read_case;
 use reference::case_writer::write_case;
+use reference::register_size::RegisterSize;
 
 fn output(input: &str) -> String {
     String::from_utf8(bench(input.as_bytes())).unwrap()
@@ -158,8 +159,8 @@ fn long_lines() {
 fn fourteen_before_thirteen() {
     // One register byte is 13.
     assert_eq!(output("0100\n"), THIRTEEN);
-    assert_eq!(output("0100\n07\n0b\n"), bad_line(3));
-    assert_eq!(output("0100\n\n0b\n"), bad_line(2));
+    assert_eq!(output("0100\n07\n0c\n"), bad_line(3));
+    assert_eq!(output("0100\n\n0c\n"), bad_line(2));
     // A kernel that would be refused, and a bad line after it.
     assert_eq!(
         output("07ff\n"),
@@ -238,6 +239,7 @@ fn refusal_with_buffers() {
 #[test]
 fn written_cases_are_read_back() {
     let case = Case {
+        register_size: RegisterSize(0x30),
         kernel: vec![1, 2, 3],
         registers: (0..64).collect(),
         variables: vec![

@@ -3,6 +3,8 @@
 mod wrong;
 
 use reference::difference::{first_difference, listing};
+use reference::generate::size_mistakes::SizeMistake::{self, SecondTaken, WrongLengthAs13};
+use reference::generate::{Generator, Mode};
 use std::path::{Path, PathBuf};
 use std::process::{Command, Output};
 
@@ -121,6 +123,35 @@ fn wrong_copies_are_caught() {
             // one is not 0, and a wrong end or silence everywhere.
             let everywhere = way == "end" || way == "silent";
             assert_eq!(failed == 60, everywhere, "{way}: {failed}");
+        }
+    }
+}
+
+/// Every mistake of the register size is caught, on exactly the cases where its output is another.
+#[test]
+fn mistakes_of_the_register_size_are_caught() {
+    for (mode, count) in [("near-miss", 1600), ("bad-lines", 150)] {
+        let generator = Generator::new(1, Mode::of_name(mode));
+        let mut shown = vec![0; SizeMistake::ALL.len()];
+        for index in 0..count {
+            for mistake in SizeMistake::shown(&generator.case(index).file) {
+                shown[mistake as usize] += 1;
+            }
+        }
+        for mistake in SizeMistake::ALL {
+            let command = format!("{} --batch", wrong_copy(&format!("{mistake:?}")));
+            let count_text = count.to_string();
+            let arguments = ["--batch", "--mode", mode, "--count", &count_text];
+            let output = compare(&command, &arguments);
+            let failed = shown[mistake as usize];
+            let last = format!("{} passed, {failed} failed", count - failed);
+            assert_eq!(last_line(&output), last, "{mistake:?}, {mode}");
+            assert_eq!(output.status.success(), failed == 0);
+            // Near misses have no bad line.
+            let of_lines = [WrongLengthAs13, SecondTaken].contains(&mistake);
+            if of_lines == (mode == "bad-lines") {
+                assert!(failed > 0, "{mistake:?}, {mode}");
+            }
         }
     }
 }

@@ -6,8 +6,10 @@ use reference::case::Case;
 use reference::case_file::read_case;
 use reference::decode::decode;
 use reference::element;
+use reference::generate::bad_lines::WRONG_SIZE_THEN_BAD_LINE;
 use reference::generate::near_misses::Ways;
 use reference::generate::report::Report;
+use reference::generate::size_reach::Choice;
 use reference::generate::{Generator, Mode};
 use std::collections::BTreeSet;
 
@@ -47,6 +49,58 @@ fn faults_answer_as_intended() {
             }
             assert_eq!(report.unintended, Vec::<String>::new());
         }
+    }
+}
+
+/// A wrong register size is 13, but 14 stands where a line behind it is bad, at that line.
+#[test]
+fn a_bad_line_behind_a_wrong_size() {
+    let generator = Generator::new(9, Some(Mode::BadLines));
+    let mut met = 0;
+    for index in 0..600 {
+        let case = generator.case(index);
+        if !case.name.starts_with(WRONG_SIZE_THEN_BAD_LINE) {
+            continue;
+        }
+        let lines: Vec<&[u8]> = case.file.split(|byte| *byte == 0x0a).collect();
+        let size = lines
+            .iter()
+            .position(|line| line.starts_with(b"0b"))
+            .unwrap();
+        let position = answer(&case.file).position;
+        assert!(position > size + 1);
+        // Without the bad line it is 13.
+        let mut others = lines.clone();
+        others.remove(position - 1);
+        let others = others[..position - 1].join(&0x0a);
+        assert_eq!(answer(&others).number, 13);
+        met += 1;
+    }
+    assert!(met >= 15, "{met}");
+}
+
+/// The generator makes both register sizes in every mode, by itself and with the frame at every place.
+#[test]
+fn both_register_sizes_in_every_mode() {
+    for mode in Mode::ALL {
+        let generator = Generator::new(6, Some(mode));
+        let (mut sizes, mut first, mut last) = (BTreeSet::new(), 0, 0);
+        for index in 0..400 {
+            let file = generator.case(index).file;
+            sizes.insert(Choice::of(&file));
+            let text = file.strip_suffix(b"\n").unwrap_or(&file);
+            let lines: Vec<&[u8]> = text.split(|byte| *byte == 0x0a).collect();
+            let is_size = |line: &&[u8]| *line == b"0b20" || *line == b"0b40";
+            first += u64::from(lines.first().is_some_and(is_size));
+            last += u64::from(lines.last().is_some_and(is_size));
+        }
+        if mode == Mode::BadLines {
+            assert_eq!(sizes, [Choice::NotReadOf64, Choice::NotRead].into());
+        } else {
+            let good = [Choice::Absent, Choice::Of32, Choice::Of64];
+            assert!(good.iter().all(|it| sizes.contains(it)), "{mode:?}");
+        }
+        assert!(first >= 10 && last >= 10, "{mode:?}: {first}, {last}");
     }
 }
 
@@ -235,7 +289,7 @@ fn kernel(case: &Case, seen: &mut BTreeSet<String>) {
                 see("destination overlaps source", same);
             }
             0x78 => {
-                let offset = element::scalar(case, &it.scalar).bits;
+                let offset = element::scalar(case, &it.scalar, case.register_size.bytes()).bits;
                 let length = case.surfaces[usize::from(it.surface)].len() as u64;
                 for lane in 0..lanes {
                     let sum = offset + element::raw(case, &it.element_offset, lane).bits;
@@ -246,7 +300,7 @@ fn kernel(case: &Case, seen: &mut BTreeSet<String>) {
                 }
             }
             0x4e => {
-                let address = element::scalar(case, &it.scalar).bits;
+                let address = element::scalar(case, &it.scalar, case.register_size.bytes()).bits;
                 let mut addresses = BTreeSet::new();
                 for lane in 0..lanes {
                     let offset = element::raw(case, &it.element_offset, lane).bits;

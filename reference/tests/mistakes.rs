@@ -9,6 +9,7 @@ use reference::bench::answer as answer_to;
 use reference::case::Case;
 use reference::case_writer::write_case;
 use reference::generate::mistakes::{Judged, Mistake, Mistake::*};
+use reference::generate::size_mistakes::{SizeMistake, SizeMistake::*};
 use reference::refusal::Detail;
 
 /// The mistakes that show on a case, apart from two that show wherever an operand is named. It has no predicates.
@@ -313,4 +314,88 @@ fn mistakes_of_bad_counts() {
     assert_eq!(none("zz\n03ff00000000"), [] as [Mistake; 0]);
     // Where 13 stands already.
     assert_eq!(none("03ff000000\n0801"), [] as [Mistake; 0]);
+}
+
+/// On zeros with variables, EM ffffffff, 16 bytes of memory, lines before and a kernel of one line of text.
+fn of_sizes(lines: &str, bytes: usize, variables: &[&str], text: &str) -> Vec<SizeMistake> {
+    let kernel = assembled(text.as_bytes()).concat();
+    assert!(!kernel.starts_with('!'), "{text}: {kernel}");
+    let registers = "00".repeat(bytes);
+    let memory = "00".repeat(24);
+    let variables: String = variables.iter().map(|it| format!("02{it}\n")).collect();
+    let file = format!("{lines}01{registers}\n{variables}05{memory}\n06ffffffff\n07{kernel}\n");
+    SizeMistake::shown(file.as_bytes())
+}
+
+#[test]
+fn mistakes_of_the_register_size() {
+    let everywhere = [TurnedRound, NotKnown];
+    let of = |bytes, variables: &[&str], text| {
+        let mut mistakes = of_sizes("0b40\n", bytes, variables, text);
+        mistakes.retain(|it| !everywhere.contains(it));
+        mistakes
+    };
+    let nothing: [SizeMistake; 0] = [];
+    // UD at 0 ×16 and ×48.
+    let shift = "SHL (M1,8) v0(0,0)<1> v0(0,0)<8;8,1> 0x1:uw";
+    assert_eq!(of(64, &["0000001000"], shift), nothing);
+    let variables = ["0000003000"];
+    // Bytes 0 to 115, 36 to 151, row 1, row 2, and row 3 outside.
+    let spread = "SHL (M1,8) v0(0,0)<1> v0(0,0)<0;8,4> 0x1:uw";
+    assert_eq!(of(192, &variables, spread), [TwoRegistersBy32]);
+    let too_far = "SHL (M1,8) v0(0,0)<1> v0(0,9)<0;8,4> 0x1:uw";
+    assert_eq!(of(192, &variables, too_far), nothing);
+    let written = "SHL (M1,8) v0(1,0)<1> 0x1:uw 0x1:uw";
+    assert_eq!(of(192, &variables, written), [RowsOf32]);
+    let outside = "SHL (M1,8) v0(3,0)<1> 0x1:uw 0x1:uw";
+    assert_eq!(of(192, &variables, outside), [RowsOf32]);
+    // RAW_SEND of 32 bytes; a scatter of 16 dwords, and of 24 that are all zeros.
+    let send = "raw_send (M1,1) 0x0 1 0 0x0:ud v0.0 v0.0";
+    assert_eq!(of(64, &["0000000800"], send), [RawSendBy32]);
+    let scatter = "SVM_SCATTER4_SCALED.RG (M1,8) 0x0:uq v0.0 v1.0";
+    let with = |data| of(192, &["0b00000800", data], scatter);
+    assert_eq!(with("0040001000"), [Stride8, Stride8InNeed]);
+    assert_eq!(with("0040001800"), nothing);
+    // 13: a file of 96 bytes, a variable at byte 32, and one that is 13 by 32 alone.
+    assert_eq!(of(96, &[], shift), [FileBy32]);
+    assert_eq!(of(128, &["0020001000"], shift), [PlacingBy32]);
+    assert_eq!(of(64, &["0010000800"], shift), [PlacingBy32]);
+    let long = of(4160, &["0000001000"], shift);
+    assert_eq!(long, [LimitDoubled]);
+    assert_eq!(of(4128, &["0000001000"], shift), nothing);
+}
+
+#[test]
+fn mistakes_of_the_frame() {
+    let variables = ["0010000800"];
+    let shift = "SHL (M1,8) v0(0,0)<1> v0(0,0)<8;8,1> 0x1:uw";
+    // Before the variable, and behind it.
+    assert_eq!(
+        of_sizes("0b40\n", 64, &variables, shift),
+        [PlacingBy32, TurnedRound, NotKnown]
+    );
+    assert_eq!(
+        of_sizes("0220000000\n0b40\n", 64, &variables, shift),
+        [] as [SizeMistake; 0]
+    );
+    assert_eq!(
+        of_sizes("020010000800\n0b40\n", 64, &variables, shift),
+        [PlacingBy32, PlacedWhenRead, TurnedRound, NotKnown]
+    );
+    let of = |file: &str| SizeMistake::shown(file.as_bytes());
+    assert_eq!(of(""), [] as [SizeMistake; 0]);
+    assert_eq!(of("0b20"), [NotKnown]);
+    assert_eq!(of("0b30"), [WrongByteAs14, Size48, OtherAs32, NotKnown]);
+    assert_eq!(of("0b31"), [WrongByteAs14, OtherAs32, NotKnown]);
+    assert_eq!(of("0b30\n0100"), [WrongByteAs14, NotKnown]);
+    assert_eq!(of("0b30\nzz"), [WrongByteAs14, NotKnown]);
+    assert_eq!(of("zz\n0b30"), [] as [SizeMistake; 0]);
+    assert_eq!(of("0b"), [WrongLengthAs13]);
+    assert_eq!(of("0b4000\n0100"), [WrongLengthAs13]);
+    assert_eq!(of("0b4000\nzz"), [WrongLengthAs13]);
+    assert_eq!(of("0b4"), [] as [SizeMistake; 0]);
+    assert_eq!(of("0b40\n0b40"), [SecondTaken, NotKnown]);
+    assert_eq!(of("0b20\n0b40\nzz"), [SecondTaken, NotKnown]);
+    // 96 bytes: good without a frame.
+    assert_eq!(of(&format!("01{}", "00".repeat(96))), [AbsentIs64]);
 }

@@ -1,7 +1,7 @@
 //! The report's rare places: each is seen where a case reaches it and not seen beside it, and the fixed seed
 //! reaches all of them. It names every operand that a number can name, has every pair of faults in one operand, hands
-//! back every channel and lane, has every exec byte in every instruction and predicates about as long as it needs, and shows
-//! every mistake.
+//! back every channel and lane, has every exec byte in every instruction and predicates about as long as it needs, both
+//! register sizes with all their edges, and shows every mistake.
 
 mod common;
 
@@ -17,10 +17,13 @@ use reference::generate::mistakes::Mistake;
 use reference::generate::reach::{completed, reached, Place};
 use reference::generate::region_mistakes::Refused;
 use reference::generate::report::Report;
-use reference::generate::Generator;
+use reference::generate::size_mistakes::SizeMistake;
+use reference::generate::size_reach::{sized_edges, Choice, OTHERS};
+use reference::generate::{Generator, Mode};
 use reference::instruction::Instruction;
 use reference::refusal::Detail;
 use reference::region::RULES;
+use reference::register_size::RegisterSize;
 use reference::run::Answer;
 use std::collections::BTreeSet;
 
@@ -67,22 +70,22 @@ fn rows() {
         (offset(127), offset(128), offset(255)),
     ] {
         let accepted = places(&mut case.clone(), &[last.clone()]);
-        assert_eq!(accepted, [Place::Row127Completed]);
+        assert_eq!(accepted, [Place::LastRowOf32Completed]);
         for over in [next, far] {
             assert_eq!(
                 places(&mut case.clone(), &[over.clone()]),
-                [Place::RowOver127Outside]
+                [Place::RowBehindLastOutside]
             );
             assert_eq!(
                 places(&mut case.clone(), &[last.clone(), over]),
-                [Place::Row127Completed, Place::RowOver127Outside]
+                [Place::LastRowOf32Completed, Place::RowBehindLastOutside]
             );
         }
     }
     // Refused by an earlier test, here 8: M8 and size 8.
     let over_32 = shl(0x73, 0, &dst, &of_row(128), &good);
     let found = places(&mut case.clone(), &[over_32.clone()]);
-    assert_eq!(found, [Place::RowOver127RefusedBefore]);
+    assert_eq!(found, [Place::RowBehindLastRefusedBefore]);
     // Not decoded, not reached, or row 127 in an instruction that is refused.
     case.kernel = source(128).bytes();
     case.kernel.pop();
@@ -93,6 +96,13 @@ fn rows() {
         places(&mut case, &[shl(0x73, 0, &dst, &of_row(127), &good)]),
         []
     );
+    // Of 64 bytes the last row is 63.
+    case.register_size = RegisterSize::OF_64;
+    let of_64 = |row| places(&mut case.clone(), &[source(row)]);
+    assert_eq!(of_64(62), []);
+    assert_eq!(of_64(63), [Place::LastRowOf64Completed]);
+    assert_eq!(of_64(64), [Place::RowBehindLastOutside]);
+    assert_eq!(of_64(127), [Place::RowBehindLastOutside]);
 }
 
 #[test]
@@ -270,7 +280,7 @@ impl Seen {
     }
 }
 
-/// Each place in one case of a hundred; row 127 in several.
+/// Each place in one case of a hundred; the last row in several.
 #[test]
 fn the_fixed_seed_reaches_the_rare_places() {
     let generator = Generator::new(1, None);
@@ -359,7 +369,7 @@ fn the_fixed_seed_reaches_the_rare_places() {
     }
 
     for place in [
-        Place::RowOver127Outside,
+        Place::RowBehindLastOutside,
         Place::LineOver255,
         Place::UnalignedBeforeTainted,
         Place::LastByteOfLargestKernel,
@@ -367,8 +377,38 @@ fn the_fixed_seed_reaches_the_rare_places() {
         let count = report.count_of(place);
         assert!(count >= 200, "{}: {count}", place.name());
     }
-    for place in [Place::RowOver127RefusedBefore, Place::Row127Completed] {
+    for place in [
+        Place::RowBehindLastRefusedBefore,
+        Place::LastRowOf32Completed,
+        Place::LastRowOf64Completed,
+    ] {
         let count = report.count_of(place);
-        assert!(count >= 20, "{}: {count}", place.name());
+        assert!(count >= 10, "{}: {count}", place.name());
+    }
+
+    // Both register sizes in every mode that has good lines, 32 with a frame and without; other sizes and every edge.
+    for mode in Mode::ALL {
+        let sized = Choice::ALL.map(|choice| report.sized(mode, choice));
+        let all: u64 = sized.iter().sum();
+        let [absent, of_32, of_64, _, not_read_of_64, not_read] = sized;
+        if mode == Mode::BadLines {
+            assert_eq!(all, not_read_of_64 + not_read);
+            assert!(not_read_of_64 >= all / 4);
+            continue;
+        }
+        assert!(absent >= all / 10 && of_32 >= all / 10, "{mode:?}");
+        assert!(of_64 >= all / 4, "{mode:?}");
+    }
+    for (_, names) in sized_edges() {
+        for edge in names {
+            assert!(report.with_edge(&edge) >= 5, "{edge}");
+        }
+    }
+    for edge in OTHERS {
+        assert!(report.with_edge(edge) >= 20, "{edge}");
+    }
+    for mistake in SizeMistake::ALL {
+        let count = report.shown_by_size(mistake);
+        assert!(count >= 5, "{}: {count}", mistake.name());
     }
 }

@@ -44,9 +44,24 @@ pub fn mask_end(exec: u8) -> u64 {
     4 * u64::from((exec >> 4) & 7) + (1 << (exec & 7))
 }
 
-/// Row and column of an element number; "row and column are simply added up".
-pub fn row_and_column(random: &mut Random, variable: &Variable, element: u64) -> (u8, u8) {
-    let in_a_row = 32 / size_of(variable);
+/// The dwords that a scatter of so many channels needs, by the size of a register.
+pub fn scatter_dwords(register: u64, exec_size: u64, channels: u32) -> u64 {
+    let apart = match exec_size * 4 < register {
+        true => register / 4,
+        false => exec_size,
+    };
+    // None, or more than four, where another fault has spoilt the channels.
+    u64::from(channels.saturating_sub(1)) * apart + exec_size
+}
+
+/// Row and column of an element number; "row and column are simply added up". A row has a register's bytes.
+pub fn row_and_column(
+    random: &mut Random,
+    register: u64,
+    variable: &Variable,
+    element: u64,
+) -> (u8, u8) {
+    let in_a_row = register / size_of(variable);
     let row = (element / in_a_row).min(255);
     // Sometimes some rows less, as long as the column holds them.
     let spare = (255 - (element - row * in_a_row)) / in_a_row;
@@ -60,11 +75,11 @@ pub fn row_and_column(random: &mut Random, variable: &Variable, element: u64) ->
 }
 
 /// Whether elements `first` to `last` of a variable touch at most two registers.
-pub fn two_registers(variable: &Variable, first: u64, last: u64) -> bool {
+pub fn two_registers(register: u64, variable: &Variable, first: u64, last: u64) -> bool {
     let size = size_of(variable);
     let low = u64::from(variable.start) + first * size;
     let high = u64::from(variable.start) + last * size + size - 1;
-    high / 32 - low / 32 <= 1
+    high / register - low / register <= 1
 }
 
 /// A predicate word that names a predicate: bit by bit, any or all, inverse or not. The word 0 names none.
@@ -79,6 +94,11 @@ pub fn naming(random: &mut Random, id: u16) -> u16 {
 }
 
 impl Scene {
+    /// The bytes of a register.
+    pub fn register(&self) -> u64 {
+        self.case.register_size.bytes()
+    }
+
     pub fn variable(&self, index: u16) -> Variable {
         self.case.variables[usize::from(index)]
     }
@@ -133,16 +153,16 @@ impl Scene {
                 continue;
             }
             let first = random.edge(u64::from(variable.count) - 1 - span);
-            if !two_registers(&variable, first, first + span) {
+            if !two_registers(self.register(), &variable, first, first + span) {
                 continue;
             }
-            let (row, column) = row_and_column(random, &variable, first);
+            let (row, column) = row_and_column(random, self.register(), &variable, first);
             let region = source_region(vertical as u16, width as u16, horizontal as u16);
             return general(index, row, column, region);
         }
         let index = random.pick(&fitting);
         let element = random.edge(u64::from(self.variable(index).count) - 1);
-        let (row, column) = row_and_column(random, &self.variable(index), element);
+        let (row, column) = row_and_column(random, self.register(), &self.variable(index), element);
         general(index, row, column, SCALAR_REGION)
     }
 
@@ -176,10 +196,10 @@ impl Scene {
                 continue;
             }
             let first = random.edge(u64::from(variable.count) - 1 - span);
-            if !two_registers(&variable, first, first + span) {
+            if !two_registers(self.register(), &variable, first, first + span) {
                 continue;
             }
-            let (row, column) = row_and_column(random, &variable, first);
+            let (row, column) = row_and_column(random, self.register(), &variable, first);
             let region = destination_region(horizontal as u16);
             return Some(general(index, row, column, region));
         }
@@ -211,7 +231,7 @@ impl Scene {
         let fitting = self.variables(|v| v.type_code == type_code);
         let index = random.pick(&fitting);
         let element = random.edge(u64::from(self.variable(index).count) - 1);
-        let (row, column) = row_and_column(random, &self.variable(index), element);
+        let (row, column) = row_and_column(random, self.register(), &self.variable(index), element);
         general(index, row, column, SCALAR_REGION)
     }
 
@@ -296,7 +316,7 @@ impl Scene {
         let mut code = 3 + random.below(2) as u8;
         let mut channels = random.range(1, (2 << guarded.top_channel) - 1) as u8;
         let src = loop {
-            let dwords = u64::from(channels.count_ones()) << code;
+            let dwords = scatter_dwords(self.register(), 1 << code, channels.count_ones());
             if let Some(src) = self.raw_of(random, &DWORDS, 4 * dwords, false) {
                 break src;
             }
@@ -338,9 +358,10 @@ impl Scene {
         Some(shl(
             exec,
             self.pred(random, exec),
+            // From lane 0 or from lane 8, whose offset is at byte 64.
             &general(
                 guarded.halves,
-                random.pick(&[0, 2]),
+                random.pick(&[0, 64 / self.register() as u8]),
                 0,
                 destination_region(2),
             ),
@@ -356,11 +377,12 @@ impl Scene {
 
     /// A RAW_SEND that is good but for being one.
     pub fn send(&self, random: &mut Random) -> Option<Draft> {
-        let num_src = random.range(1, (self.work / 32).min(15));
-        let num_dst = random.range(0, (self.work / 32).min(16));
+        let register = self.register();
+        let num_src = random.range(1, (self.work / register).min(15));
+        let num_dst = random.range(0, (self.work / register).min(16));
         let all = [0, 1, 2, 3, 4, 5, 7, 11];
-        let src = self.raw_of(random, &all, 32 * num_src, false)?;
-        let dst = self.raw_of(random, &all, 32 * num_dst, false)?;
+        let src = self.raw_of(random, &all, register * num_src, false)?;
+        let dst = self.raw_of(random, &all, register * num_dst, false)?;
         let desc = if random.chance(50) {
             self.general_scalar(random, 0)
         } else {

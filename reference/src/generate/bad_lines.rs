@@ -3,11 +3,19 @@
 use super::lines::lines_of;
 use super::near_misses::{base_scene, prefix};
 use super::random::Random;
+use super::register_sizes::OTHER_SIZES;
 use super::{Generated, Mode};
 use crate::refusal::Detail;
 
 /// How many ways `bad_line` knows.
-pub const BAD_LINE_WAYS: u64 = 24;
+pub const BAD_LINE_WAYS: u64 = 30;
+
+/// Names of the ways that concern the register size.
+pub const SIZE_OF_NO_BYTE: &str = "register size without a byte";
+pub const SIZE_OF_TWO_BYTES: &str = "register size of two bytes";
+pub const SAME_SIZE_TWICE: &str = "register size twice, the same";
+pub const OTHER_SIZE_TWICE: &str = "register size twice, another";
+pub const WRONG_SIZE_THEN_BAD_LINE: &str = "a wrong register size, then a bad line";
 
 pub struct BadFile {
     pub name: &'static str,
@@ -122,15 +130,15 @@ pub fn bad_line(random: &mut Random, mut lines: Vec<Vec<u8>>, way: u64) -> BadFi
             "a single digit"
         }
         13 => {
-            let kind = random.pick(&[0x00, 0x0b, 0x0c, 0x0f, 0x10, 0x11, 0x20, 0x40, 0x81, 0xff]);
+            let kind = random.pick(&[0x00, 0x0c, 0x0d, 0x0f, 0x10, 0x11, 0x20, 0x40, 0x81, 0xff]);
             let bytes = random.below(9);
             lines.insert(place, frame(random, kind, bytes));
             "kind not listed"
         }
         14 => {
-            let kind = random.range(0x0b, 0xff) as u8;
+            let kind = random.range(0x0c, 0xff) as u8;
             lines.insert(place, frame(random, kind, 4));
-            "kind over 0a"
+            "kind over 0b"
         }
         15 => {
             let kind = random.pick(&[0x01, 0x05, 0x07, 0x08, 0x09, 0x0a]);
@@ -188,6 +196,46 @@ pub fn bad_line(random: &mut Random, mut lines: Vec<Vec<u8>>, way: u64) -> BadFi
             lines.insert(place, line);
             "line over 16,386 characters"
         }
+        23 => {
+            let place = without_size(random, &mut lines);
+            lines.insert(place, Vec::from(b"0b"));
+            SIZE_OF_NO_BYTE
+        }
+        24 => {
+            let place = without_size(random, &mut lines);
+            let two = random.pick(&[b"0b2000", b"0b4000", b"0b4040", b"0b0040", b"0b2040"]);
+            lines.insert(place, Vec::from(two));
+            SIZE_OF_TWO_BYTES
+        }
+        25 => {
+            let place = without_size(random, &mut lines);
+            let bytes = random.pick(&[3, 4, 8, 32, 64]);
+            lines.insert(place, frame(random, 0x0b, bytes));
+            "register size of more bytes"
+        }
+        26 => {
+            size_twice(random, &mut lines, |random| {
+                let size = random.pick(&[0x20, 0x40]);
+                [size, size]
+            });
+            SAME_SIZE_TWICE
+        }
+        27 => {
+            size_twice(random, &mut lines, |random| {
+                random.pick(&[[0x20, 0x40], [0x40, 0x20], [0x30, 0x40], [0x40, 0x30]])
+            });
+            OTHER_SIZE_TWICE
+        }
+        28 => {
+            // The wrong size alone would be 13; the bad line stands behind it.
+            let place = without_size(random, &mut lines);
+            let size = random.pick(&OTHER_SIZES);
+            lines.insert(place, crate::case_writer::line(0x0b, &[&[size]]));
+            let behind = random.range(place as u64 + 1, lines.len() as u64) as usize;
+            let bad = random.pick(&["zz", "0", "", "0b", "0c01", "0b40", "0300", "0B40"]);
+            lines.insert(behind, Vec::from(bad));
+            WRONG_SIZE_THEN_BAD_LINE
+        }
         _ => {
             let mut line = Vec::from(random.pick(&[b"02", b"03", b"06", b"ff", b"0b"]));
             line.extend(vec![b'0'; 17000]);
@@ -201,6 +249,25 @@ pub fn bad_line(random: &mut Random, mut lines: Vec<Vec<u8>>, way: u64) -> BadFi
         file.extend(&end);
     }
     BadFile { name, file }
+}
+
+/// Take the register size's line away and choose a place for another.
+fn without_size(random: &mut Random, lines: &mut Vec<Vec<u8>>) -> usize {
+    lines.retain(|line| !line.starts_with(b"0b"));
+    random.edge(lines.len() as u64) as usize
+}
+
+/// Two lines of the register size, the second one anywhere behind the first.
+fn size_twice(
+    random: &mut Random,
+    lines: &mut Vec<Vec<u8>>,
+    sizes: impl Fn(&mut Random) -> [u8; 2],
+) {
+    let first = without_size(random, lines);
+    let [one, other] = sizes(random).map(|size| crate::case_writer::line(0x0b, &[&[size]]));
+    lines.insert(first, one);
+    let second = random.range(first as u64 + 1, lines.len() as u64) as usize;
+    lines.insert(second, other);
 }
 
 /// Put one of some characters in the place of a digit.

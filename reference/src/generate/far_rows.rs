@@ -1,7 +1,7 @@
 //! Operands in the last row that a variable can have, and in the first that none can.
 //!
-//! Row R starts at byte 32·R of its variable, for every element size, and the largest register file has
-//! 4,096 bytes: row 127 may be good, row 128 and every later one is outside.
+//! Row R starts at byte R times a register's bytes of its variable, for every element size, and the largest register file
+//! has 4,096 bytes: row 127 may be good, or row 63 of 64 bytes, and every later one is outside.
 
 use super::accepted::{exec, Kind};
 use super::limits::{byte_destination, one, with};
@@ -20,9 +20,12 @@ pub enum FarOperand {
     Address,
 }
 
-/// An operand in a row of a variable that is all of the largest register file. In row 127 it is good.
-pub fn in_row(random: &mut Random, row: u8, operand: FarOperand) -> Scene {
+/// An operand in the last row of a variable that is all of the largest register file, where it is good, or in so many rows
+/// behind.
+pub fn in_last_row(random: &mut Random, behind: u8, operand: FarOperand) -> Scene {
     let mut scene = base_scene(random);
+    let register = scene.register() as u16;
+    let row = (4096 / register) as u8 - 1 + behind;
     let work = scene.work as usize;
     scene.case.registers.resize(4096, 0x5a);
     scene.case.register_taint = taint(random, 4096);
@@ -35,10 +38,10 @@ pub fn in_row(random: &mut Random, row: u8, operand: FarOperand) -> Scene {
     let all_of_it = variable(type_code, 0, 4096 / size);
     scene.case.variables.push(all_of_it);
     let index = scene.case.variables.len() as u16 - 1;
-    let in_a_row = 32 / size;
+    let in_a_row = register / size;
     let draft = match operand {
         FarOperand::Destination | FarOperand::Source => {
-            let code = random.below(u64::from(in_a_row.ilog2()) + 1) as u8;
+            let code = random.below(u64::from(in_a_row.ilog2()).min(5) + 1) as u8;
             let lanes = 1u16 << code;
             let column = random.edge(u64::from(in_a_row - lanes)) as u8;
             let exec = exec(random, code);
@@ -65,7 +68,8 @@ pub fn in_row(random: &mut Random, row: u8, operand: FarOperand) -> Scene {
     };
     if let FarOperand::Address = operand {
         let address = scene.guarded.unwrap().address.to_le_bytes();
-        scene.case.registers[127 * 32..].copy_from_slice(&address.repeat(4));
+        let register = usize::from(register);
+        scene.case.registers[4096 - register..].copy_from_slice(&address.repeat(register / 8));
     }
     with(random, scene, &draft)
 }

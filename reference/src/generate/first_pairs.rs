@@ -1,7 +1,7 @@
 //! Scatters with offending channel-and-lane pairs, one or several, and which of them is the first: "c outer, i inner", 11
 //! over all before 12.
 
-use super::accepted::Kind;
+use super::accepted::{scatter_dwords, Kind};
 use super::address_faults::address_of;
 use super::near_misses::{base_instruction, base_scene, prefix, suffix};
 use super::random::Random;
@@ -173,10 +173,10 @@ fn choose_channels(random: &mut Random, scene: &Scene, draft: &mut Draft) -> Vec
     let dwords = scene.variables(|v| v.type_code == 0 && v.start == 0 && v.count == whole);
     draft.set_operand(2, &raw(dwords[0], 0));
     let exec_code = draft.get(Slot::Exec).unwrap()[0] & 7;
-    let at_most = scene.work / 4 >> exec_code;
+    let exec_size = 1 << exec_code;
     let channels = loop {
         let any = random.range(1, 15) as u8;
-        if u64::from(any.count_ones()) <= at_most {
+        if scatter_dwords(scene.register(), exec_size, any.count_ones()) <= scene.work / 4 {
             break any;
         }
     };

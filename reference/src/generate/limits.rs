@@ -1,7 +1,7 @@
 //! Cases exactly at a limit: the last value that is still good, or what only looks wrong.
 
-use super::accepted::Kind;
-use super::far_rows::{in_row, FarOperand};
+use super::accepted::{scatter_dwords, Kind};
+use super::far_rows::{in_last_row, FarOperand};
 use super::fault::Form;
 use super::near_misses::{base_instruction, base_scene, give_form, prefix};
 use super::random::Random;
@@ -53,6 +53,42 @@ fn plain_scatter(scene: &Scene) -> Draft {
         &raw(guarded.offsets, 0),
         &raw(dwords[0], 0),
     )
+}
+
+/// A scatter whose data lack so many dwords. All lanes are off: the data are asked for all the same.
+fn scatter_with_data(
+    random: &mut Random,
+    type_code: u8,
+    (exec, channels): (u8, u8),
+    lacking: u16,
+) -> Scene {
+    let mut scene = base_scene(random);
+    let exec_size = 1 << (exec & 7);
+    let dwords = scatter_dwords(scene.register(), exec_size, channels.count_ones()) as u16;
+    let it = variable(type_code, 0, dwords - lacking);
+    scene.case.variables.push(it);
+    let index = scene.case.variables.len() as u16 - 1;
+    let mut draft = plain_scatter(&scene);
+    draft.set(Slot::Exec, &[exec]);
+    draft.set(Slot::Channels, &[channels]);
+    draft.set_operand(2, &raw(index, 0));
+    scene.case.execution_mask = 0;
+    with(random, scene, &draft)
+}
+
+/// A variable of dwords that is the first four registers.
+fn four_registers(scene: &mut Scene) -> u16 {
+    let dwords = scene.register() as u16;
+    scene.case.variables.push(variable(0, 0, dwords));
+    scene.case.variables.len() as u16 - 1
+}
+
+/// An exec byte with as many lanes as two registers have dwords: 16 or 32.
+fn two_registers_of_lanes(scene: &Scene) -> u8 {
+    match scene.register() {
+        32 => 0x84,
+        _ => 0x85,
+    }
 }
 
 fn set_offset(scene: &mut Scene, lane: usize, value: u64) {
@@ -167,7 +203,8 @@ pub fn limits() -> Vec<Limit> {
         }),
         ("last element of a destination", 0, |r| {
             let mut scene = base_scene(r);
-            scene.case.variables.push(variable(2, 32, 24));
+            let second = scene.register() as u16;
+            scene.case.variables.push(variable(2, second, 24));
             let index = scene.case.variables.len() as u16 - 1;
             // Element 23 is the last: 16 + 7, or 9 + 7·2.
             let (column, stride) = r.pick(&[(16, 1), (9, 2)]);
@@ -177,11 +214,12 @@ pub fn limits() -> Vec<Limit> {
         }),
         ("last element of a source", 0, |r| {
             let mut scene = base_scene(r);
-            scene.case.variables.push(variable(3, 32, 24));
+            let register = scene.register() as u16;
+            let it = variable(3, register, register / 2 + 8);
+            scene.case.variables.push(it);
             let index = scene.case.variables.len() as u16 - 1;
             let dst = byte_destination(&mut scene);
-            // Row 1 starts at element 16, and 23 is the last: eight from 16, two rows of two from 20, or 23
-            // for all lanes.
+            // Row 1 has eight elements: eight from its first, two rows of two from its fifth, or the last for all lanes.
             let (exec, column, region) = r.pick(&[
                 (0x83, 0, source_region(16, 8, 1)),
                 (0x82, 4, source_region(2, 2, 1)),
@@ -192,11 +230,10 @@ pub fn limits() -> Vec<Limit> {
         }),
         ("exactly two registers", 0, |r| {
             let mut scene = base_scene(r);
-            scene.case.variables.push(variable(0, 0, 32));
-            let index = scene.case.variables.len() as u16 - 1;
+            let index = four_registers(&mut scene);
             let dst = general(index, 1, 0, destination_region(1));
             let src = general(index, 1, 0, source_region(8, 8, 1));
-            let draft = shl(0x84, 0, &dst, &src, &one());
+            let draft = shl(two_registers_of_lanes(&scene), 0, &dst, &src, &one());
             with(r, scene, &draft)
         }),
         (
@@ -204,53 +241,57 @@ pub fn limits() -> Vec<Limit> {
             7,
             |r| {
                 let mut scene = base_scene(r);
-                scene.case.variables.push(variable(0, 0, 32));
-                let index = scene.case.variables.len() as u16 - 1;
+                let index = four_registers(&mut scene);
                 let bad = general(index, 0, 1, source_region(8, 8, 1));
                 let good = general(index, 0, 0, source_region(8, 8, 1));
                 let dst_column = r.below(2) as u8;
                 let dst = general(index, 1, dst_column, destination_region(1));
                 let src = if dst_column == 0 { &bad } else { &good };
-                let draft = shl(0x84, 0, &dst, src, &one());
+                let draft = shl(two_registers_of_lanes(&scene), 0, &dst, src, &one());
                 with(r, scene, &draft)
             },
         ),
-        ("destination in row 127", 0, |r| {
-            in_row(r, 127, FarOperand::Destination)
+        ("destination in the last row", 0, |r| {
+            in_last_row(r, 0, FarOperand::Destination)
         }),
-        ("destination in row 128", 7, |r| {
-            in_row(r, 128, FarOperand::Destination)
+        ("destination behind the last row", 7, |r| {
+            in_last_row(r, 1, FarOperand::Destination)
         }),
-        ("source in row 127", 0, |r| {
-            in_row(r, 127, FarOperand::Source)
+        ("source in the last row", 0, |r| {
+            in_last_row(r, 0, FarOperand::Source)
         }),
-        ("source in row 128", 7, |r| {
-            in_row(r, 128, FarOperand::Source)
+        ("source behind the last row", 7, |r| {
+            in_last_row(r, 1, FarOperand::Source)
         }),
-        ("gather's offset in row 127", 0, |r| {
-            in_row(r, 127, FarOperand::Offset)
+        ("gather's offset in the last row", 0, |r| {
+            in_last_row(r, 0, FarOperand::Offset)
         }),
-        ("gather's offset in row 128", 7, |r| {
-            in_row(r, 128, FarOperand::Offset)
+        ("gather's offset behind the last row", 7, |r| {
+            in_last_row(r, 1, FarOperand::Offset)
         }),
-        ("scatter's address in row 127", 0, |r| {
-            in_row(r, 127, FarOperand::Address)
+        ("scatter's address in the last row", 0, |r| {
+            in_last_row(r, 0, FarOperand::Address)
         }),
-        ("scatter's address in row 128", 7, |r| {
-            in_row(r, 128, FarOperand::Address)
+        ("scatter's address behind the last row", 7, |r| {
+            in_last_row(r, 1, FarOperand::Address)
         }),
         ("three registers, the middle one touched or not", 7, |r| {
             let mut scene = base_scene(r);
             let dst = byte_destination(&mut scene);
-            scene.case.variables.push(variable(2, 0, 64));
-            scene.case.variables.push(variable(4, 0, 128));
-            let bytes = scene.case.variables.len() as u16 - 1;
-            let words = bytes - 1;
+            // Four registers: in words and bytes, or of 64 bytes in dwords and words.
+            let (wide, narrow) = match scene.register() {
+                32 => (2, 4),
+                _ => (0, 2),
+            };
+            scene.case.variables.push(variable(wide, 0, 64));
+            scene.case.variables.push(variable(narrow, 0, 128));
+            let narrow = scene.case.variables.len() as u16 - 1;
+            let wide = narrow - 1;
             let src = match r.below(2) {
-                // Elements 0, 1, 32, 33: bytes 0-3 and 64-67.
-                0 => general(words, 0, 0, source_region(32, 2, 1)),
-                // Bytes 31, 47, 63, 79.
-                _ => general(bytes, 0, 31, source_region(16, 1, 0)),
+                // Elements 0, 1, 32, 33: in the first and in the third register.
+                0 => general(wide, 0, 0, source_region(32, 2, 1)),
+                // Elements 31, 47, 63, 79: in all three.
+                _ => general(narrow, 0, 31, source_region(16, 1, 0)),
             };
             let draft = shl(0x82, 0, &dst, &src, &one());
             with(r, scene, &draft)
@@ -266,35 +307,24 @@ pub fn limits() -> Vec<Limit> {
             with(r, scene, &draft)
         }),
         ("scatter data exactly enough", 0, |r| {
-            let mut scene = base_scene(r);
-            scene.case.variables.push(variable(7, 0, 32));
-            let index = scene.case.variables.len() as u16 - 1;
-            let mut draft = plain_scatter(&scene);
-            let (exec, channels) = r.pick(&[(0x03, 15), (0x04, 3), (0x04, 9), (0x04, 12)]);
-            draft.set(Slot::Exec, &[exec]);
-            draft.set(Slot::Channels, &[channels]);
-            draft.set_operand(2, &raw(index, 0));
-            // All lanes off: the data are asked for all the same.
-            scene.case.execution_mask = 0;
-            with(r, scene, &draft)
+            let channels = r.pick(&[(0x03, 15), (0x04, 3), (0x04, 9), (0x04, 12)]);
+            scatter_with_data(r, 7, channels, 0)
         }),
         ("scatter data one dword short, lanes off", 7, |r| {
-            let mut scene = base_scene(r);
-            scene.case.variables.push(variable(1, 0, 31));
-            let index = scene.case.variables.len() as u16 - 1;
-            let mut draft = plain_scatter(&scene);
-            let (exec, channels) = r.pick(&[(0x03, 15), (0x04, 3), (0x04, 10), (0x04, 12)]);
-            draft.set(Slot::Exec, &[exec]);
-            draft.set(Slot::Channels, &[channels]);
-            draft.set_operand(2, &raw(index, 0));
-            scene.case.execution_mask = 0;
-            with(r, scene, &draft)
+            let channels = r.pick(&[(0x03, 15), (0x04, 3), (0x04, 10), (0x04, 12)]);
+            scatter_with_data(r, 1, channels, 1)
         }),
         ("RAW_SEND of 15 and 16 registers", 9, |r| {
-            let mut scene = scene(r, Size::Large, true);
+            let mut scene = loop {
+                let scene = scene(r, Size::Large, true);
+                if scene.work >= 16 * scene.register() {
+                    break scene;
+                }
+            };
             scene.case.variables.truncate(255);
             let type_code = r.pick(&[0, 1, 7]);
-            scene.case.variables.push(variable(type_code, 0, 128));
+            let dwords = 4 * scene.register() as u16;
+            scene.case.variables.push(variable(type_code, 0, dwords));
             let index = scene.case.variables.len() as u16 - 1;
             let src = raw(index, r.pick(&[0, 4, 32]));
             let draft = raw_send(0x85, 0, 15, 16, &one(), &src, &raw(index, 0));
@@ -303,7 +333,8 @@ pub fn limits() -> Vec<Limit> {
         }),
         ("RAW_SEND of one register too many", 7, |r| {
             let mut scene = base_scene(r);
-            scene.case.variables.push(variable(4, 0, 128));
+            let bytes = 4 * scene.register() as u16;
+            scene.case.variables.push(variable(4, 0, bytes));
             let index = scene.case.variables.len() as u16 - 1;
             let (num_src, num_dst) = r.pick(&[(5, 4), (4, 5), (15, 1), (1, 16)]);
             let it = raw(index, 0);

@@ -2,10 +2,11 @@
 
 use super::random::Random;
 use crate::case::Case;
-use crate::case_writer::case_lines;
+use crate::case_writer::{case_lines, register_size_line};
+use crate::register_size::RegisterSize;
 
-/// The case's lines: taint frames of zeros and empty frames may be absent, and so may a predicate's count of 32; frames may
-/// come in any order as long as those that repeat keep theirs.
+/// The case's lines: taint frames of zeros and empty frames may be absent, and so may a predicate's count of 32 and a
+/// register size of 32; frames may come in any order as long as those that repeat keep theirs.
 pub fn lines_of(random: &mut Random, case: &Case) -> Vec<Vec<u8>> {
     let mut lines = case_lines(case);
     for line in &mut lines {
@@ -24,6 +25,8 @@ pub fn lines_of(random: &mut Random, case: &Case) -> Vec<Vec<u8>> {
             b"01" | b"07" => line.len() == 2,
             b"05" => case.base == 0 && case.memory.is_empty(),
             b"06" => all_zero,
+            // Put in below.
+            b"0b" => return false,
             _ => false,
         };
         !(may_be_absent && random.chance(70))
@@ -39,6 +42,11 @@ pub fn lines_of(random: &mut Random, case: &Case) -> Vec<Vec<u8>> {
                 lines.insert(to, line);
             }
         }
+    }
+    // "absent means 32"
+    if case.register_size != RegisterSize::OF_32 || random.chance(50) {
+        let place = random.edge(lines.len() as u64) as usize;
+        lines.insert(place, register_size_line(case));
     }
     lines
 }

@@ -10,11 +10,13 @@ use super::lines::{file_of, lines_of};
 use super::predicate_counts::{self, one_count};
 use super::random::Random;
 use super::region_words::{self, one_field};
-use super::scene::{scene, Scene, Size};
+use super::register_sizes::{self, one_edge};
+use super::scene::{scene_of, Scene, Size};
 use super::table_faults::{table_faults, TableFault};
 use super::{Generated, Mode};
 use crate::assemble::{general, immediate, immediate_uq, Draft, Part, Slot, SCALAR_REGION};
 use crate::refusal::Detail;
+use crate::register_size::RegisterSize;
 
 pub const KINDS: [Kind; 4] = [Kind::Shl, Kind::Gather, Kind::Scatter, Kind::Send];
 
@@ -48,6 +50,7 @@ impl Ways {
     pub fn count(&self) -> usize {
         let faults: usize = self.faults.iter().map(Vec::len).sum();
         let others = CUTS + LAST_BYTES + ONE_LANE + region_words::WAYS + predicate_counts::WAYS;
+        let others = others + register_sizes::WAYS;
         faults + others + self.tables.len() + self.limits.len()
     }
 
@@ -85,6 +88,11 @@ impl Ways {
             return near(random, &scene, &name, number, Some(detail));
         }
         way -= predicate_counts::WAYS;
+        if way < register_sizes::WAYS {
+            let (scene, name, number, detail) = one_edge(random, way);
+            return near(random, &scene, &name, number, Some(detail));
+        }
+        way -= register_sizes::WAYS;
         if way < self.tables.len() {
             let fault = &self.tables[way];
             let mut scene = base_scene(random);
@@ -120,8 +128,14 @@ fn near(
 
 /// A scene on which each of the four instructions can be good.
 pub fn base_scene(random: &mut Random) -> Scene {
+    let register_size = random.pick(&[RegisterSize::OF_32, RegisterSize::OF_64]);
+    base_scene_of(random, register_size)
+}
+
+/// The same with registers of a size.
+pub fn base_scene_of(random: &mut Random, register_size: RegisterSize) -> Scene {
     loop {
-        let scene = scene(random, Size::Usual, true);
+        let scene = scene_of(random, register_size, Size::Usual, true);
         if scene.guarded.is_some() && !scene.case.surfaces.is_empty() {
             return scene;
         }

@@ -1,6 +1,6 @@
 //! Faults of one operand: its tag, type and region while decoding, and the run's 5, 4, 20 to 25 and 7.
 
-use super::accepted::{row_and_column, size_of, Kind};
+use super::accepted::{row_and_column, scatter_dwords, size_of, Kind};
 use super::fault::*;
 use super::random::Random;
 use super::scene::Scene;
@@ -133,7 +133,7 @@ pub fn raw_operand(
         let variable = scene.variable(word_of(draft.get(index_slot).unwrap()));
         let size = size_of(&variable);
         let end = size * u64::from(variable.count);
-        let needed = bytes_needed(kind, operand, draft);
+        let needed = bytes_needed(scene, kind, operand, draft);
         // The lowest multiple of the element size that leaves too little room.
         let offset = if needed > end {
             0
@@ -153,14 +153,16 @@ pub fn raw_operand(
 }
 
 /// The bytes that a raw operand of a good instruction needs.
-fn bytes_needed(kind: Kind, operand: usize, draft: &Draft) -> u64 {
+fn bytes_needed(scene: &Scene, kind: Kind, operand: usize, draft: &Draft) -> u64 {
     let byte = |slot| u64::from(draft.get(slot).map_or(0, |bytes| bytes[0]));
     let exec_size = 1u64 << (byte(Slot::Exec) & 7);
+    let register = scene.register();
+    let channels = (byte(Slot::Channels) as u8).count_ones();
     match (kind, operand) {
         (Kind::Scatter, 1) => 8 * exec_size,
-        (Kind::Scatter, _) => 4 * exec_size * u64::from((byte(Slot::Channels) as u8).count_ones()),
-        (Kind::Send, 1) => 32 * byte(Slot::NumSrc),
-        (Kind::Send, _) => 32 * byte(Slot::NumDst),
+        (Kind::Scatter, _) => 4 * scatter_dwords(register, exec_size, channels),
+        (Kind::Send, 1) => register * byte(Slot::NumSrc),
+        (Kind::Send, _) => register * byte(Slot::NumDst),
         _ => 4 * exec_size,
     }
 }
@@ -387,15 +389,19 @@ fn outside(
             .map(|part| Touch::Slot(at(*part)))
             .collect::<Vec<_>>()
     };
-    // Row 128 starts at byte 4,096 of its variable, and no variable is longer.
-    for (what, least) in [("row 255", 255), ("row over 127", 128)] {
+    // Row 128, or row 64 of 64 bytes, starts at byte 4,096 of its variable, and no variable is longer.
+    for what in ["row 255", "row behind the last one that can be"] {
         faults.run(
             &format!("{name} {what}"),
             7,
             rank,
             general,
             touch(&[Part::Row]),
-            move |_, _, draft| {
+            move |_, scene, draft| {
+                let least = match what {
+                    "row 255" => 255,
+                    _ => (4096 / scene.register()) as u8,
+                };
                 let row = draft.get(at(Part::Row)).unwrap()[0];
                 draft.set(at(Part::Row), &[row | least]);
             },
@@ -410,7 +416,7 @@ fn outside(
         move |random, scene, draft| {
             let variable = scene.variable(word_of(draft.get(at(Part::Index)).unwrap()));
             let byte = |part| u64::from(draft.get(at(part)).unwrap()[0]);
-            let in_a_row = 32 / size_of(&variable);
+            let in_a_row = scene.register() / size_of(&variable);
             let element = byte(Part::Row) * in_a_row + byte(Part::Column);
             // The column makes up for the rows below 0, as far as it can: read so, the element is the good one.
             let back = random.range(1, (255u64.saturating_sub(element) / in_a_row).max(1));
@@ -449,7 +455,7 @@ fn outside(
             };
             // The highest element is the variable's count, one past its last.
             let first = u64::from(variable.count).saturating_sub(span);
-            let (row, column) = row_and_column(random, &variable, first);
+            let (row, column) = row_and_column(random, scene.register(), &variable, first);
             draft.set(at(Part::Row), &[row]);
             draft.set(at(Part::Column), &[column]);
         },
@@ -486,13 +492,12 @@ fn outside(
                 move |_, scene, draft| {
                     let exec_size = 1u64 << (draft.get(Slot::Exec).unwrap()[0] & 7);
                     long_variable(scene, draft, operand);
-                    if exec_size >= 8 {
-                        // Eight dwords, every fourth: the last one starts at byte 112.
+                    let register = scene.register();
+                    if exec_size >= register / 8 {
+                        // Every fourth dword, from a register's last one on: bytes 28 to 79 by four lanes, bytes 60 to 175
+                        // by eight, three registers.
                         draft.set(at(Part::Region), &word(0x0400));
-                    } else if exec_size >= 4 {
-                        // Four dwords, every fourth, from column 7: bytes 28 to 79, three registers.
-                        draft.set(at(Part::Region), &word(0x0400));
-                        draft.set(at(Part::Column), &[7]);
+                        draft.set(at(Part::Column), &[register as u8 / 4 - 1]);
                     } else {
                         draft.set(at(Part::Row), &[200]);
                     }

@@ -41,10 +41,11 @@ fn any_characters(random: &mut Random) -> Vec<u8> {
 fn any_frames(random: &mut Random) -> Vec<u8> {
     let mut lines = Vec::new();
     for _ in 0..random.below(8) {
-        let kind = random.range(1, 10) as u8;
+        let kind = random.range(1, 11) as u8;
         let bytes = match (kind, random.below(8)) {
             (2, 1..) | (3, 1..=3) => 5,
             (3 | 6, 1..) => 4,
+            (11, 1..) => 1,
             (5, _) => random.range(7, 40),
             _ => random.pick(&[0, 1, 8, 32, 64]),
         };
@@ -52,6 +53,9 @@ fn any_frames(random: &mut Random) -> Vec<u8> {
         if kind == 3 && bytes == 5 {
             // A good count more often than the rest.
             body[4] = random.pick(&[1, 8, 16, 31, 32, 33, body[4]]);
+        }
+        if kind == 11 && bytes == 1 {
+            body[0] = random.pick(&[0x20, 0x40, 0x40, 0x30, body[0]]);
         }
         lines.push(line(kind, &[&body]));
     }

@@ -12,16 +12,18 @@ use crate::run::{run, Answer};
 
 /// A place that random cases reach seldom or never.
 ///
-/// Row R starts at byte 32·R of its variable, and no variable is longer than the 4,096 bytes of the largest
-/// register file: row 127 is the last that can be accepted, a larger one is 7 unless an earlier test refuses.
+/// Row R starts at byte R times a register's bytes of its variable, and no variable is longer than the 4,096 bytes of the
+/// largest register file: row 127 is the last that can be accepted, or row 63 of 64 bytes, and a larger one is 7 unless an
+/// earlier test refuses.
 #[derive(Clone, Copy, Debug, PartialEq, Eq, PartialOrd, Ord)]
 pub enum Place {
-    /// The run ends with 7 at an instruction that decodes and has a row over 127.
-    RowOver127Outside,
+    /// The run ends with 7 at an instruction that decodes and has a row behind the last.
+    RowBehindLastOutside,
     /// It ends there with another number.
-    RowOver127RefusedBefore,
-    /// An instruction with row 127 is completed.
-    Row127Completed,
+    RowBehindLastRefusedBefore,
+    /// An instruction with the last row is completed, of 32 bytes or of 64.
+    LastRowOf32Completed,
+    LastRowOf64Completed,
     /// 14 at a line whose number takes more than a byte.
     LineOver255,
     /// 10 where slip 1 answers 11: no lane before the first unaligned one is tainted.
@@ -31,10 +33,11 @@ pub enum Place {
 }
 
 impl Place {
-    pub const ALL: [Place; 6] = [
-        Place::RowOver127Outside,
-        Place::RowOver127RefusedBefore,
-        Place::Row127Completed,
+    pub const ALL: [Place; 7] = [
+        Place::RowBehindLastOutside,
+        Place::RowBehindLastRefusedBefore,
+        Place::LastRowOf32Completed,
+        Place::LastRowOf64Completed,
         Place::LineOver255,
         Place::UnalignedBeforeTainted,
         Place::LastByteOfLargestKernel,
@@ -42,9 +45,10 @@ impl Place {
 
     pub fn name(self) -> &'static str {
         match self {
-            Place::RowOver127Outside => "a row over 127, answer 7",
-            Place::RowOver127RefusedBefore => "a row over 127, another refusal",
-            Place::Row127Completed => "row 127, completed",
+            Place::RowBehindLastOutside => "a row behind the last, answer 7",
+            Place::RowBehindLastRefusedBefore => "a row behind the last, refused before",
+            Place::LastRowOf32Completed => "row 127 of 32 bytes, completed",
+            Place::LastRowOf64Completed => "row 63 of 64 bytes, completed",
             Place::LineOver255 => "14 at a line over 255",
             Place::UnalignedBeforeTainted => "10 where slip 1 answers 11",
             Place::LastByteOfLargestKernel => "a refusal at byte 4,095 of 4,096",
@@ -72,10 +76,11 @@ pub fn reached(file: &[u8], answer: &Answer) -> Vec<Place> {
         Place::LastByteOfLargestKernel,
         answer.number != DONE && answer.position == 4095 && case.kernel.len() == 4096,
     );
-    see(
-        Place::Row127Completed,
-        completed(&case.kernel, answer.position).any(|it| highest_row(&it) == 127),
-    );
+    let last_row = (4096 / case.register_size.bytes() - 1) as u8;
+    let in_last_row =
+        completed(&case.kernel, answer.position).any(|it| highest_row(&it) == last_row);
+    see(Place::LastRowOf32Completed, in_last_row && last_row == 127);
+    see(Place::LastRowOf64Completed, in_last_row && last_row == 63);
     if answer.number == DONE {
         return places;
     }
@@ -83,10 +88,10 @@ pub fn reached(file: &[u8], answer: &Answer) -> Vec<Place> {
     if refused.number != DONE {
         return places;
     }
-    let far = highest_row(&refused.instruction) > 127;
+    let far = highest_row(&refused.instruction) > last_row;
     let outside = answer.number == OUTSIDE;
-    see(Place::RowOver127Outside, far && outside);
-    see(Place::RowOver127RefusedBefore, far && !outside);
+    see(Place::RowBehindLastOutside, far && outside);
+    see(Place::RowBehindLastRefusedBefore, far && !outside);
     see(
         Place::UnalignedBeforeTainted,
         answer.number == TAINTED_ADDRESS && slip_1_answers_11(case.clone(), &refused.instruction),
@@ -123,7 +128,7 @@ fn slip_1_answers_11(mut case: Case, scatter: &Instruction) -> bool {
     // A refusal changes nothing, so the run leaves what the refused scatter meets.
     run(&mut case);
     let on = lanes_on(&case, scatter);
-    let address = element::scalar(&case, &scatter.scalar);
+    let address = element::scalar(&case, &scatter.scalar, case.register_size.bytes());
     for lane in (0..scatter.exec_size()).filter(|lane| on[*lane as usize]) {
         let offset = element::raw(&case, &scatter.element_offset, lane);
         // The 4c of a channel leaves the remainder by 4 as it is.

@@ -242,7 +242,7 @@ impl Refused {
     fn pairs(&self) -> Vec<Pair> {
         let it = &self.instruction;
         let on = lanes_on(&self.case, it);
-        let address = element::scalar(&self.case, &it.scalar).bits;
+        let address = element::scalar(&self.case, &it.scalar, self.case.register_size.bytes()).bits;
         let lanes = (0..it.exec_size()).filter(|lane| on[*lane as usize]);
         let channels = (0..4).filter(|channel| (it.channels >> channel) & 1 == 1);
         let mut pairs = Vec::new();

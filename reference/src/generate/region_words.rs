@@ -190,7 +190,7 @@ fn code_of(
 
 /// Fields and the numbers by which they are wrong: every pair within a source and within a destination.
 type Wrong = &'static [(usize, u8)];
-const SOURCE_PAIRS: [Wrong; 12] = [
+const SOURCE_PAIRS: [Wrong; 13] = [
     &[(1, 20), (2, 21)],
     &[(1, 20), (0, 24)],
     &[(1, 20), (2, 24)],
@@ -204,6 +204,8 @@ const SOURCE_PAIRS: [Wrong; 12] = [
     &[(1, 24), (2, 24)],
     // All three.
     &[(1, 22), (2, 21), (0, 24)],
+    // Again: of the pairs in the order of the fields only these stand the other way round.
+    &[(1, 22), (2, 21)],
 ];
 const DESTINATION_PAIRS: [Wrong; 8] = [
     &[(2, 21), (0, 24)],

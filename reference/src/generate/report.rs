@@ -1,10 +1,12 @@
 //! The generator's report: how many cases of each mode and intended number, how many valid cases ran all
 //! their instructions, the numbers that are answered, the operands that they name, the rare places that are reached, the
-//! exec bytes that the instructions meet, and the mistakes that show.
+//! exec bytes that the instructions meet, the register sizes that are picked with their edges, and the mistakes that show.
 
 use super::exec_reach::{met, Fate, Meeting, INSTRUCTIONS};
 use super::mistakes::{Judged, Mistake};
 use super::reach::{reached, Place};
+use super::size_mistakes::SizeMistake;
+use super::size_reach::{edge_of, sized_edges, Choice, OTHERS};
 use super::{Generated, Mode};
 use crate::refusal::Detail;
 use crate::run::Answer;
@@ -25,6 +27,12 @@ pub struct Report {
     pub met: BTreeMap<(Meeting, Fate), u64>,
     /// Cases on which a program with a mistake answers wrongly.
     pub shown: BTreeMap<Mistake, u64>,
+    /// The same for the mistakes of request 5, by the whole output.
+    pub shown_by_output: BTreeMap<SizeMistake, u64>,
+    /// Cases by mode and register size.
+    pub sizes: BTreeMap<(Mode, Choice), u64>,
+    /// Cases by the edges of request 5.
+    pub edges: BTreeMap<String, u64>,
     pub valid: u64,
     /// Valid cases that answer 0: all their instructions were completed.
     pub valid_complete: u64,
@@ -53,6 +61,14 @@ impl Report {
         for mistake in Judged::of(&case.file, answer).mistakes() {
             *self.shown.entry(mistake).or_default() += 1;
         }
+        for mistake in SizeMistake::shown(&case.file) {
+            *self.shown_by_output.entry(mistake).or_default() += 1;
+        }
+        let choice = Choice::of(&case.file);
+        *self.sizes.entry((case.mode, choice)).or_default() += 1;
+        if let Some(edge) = edge_of(&case.name) {
+            *self.edges.entry(edge).or_default() += 1;
+        }
         self.completed += answer.completed as u64;
         self.bytes += case.file.len() as u64;
         if case.mode == Mode::Valid {
@@ -76,6 +92,24 @@ impl Report {
     pub fn exec_bytes(&self, opcode: u8, fate: Fate) -> usize {
         let is_such = |it: &&(Meeting, Fate)| it.0 .0 == opcode && it.1 == fate;
         self.met.keys().filter(is_such).count()
+    }
+
+    /// How many cases of a mode pick the register size so.
+    pub fn sized(&self, mode: Mode, choice: Choice) -> u64 {
+        self.sizes.get(&(mode, choice)).copied().unwrap_or_default()
+    }
+
+    /// How many cases have an edge of request 5.
+    pub fn with_edge(&self, edge: &str) -> u64 {
+        self.edges.get(edge).copied().unwrap_or_default()
+    }
+
+    /// On how many cases a mistake of request 5 shows.
+    pub fn shown_by_size(&self, mistake: SizeMistake) -> u64 {
+        self.shown_by_output
+            .get(&mistake)
+            .copied()
+            .unwrap_or_default()
     }
 
     /// On how many cases a mistake shows.
@@ -123,6 +157,31 @@ impl Display for Report {
                 write!(to, "{:>6}", self.exec_bytes(opcode, fate))?;
             }
             writeln!(to)?;
+        }
+        write!(to, "register sizes:   ")?;
+        for choice in Choice::ALL {
+            write!(to, "{:>11}", choice.name())?;
+        }
+        writeln!(to)?;
+        for mode in Mode::ALL {
+            write!(to, "  {:<16}", mode.name())?;
+            for choice in Choice::ALL {
+                write!(to, "{:>11}", self.sized(mode, choice))?;
+            }
+            writeln!(to)?;
+        }
+        writeln!(to, "edges of the register size, with 32 and with 64:")?;
+        for (edge, [of_32, of_64]) in sized_edges() {
+            let (of_32, of_64) = (self.with_edge(&of_32), self.with_edge(&of_64));
+            writeln!(to, "  {edge:<46}{of_32:>6}{of_64:>6}")?;
+        }
+        for edge in OTHERS {
+            writeln!(to, "  {edge:<46}{:>6}", self.with_edge(edge))?;
+        }
+        writeln!(to, "mistakes of the register size that show:")?;
+        for mistake in SizeMistake::ALL {
+            let count = self.shown_by_size(mistake);
+            writeln!(to, "  {:<44}{count:>6}", mistake.name())?;
         }
         writeln!(to, "mistakes that show:")?;
         for mistake in Mistake::ALL {

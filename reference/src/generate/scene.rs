@@ -7,6 +7,7 @@ use super::accepted::{exec, mask_end};
 use super::random::Random;
 use crate::case::{Case, Predicate, Variable};
 use crate::element_type::{ALL, UD, UQ, UW};
+use crate::register_size::RegisterSize;
 
 /// What the guarded area holds.
 #[derive(Clone, Copy, Debug)]
@@ -51,30 +52,36 @@ pub enum Size {
     Large,
 }
 
-const REGISTER: u64 = 32;
-/// Element offsets 4, addresses 1, indices 1.
-const GUARDED_REGISTERS: u64 = 6;
+/// Element offsets 128, addresses 32, indices 32: whole registers of either size.
+const GUARDED_BYTES: u64 = 192;
+const ADDRESSES: u64 = 128;
+const INDICES: u64 = 160;
 
-/// A legal scene. With `clean`, no byte of the guarded area is tainted.
+/// A legal scene with registers of 32 or of 64 bytes. With `clean`, no byte of the guarded area is tainted.
 pub fn scene(random: &mut Random, size: Size, clean: bool) -> Scene {
-    let mut case = Case::default();
+    let register_size = random.pick(&[RegisterSize::OF_32, RegisterSize::OF_64]);
+    scene_of(random, register_size, size, clean)
+}
+
+/// The same with registers of a size.
+pub fn scene_of(random: &mut Random, registers: RegisterSize, size: Size, clean: bool) -> Scene {
+    let mut case = Case {
+        register_size: registers,
+        ..Case::default()
+    };
+    let register = registers.bytes();
     memory(random, &mut case, size);
     surfaces(random, &mut case, size);
     predicates(random, &mut case, size);
     case.execution_mask = bits(random);
 
-    let work_registers = match size {
-        Size::Tiny => random.range(1, 4),
-        Size::Usual => random.range(4, 10),
-        Size::Large => random.pick(&[16, 32, 40, 122]),
+    let work = match size {
+        Size::Tiny => register * random.range(1, 4),
+        Size::Usual => register * random.range(4, 10),
+        Size::Large => random.pick(&[512, 1024, 1280, 3904]),
     };
-    let work = REGISTER * work_registers;
     let has_guarded = size != Size::Tiny;
-    let guarded_bytes = if has_guarded {
-        REGISTER * GUARDED_REGISTERS
-    } else {
-        0
-    };
+    let guarded_bytes = if has_guarded { GUARDED_BYTES } else { 0 };
     case.registers = work_bytes(random, work, &case);
     case.registers.resize((work + guarded_bytes) as usize, 0);
 
@@ -82,12 +89,12 @@ pub fn scene(random: &mut Random, size: Size, clean: bool) -> Scene {
     variables(random, &mut case, work, work + guarded_bytes, size);
     if has_guarded {
         // Element offsets, their halves, addresses, indices, in this order.
-        let at = |register: u64| (work + REGISTER * register) as u16;
+        let at = |byte: u64| (work + byte) as u16;
         roles = vec![
             variable(UQ, at(0), 16),
             variable(UD, at(0), 32),
-            variable(UQ, at(4), 4),
-            variable(UW, at(5), 16),
+            variable(UQ, at(ADDRESSES), 4),
+            variable(UW, at(INDICES), 16),
         ];
     }
     // The roles stand somewhere among the others.
@@ -242,8 +249,9 @@ fn work_bytes(random: &mut Random, work: u64, case: &Case) -> Vec<u8> {
 
 /// One variable of every type inside the work area, one long one, and others anywhere, overlapping.
 fn variables(random: &mut Random, case: &mut Case, work: u64, all: u64, size: Size) {
+    let register = case.register_size.bytes();
     for type_code in ALL {
-        let it = any_variable(random, type_code, work);
+        let it = any_variable(random, type_code, work, register);
         case.variables.push(it);
     }
     // The whole work area as dwords.
@@ -255,33 +263,34 @@ fn variables(random: &mut Random, case: &mut Case, work: u64, all: u64, size: Si
     for _ in 0..more {
         let type_code = random.pick(&ALL);
         let area = if random.chance(70) { work } else { all };
-        let it = any_variable(random, type_code, area);
+        let it = any_variable(random, type_code, area, register);
         case.variables.push(it);
     }
     random.shuffle(&mut case.variables);
 }
 
 /// A legal variable in the first `area` bytes.
-fn any_variable(random: &mut Random, type_code: u8, area: u64) -> Variable {
+fn any_variable(random: &mut Random, type_code: u8, area: u64, register_bytes: u64) -> Variable {
     let size = match type_code {
         UQ => 8,
         2 | 3 => 2,
         4 | 5 => 1,
         _ => 4,
     };
-    let registers = area / REGISTER;
+    let registers = area / register_bytes;
     let register = random.below(registers);
+    let in_a_register = register_bytes / size;
     if random.chance(65) {
-        // 32 bytes or longer, from a multiple of 32.
-        let bytes = REGISTER * random.range(1, (registers - register).min(8));
-        let fewer = random.edge(REGISTER / size - 1);
-        let count = bytes / size - if bytes > REGISTER { fewer } else { 0 };
-        variable(type_code, (REGISTER * register) as u16, count as u16)
+        // A register or longer, from a register's start.
+        let whole = random.range(1, (registers - register).min(8));
+        let fewer = random.edge(in_a_register - 1);
+        let count = whole * in_a_register - if whole > 1 { fewer } else { 0 };
+        variable(type_code, (register_bytes * register) as u16, count as u16)
     } else {
         // Shorter, inside one register.
-        let count = random.range(1, REGISTER / size - 1);
-        let first = random.edge(REGISTER / size - count);
-        let start = REGISTER * register + size * first;
+        let count = random.range(1, in_a_register - 1);
+        let first = random.edge(in_a_register - count);
+        let start = register_bytes * register + size * first;
         variable(type_code, start as u16, count as u16)
     }
 }

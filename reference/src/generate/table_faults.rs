@@ -19,6 +19,11 @@ fn set_registers(random: &mut Random, case: &mut Case, length: usize) {
     case.register_taint = taint(random, length);
 }
 
+/// The bytes of a register.
+fn register(case: &Case) -> usize {
+    case.register_size.bytes() as usize
+}
+
 fn set_memory(random: &mut Random, case: &mut Case, base: u64, length: usize) {
     case.base = base;
     case.memory = random.bytes(length as u64);
@@ -85,7 +90,7 @@ pub fn table_faults() -> Vec<TableFault> {
             set_registers(r, c, n)
         }),
         ("half a register more", 13, |r, c| {
-            let n = c.registers.len() + 16;
+            let n = c.registers.len() + register(c) / 2;
             set_registers(r, c, n)
         }),
         ("one register byte in all", 13, |r, c| {
@@ -207,11 +212,6 @@ pub fn table_faults() -> Vec<TableFault> {
             let (code, size) = r.pick(&[(0, 4), (2, 2), (5, 1), (7, 4), (11, 8)]);
             let count = r.range(1, 4) as usize;
             let start = c.registers.len() - count * size;
-            let start = if count * size == 32 {
-                start / 32 * 32
-            } else {
-                start
-            };
             add_good_variable(c, code, start, count);
         }),
         ("long variable up to the file's end", 0, |r, c| {
@@ -248,30 +248,36 @@ pub fn table_faults() -> Vec<TableFault> {
         ("UQ at a multiple of 4", 13, |r, c| {
             add_variable(r, c, 11, 4, 1)
         }),
-        ("32 bytes at a multiple of 32", 0, |r, c| {
+        ("a register's bytes at its start", 0, |r, c| {
             let (code, size) = r.pick(&[(0, 4), (2, 2), (4, 1), (11, 8)]);
-            add_good_variable(c, code, 32, 32 / size);
+            let register = register(c);
+            add_good_variable(c, code, register, register / size);
         }),
-        ("32 bytes not at a multiple of 32", 13, |r, c| {
+        ("a register's bytes not at its start", 13, |r, c| {
             let (code, size) = r.pick(&[(0, 4), (2, 2), (4, 1), (11, 8)]);
-            let start = 8 * r.range(1, 3) as usize;
-            add_variable(r, c, code, start, 32 / size)
+            let register = register(c);
+            let start = 8 * r.range(1, register as u64 / 8 - 1) as usize;
+            add_variable(r, c, code, start, register / size)
         }),
-        ("more than 32 bytes not at a multiple of 32", 13, |r, c| {
+        ("more than a register not at its start", 13, |r, c| {
             let (code, size) = r.pick(&[(0, 4), (2, 2), (4, 1), (11, 8)]);
-            let start = 8 * r.range(1, 3) as usize;
-            add_variable(r, c, code, start, 64 / size)
+            let register = register(c);
+            let start = 8 * r.range(1, register as u64 / 8 - 1) as usize;
+            add_variable(r, c, code, start, 2 * register / size)
         }),
-        ("less than 32 bytes inside a line", 0, |r, c| {
+        ("less than a register inside it", 0, |r, c| {
             let (code, size) = r.pick(&[(0, 4), (2, 2), (4, 1), (11, 8)]);
-            add_good_variable(c, code, 32 + size, 32 / size - 1);
+            let register = register(c);
+            add_good_variable(c, code, register + size, register / size - 1);
         }),
-        ("less than 32 bytes across a line", 13, |r, c| {
+        ("less than a register in two of them", 13, |r, c| {
             let (code, size) = r.pick(&[(0, 4), (2, 2), (4, 1), (11, 8)]);
-            add_variable(r, c, code, 2 * size, 32 / size - 1)
+            let count = register(c) / size - 1;
+            add_variable(r, c, code, 2 * size, count)
         }),
-        ("two bytes across a line", 13, |r, c| {
-            add_variable(r, c, 5, 31, 2)
+        ("two bytes in two registers", 13, |r, c| {
+            let start = register(c) - 1;
+            add_variable(r, c, 5, start, 2)
         }),
         ("register taint one longer", 13, |_, c| {
             c.register_taint.push(0)

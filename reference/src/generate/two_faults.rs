@@ -10,11 +10,13 @@ use super::lines::{file_of, lines_of};
 use super::near_misses::{base_instruction, base_scene, give_form, prefix, suffix, Ways, KINDS};
 use super::random::Random;
 use super::region_words::several;
+use super::register_sizes::{OTHER_SIZES, WRONG_SIZE_AND_13};
 use super::scene::Scene;
 use super::slip_one::unaligned_and_tainted;
 use super::{Generated, Mode};
 use crate::assemble::{Draft, Slot};
 use crate::refusal::Detail;
+use crate::register_size::RegisterSize;
 
 /// How near two faults of one instruction stand in the order of tests.
 #[derive(Clone, Copy)]
@@ -58,7 +60,7 @@ impl Ways {
         if number % 3 == 0 {
             return self.cut_at_the_fault(random, number / 3);
         }
-        match random.below(42) {
+        match random.below(46) {
             0..=11 => self.in_one_instruction(random),
             12 | 13 => self.with_a_cut(random),
             14 | 15 => self.in_two_instructions(random),
@@ -70,11 +72,12 @@ impl Ways {
                 let detail = (number == 10).then_some(Detail::None);
                 two(random, &scene, name, number, detail)
             }
-            27..=31 => {
+            27..=32 => {
                 let (scene, name, number, detail) = several(random);
                 two(random, &scene, name, number, Some(detail))
             }
-            32..=36 => self.short_predicate_and_another(random),
+            33..=37 => self.short_predicate_and_another(random),
+            38..=40 => self.wrong_size_and_tables(random),
             _ => {
                 let (scene, name, number, detail) = several_lanes(random);
                 two(random, &scene, name, number, Some(detail))
@@ -233,6 +236,17 @@ impl Ways {
         two(random, &scene, name, 13, Some(Detail::None))
     }
 
+    /// A register size that is none, and another 13.
+    fn wrong_size_and_tables(&self, random: &mut Random) -> Generated {
+        let mut scene = base_scene(random);
+        scene.case.kernel = prefix(random, &scene);
+        let table_name = self.break_tables(random, &mut scene);
+        let size = random.pick(&OTHER_SIZES);
+        scene.case.register_size = RegisterSize(size);
+        let name = format!("{WRONG_SIZE_AND_13}: {size:02x} and {table_name}");
+        two(random, &scene, name, 13, Some(Detail::None))
+    }
+
     fn break_tables(&self, random: &mut Random, scene: &mut Scene) -> &'static str {
         loop {
             let table = &self.tables[random.below(self.tables.len() as u64) as usize];
@@ -250,7 +264,17 @@ impl Ways {
         let mut lines = lines_of(random, &scene.case);
         let (line_name, file) = if random.chance(50) {
             // After everything that breaks the tables.
-            let last = random.pick(&["0b", "", "0", "0 ", "0A", "0300", "03ff00000008ff", "zz"]);
+            let last = random.pick(&[
+                "0b",
+                "",
+                "0",
+                "0 ",
+                "0A",
+                "0300",
+                "03ff00000008ff",
+                "0b4040",
+                "zz",
+            ]);
             lines.push(Vec::from(last));
             // An empty last line needs its 0x0a.
             let mut file = lines.join(&0x0a);

@@ -4,6 +4,7 @@
 use reference::assemble::Draft;
 use reference::case::{Case, Predicate, Variable};
 use reference::refusal::Detail;
+use reference::register_size::RegisterSize;
 use reference::run::{run, Answer};
 
 /// Numbers of the stage's variables.
@@ -24,7 +25,7 @@ pub fn start(variable: u16) -> usize {
 }
 
 /// 2,048 register bytes of zeros, one variable of 256 bytes for each type, two predicates of 32, a
-/// surface of ten bytes, a memory window of 64 bytes at 0x1000, every lane on, no taint.
+/// surface of ten bytes, a memory window of 64 bytes at 0x1000, every lane on, no taint, registers of 32 bytes.
 pub fn stage() -> Case {
     let types = [
         (0, 64),
@@ -45,6 +46,7 @@ pub fn stage() -> Case {
         });
     }
     Case {
+        register_size: RegisterSize::OF_32,
         kernel: Vec::new(),
         registers: vec![0; 2048],
         variables,

@@ -1,11 +1,12 @@
 //! A program of the tests: one of the programs with an interpreter or a line program that is wrong on purpose.
 //!
 //! `wrong WAY PROGRAM ARGUMENTS`, the way being one of `number`, `completed`, `taint`, `end`, `silent` and
-//! `panic`, for a verdict one of those in `verdicts`, for a line program one of those in `lines`, and for the exec byte's
+//! `panic`, or a mistake of the register size from `sizes`, for a verdict one of those in `verdicts`, for a line program one of those in `lines`, and for the exec byte's
 //! table one of those in `exec_tables`.
 
 mod exec_tables;
 mod lines;
+mod sizes;
 mod verdicts;
 
 use reference::bench::{answer, bench};
@@ -36,6 +37,9 @@ fn main() -> ExitCode {
         "verdict" => return by_case::main("verdict", arguments, verdicts::verdict(&way)),
         "cases" if way == "panic" => return cases::main(arguments, answer_panics_at_14),
         _ => {}
+    }
+    if let Some(mistake) = sizes::mistake(&way) {
+        return by_case::main("reference", arguments, mistake);
     }
     let interpreter: Interpreter = match way.as_str() {
         "number" => |case| changed(case, answers_0_always),
