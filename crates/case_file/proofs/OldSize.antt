@@ -1,4 +1,5 @@
--- "absent means 32" (document 02, request 5): in a case file without a frame 0b a register has 32 bytes, as before.
+-- "absent means 32" (document 02, request 5): in a case file without a frame 0b a register has 32 bytes, so that its run is
+-- the one of before (`run-32` of the crate `earlier`).
 use mathlib.Core.Path.{_≡_}
 use mathlib.Core.List.{List, []}
 use Prim.Native.Nat.{ℕ}

@@ -20,7 +20,7 @@ use Rattle.decoder.proofs.RefusalNumbers.{refusal-at-most-four}
 use Rattle.tables.specs.Tables.{tablesGood}
 use Rattle.plan.specs.declared.Plan.{Plan}
 use Rattle.plan.specs.Checked.{checked}
-use Rattle.step.specs.State.{Setup, State, registerSize, lengthsOf}
+use Rattle.step.specs.State.{Setup, State, registerBytes, lengthsOf}
 use Rattle.step.specs.Step.{Stepped, acted, planEffect, stepAt, after}
 use Rattle.scatter.specs.Scatter.{Window}
 use Rattle.scatter.specs.Offending.{ScatterTells, done, doubtful, misalignedPair, outsidePair}
@@ -95,7 +95,7 @@ decoding-stays n h = rw (lt-leb 20 n (omega (arith, h)))
 
 module _ (x : Setup) (s : State) where
   abbrev planned : Instruction → Plan
-  planned i = checked (registerSize x) (x .tables) i
+  planned i = checked (registerBytes x) (x .tables) i
 
   -- the step at an instruction, now and before
   abbrev stepNow : Read Instruction → Stepped
@@ -120,9 +120,9 @@ module _ (x : Setup) (s : State) where
       told true e = record { next = refl; number = rw e; untelling = refl; state = λ z. absurd (omega (arith, z)) }
       told false e = record { next = refl; number = rw e; untelling = refl; state = λ z. absurd (omega (arith, z)) }
 
-  plan-before : (i : Read Instruction) → SameBefore (stepNow i) (stepThen i (numberBefore (registerSize x) (x .tables) (i .value))) s
+  plan-before : (i : Read Instruction) → SameBefore (stepNow i) (stepThen i (numberBefore (registerBytes x) (x .tables) (i .value))) s
   unfolding planEffect
-  plan-before i = subst (λ (n : ℕ). SameBefore (stepNow i) (stepThen i n) s) (checked-before (registerSize x) (x .tables) (i .value)) (told (planned (i .value) .number) refl)
+  plan-before i = subst (λ (n : ℕ). SameBefore (stepNow i) (stepThen i n) s) (checked-before (registerBytes x) (x .tables) (i .value)) (told (planned (i .value) .number) refl)
     where
       zero-then : asBefore 0 ≡ 0
       zero-then = sym (decoding-stays 0 (omega arith))
@@ -139,7 +139,7 @@ module _ (x : Setup) (s : State) where
   step-before at = told (instructionAt (x .kernel) at) refl
     where
       told : (d : Reply (Read Instruction)) → instructionAt (x .kernel) at ≡ d → SameBefore (stepOf x (λ (p : Plan). planEffect (x .constants) p s) at d)
-          (onReply d (λ n. record { next = at; effect = refused n detail.None }) (λ i. stepThen i (numberBefore (registerSize x) (x .tables) (i .value)))) s
+          (onReply d (λ n. record { next = at; effect = refused n detail.None }) (λ i. stepThen i (numberBefore (registerBytes x) (x .tables) (i .value)))) s
       told (reply.refused n) e = record { next = refl; number = decoding-stays n (refusal-at-most-four (x .kernel) at n e); untelling = refl; state = λ _. refl }
       told (reply.done i) e = plan-before i
 
@@ -184,7 +184,7 @@ module _ (x : Setup) where
 
   told-given : (at : ℕ) (s : State) (n : ℕ) (d : Detail) → Tells x at s n d → isGiven n ≡ true
   told-given at s n d (undecoded {n = k} e) = still-given k (small-given k (omega (arith, refusal-at-most-four (x .kernel) at k e)))
-  told-given at s n d (tested {i = i} is e names) = subst (λ (k : ℕ). isGiven k ≡ true) e (checked-given (registerSize x) (x .tables) i)
+  told-given at s n d (tested {i = i} is e names) = subst (λ (k : ℕ). isGiven k ≡ true) e (checked-given (registerBytes x) (x .tables) i)
   told-given at s n d (performed is e own) = own-given _ _ _ _ _ _ own
 
   step-given : (at : ℕ) (s : State) → isGiven (stepAt x at s .effect .number) ≡ true

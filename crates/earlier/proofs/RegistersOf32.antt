@@ -14,7 +14,7 @@ use Rattle.tables.specs.Tables.{tablesGood}
 use Rattle.regions.specs.Regions.{rowElements, firstElement}
 use Rattle.regions.specs.Reach.{twoRegisters}
 use Rattle.plan.specs.Needed.{channelStride, scatterNeeded, registersNeeded}
-use Rattle.step.specs.State.{Setup, State, registerSize}
+use Rattle.step.specs.State.{Setup, State, registerBytes}
 use Rattle.run.specs.Run.{stopped, run}
 use Rattle.run.proofs.Whole.{tables-refused}
 use Rattle.earlier.specs.RegistersOf32.{registersGood32, lengthsGood32, lineGood32, firstElement32, twoRegisters32, registersNeeded32, channelStride32, scatterNeeded32}
@@ -63,7 +63,7 @@ scatter-needed-32 exec channels = rw (stride-32 exec)
 
 -- ---- the size that a run chose
 
-pub chosen-32 : (x : Setup) → x .constants .«register_size» ≡ 32 → registerSize x ≡ 32
+pub chosen-32 : (x : Setup) → x .constants .«register_size» ≡ 32 → registerBytes x ≡ 32
 unfolding chosenSize
 chosen-32 x e = rw e
 

@@ -36,7 +36,7 @@ use Rattle.plan.specs.Checked.{shlDst, shlSrc0, shlSrc1, checkedShl, gatherOffs
 use Rattle.plan.proofs.InstructionLaws.{plan-keeps}
 use Rattle.scatter.specs.Scatter.{Window, scatterPair, scatterEffect, sourceByte}
 use Rattle.step.specs.declared.Constants.{Constants}
-use Rattle.step.specs.State.{Setup, State, registerSize, lengthsOf}
+use Rattle.step.specs.State.{Setup, State, registerBytes, lengthsOf}
 use Rattle.step.specs.Step.{Stepped, acted, planEffect, stepAt}
 use Rattle.step.proofs.StepOf.{stepOf}
 use Rattle.run.specs.Run.{stopped, runFrom, run}
@@ -101,7 +101,7 @@ module _ (c : Constants) (t : Tables) (s : State) where
       told false e = rw e
 
 module _ (x : Setup) (chosen : x .constants .«register_size» ≡ 32) where
-  plan-32 : (i : Instruction) (s : State) → planEffect (x .constants) (checked (registerSize x) (x .tables) i) s ≡ planEffect32 (x .constants) (checked32 (x .tables) i) s
+  plan-32 : (i : Instruction) (s : State) → planEffect (x .constants) (checked (registerBytes x) (x .tables) i) s ≡ planEffect32 (x .constants) (checked32 (x .tables) i) s
   plan-32 i s =
       ap (λ (n : ℕ). planEffect (x .constants) (checked n (x .tables) i) s) (chosen-32 x chosen)
       ∙ (effect-32 (x .constants) (x .tables) s i ∙ ap (λ (p : Plan). planEffect32 (x .constants) p s) (checked-32 (x .tables) i))

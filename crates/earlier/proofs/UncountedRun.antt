@@ -28,7 +28,7 @@ use Rattle.controls.specs.Control.{lanesEnd, predicateFor, controlRefusal}
 use Rattle.plan.specs.Control.{controlOf}
 use Rattle.plan.specs.Plans.{refusedPlan}
 use Rattle.plan.specs.Checked.{checked}
-use Rattle.step.specs.State.{Setup, State, registerSize, lengthsOf}
+use Rattle.step.specs.State.{Setup, State, registerBytes, lengthsOf}
 use Rattle.step.specs.Step.{Stepped, planEffect, stepAt, after}
 use Rattle.step.proofs.SameStep.{SameStep}
 use Rattle.step.proofs.StepOf.{stepOf}
@@ -45,18 +45,18 @@ module _ (x : Setup) where
   unfolding planEffect refusedPlan unless
   refused-seventeen s = refl
 
-  checked-unless : (s : State) (i : Instruction) → planEffect (x .constants) (checked (registerSize x) (x .tables) i) s .number ≢ 17 → checked (registerSize x) (x .tables) i ≡ checkedUncounted (registerSize x) (x .tables) i
+  checked-unless : (s : State) (i : Instruction) → planEffect (x .constants) (checked (registerBytes x) (x .tables) i) s .number ≢ 17 → checked (registerBytes x) (x .tables) i ≡ checkedUncounted (registerBytes x) (x .tables) i
   checked-unless s i h =
-      let is = checked-counted (registerSize x) (x .tables) i in
+      let is = checked-counted (registerBytes x) (x .tables) i in
       is ∙ told (pastCount (x .tables .predicates) (controlOf i)) (subst (λ (p : Plan). planEffect (x .constants) p s .number ≢ 17) is h)
     where
-      told : (q : Bool) → planEffect (x .constants) (cond q (refusedPlan 17 detail.None) (checkedUncounted (registerSize x) (x .tables) i)) s .number ≢ 17 → cond q (refusedPlan 17 detail.None) (checkedUncounted (registerSize x) (x .tables) i) ≡ checkedUncounted (registerSize x) (x .tables) i
+      told : (q : Bool) → planEffect (x .constants) (cond q (refusedPlan 17 detail.None) (checkedUncounted (registerBytes x) (x .tables) i)) s .number ≢ 17 → cond q (refusedPlan 17 detail.None) (checkedUncounted (registerBytes x) (x .tables) i) ≡ checkedUncounted (registerBytes x) (x .tables) i
       told true f = absurd (f (refused-seventeen s))
       told false f = refl
 
   -- the step of before, by what stands decoded at its position
   abbrev stepThen : ℕ → State → Reply (Read Instruction) → Stepped
-  stepThen at s d = onReply d (λ n. record { next = at; effect = refused n detail.None }) (λ i. record { next = i .next; effect = planEffect (x .constants) (checkedUncounted (registerSize x) (x .tables) (i .value)) s })
+  stepThen at s d = onReply d (λ n. record { next = at; effect = refused n detail.None }) (λ i. record { next = i .next; effect = planEffect (x .constants) (checkedUncounted (registerBytes x) (x .tables) (i .value)) s })
 
   step-unless : (at : ℕ) (s : State) → stepAt x at s .effect .number ≢ 17 → stepAt x at s ≡ stepUncounted x at s
   unfolding stepAt stepUncounted
@@ -149,8 +149,8 @@ module _ (p : Predicates) (all : AllThirtyTwo p) where
       told false = refl
 
 module _ (x : Setup) (all : AllThirtyTwo (x .tables .predicates)) where
-  checked-uncounted : (i : Instruction) → checked (registerSize x) (x .tables) i ≡ checkedUncounted (registerSize x) (x .tables) i
-  checked-uncounted i = checked-counted (registerSize x) (x .tables) i ∙ ap (λ (q : Bool). cond q (refusedPlan 17 detail.None) (checkedUncounted (registerSize x) (x .tables) i)) (never-past (x .tables .predicates) all (controlOf i))
+  checked-uncounted : (i : Instruction) → checked (registerBytes x) (x .tables) i ≡ checkedUncounted (registerBytes x) (x .tables) i
+  checked-uncounted i = checked-counted (registerBytes x) (x .tables) i ∙ ap (λ (q : Bool). cond q (refusedPlan 17 detail.None) (checkedUncounted (registerBytes x) (x .tables) i)) (never-past (x .tables .predicates) all (controlOf i))
 
   step-uncounted : (at : ℕ) (s : State) → stepAt x at s ≡ stepUncounted x at s
   unfolding stepAt stepUncounted

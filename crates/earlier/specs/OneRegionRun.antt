@@ -9,7 +9,7 @@ use Rattle.decoder.specs.declared.Instruction.{Instruction}
 use Rattle.decoder.specs.Decoding.{instructionAt}
 use Rattle.tables.specs.Tables.{tablesGood}
 use Rattle.plan.specs.Checked.{checked}
-use Rattle.step.specs.State.{Setup, State, registerSize, lengthsOf}
+use Rattle.step.specs.State.{Setup, State, registerBytes, lengthsOf}
 use Rattle.step.specs.Step.{Stepped, acted}
 use Rattle.run.specs.Run.{Outcome, stopped, runFrom}
 use Rattle.earlier.specs.OneRegionRule.{numberBefore, asBefore}
@@ -20,14 +20,14 @@ untold e = record { number = e .number; detail = detail.None; registers = e .reg
 
 -- an instruction that passes is performed as it is now: where its elements are does not depend on the numbers
 abbrev pub effectBefore : Setup → State → Instruction → ℕ → Effect
-effectBefore x s i zero = untold (acted (x .constants) (checked (registerSize x) (x .tables) i .operation) (checked (registerSize x) (x .tables) i) s)
+effectBefore x s i zero = untold (acted (x .constants) (checked (registerBytes x) (x .tables) i .operation) (checked (registerBytes x) (x .tables) i) s)
 effectBefore x s i (suc n) = refused (suc n) detail.None
 
 unfoldable pub stepBefore : Setup → ℕ → State → Stepped
 stepBefore x at s =
     onReply (instructionAt (x .kernel) at)
     (λ n. record { next = at; effect = refused n detail.None })
-    (λ i. record { next = i .next; effect = effectBefore x s (i .value) (numberBefore (registerSize x) (x .tables) (i .value)) })
+    (λ i. record { next = i .next; effect = effectBefore x s (i .value) (numberBefore (registerBytes x) (x .tables) (i .value)) })
 
 unfoldable pub runBefore : Setup → State → Outcome
 runBefore x s =

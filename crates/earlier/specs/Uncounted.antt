@@ -1,5 +1,5 @@
 -- The run before predicates had counts (document 02, request 3): no definition here asks for one. Of a predicate its bits were known, and its only
--- test was 5. Document 01, "The numbers given back": "A run then tests 8; predicate 5; surface 5; ..".
+-- test was 5. Document 01, "The numbers given back": "A run then tests 8; predicate 5; surface 5; ..". Registers have the size of now.
 use Prim.Native.Nat.{ℕ}
 use mathlib.Core.Bool.{Bool, cond, _&&_}
 use mathlib.Core.List.{List}
@@ -22,7 +22,7 @@ use Rattle.controls.specs.Control.{lanesEnd}
 use Rattle.plan.specs.Control.{controlOf}
 use Rattle.plan.specs.Plans.{tested}
 use Rattle.plan.specs.Checked.{checkedOperands}
-use Rattle.step.specs.State.{Setup, State, registerSize, lengthsOf}
+use Rattle.step.specs.State.{Setup, State, registerBytes, lengthsOf}
 use Rattle.step.specs.Step.{Stepped, planEffect}
 use Rattle.run.specs.Run.{Outcome, stopped, runFrom}
 
@@ -53,7 +53,7 @@ unfoldable pub stepUncounted : Setup → ℕ → State → Stepped
 stepUncounted x at s =
     onReply (instructionAt (x .kernel) at)
     (λ n. record { next = at; effect = refused n detail.None })
-    (λ i. record { next = i .next; effect = planEffect (x .constants) (checkedUncounted (registerSize x) (x .tables) (i .value)) s })
+    (λ i. record { next = i .next; effect = planEffect (x .constants) (checkedUncounted (registerBytes x) (x .tables) (i .value)) s })
 
 unfoldable pub runUncounted : Setup → State → Outcome
 runUncounted x s =

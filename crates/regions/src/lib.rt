@@ -1,7 +1,7 @@
 // Regions: which rule a region word breaks, which element of its variable each lane takes, and where that is.
 use field_groups::General;
 ghost use mathlib.Core.Path.{_≡_};
-ghost use Prim.Native.Nat.{_+_, _-_, _/_, _%_, _<_, min, max};
+ghost use Prim.Native.Nat.{_+_, _-_, _/_, _%_, _≤_, _<_, min, max};
 ghost use Rattle.element_types.specs.Types.{sizeOf};
 ghost use Rattle.regions.specs.declared.Role.the-variants as role;
 ghost use Rattle.regions.specs.Regions.{strideOf, rowElements, firstElement, elementOf};
@@ -223,12 +223,13 @@ fn reach_of(grid: Grid, lanes: u8) -> Reach
 
 // Whether the bytes from the first to the one before the end are in two adjacent registers.
 fn two_registers(register_size: u8, first: u64, end: u64) -> bool
-    requires { ⌜ first < 18446744073709551615 ⌝ }
+    requires { ⌜ first ≤ 1099511627776 ⌝ }
     ensures { λ r. ⌜ r ≡ twoRegisters «register_size» first (end - 1) ⌝ }
 {
     if end == 0 {
         return true;
     }
+    // total; a run has 32 or 64
     if register_size == 0 {
         return true;
     }

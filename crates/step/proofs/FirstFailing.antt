@@ -15,7 +15,7 @@ use Rattle.plan.proofs.InstructionLaws.{plan-keeps}
 use Rattle.shl.proofs.Refusal.{shl-number}
 use Rattle.gather.proofs.Refusal.{gather-number}
 use Rattle.scatter.proofs.FirstTest.{scatter-number}
-use Rattle.step.specs.State.{Setup, State, registerSize}
+use Rattle.step.specs.State.{Setup, State, registerBytes}
 use Rattle.step.specs.Step.{acted, planEffect, stepAt}
 use Rattle.step.specs.FirstFailing.{firstOf, someDoubtful, somePair, dataTests, firstFailing}
 use Rattle.step.proofs.StepOf.{stepOf}
@@ -24,7 +24,7 @@ use Rattle.step.proofs.AcceptedLaws.{plan-refuses, plan-passes}
 module _ (x : Setup) (s : State) where
   -- the plan of an instruction
   abbrev planned : Instruction → Plan
-  planned i = checked (registerSize x) (x .tables) i
+  planned i = checked (registerBytes x) (x .tables) i
 
   acted-as : (o : Operation) (p : Plan) → p .operation ≡ o → acted (x .constants) (p .operation) p s .number ≡ acted (x .constants) o p s .number
   acted-as o p = ap (λ (q : Operation). acted (x .constants) q p s .number)
@@ -32,10 +32,10 @@ module _ (x : Setup) (s : State) where
   -- an accepted plan acts as its instruction
   acted-number : (i : Instruction) → planned i .number ≡ 0 → acted (x .constants) (planned i .operation) (planned i) s .number ≡ dataTests x i (planned i) s
   unfolding acted dataTests someDoubtful somePair
-  acted-number (instruction.Shl i) z = acted-as _ _ (plan-keeps (registerSize x) (x .tables) (instruction.Shl i) z .operation) ∙ shl-number _ _ _
-  acted-number (instruction.Gather i) z = acted-as _ _ (plan-keeps (registerSize x) (x .tables) (instruction.Gather i) z .operation) ∙ gather-number _ _ _ _
-  acted-number (instruction.Scatter i) z = acted-as _ _ (plan-keeps (registerSize x) (x .tables) (instruction.Scatter i) z .operation) ∙ scatter-number _ _ _ _
-  acted-number (instruction.RawSend i) z = absurd (plan-keeps (registerSize x) (x .tables) (instruction.RawSend i) z)
+  acted-number (instruction.Shl i) z = acted-as _ _ (plan-keeps (registerBytes x) (x .tables) (instruction.Shl i) z .operation) ∙ shl-number _ _ _
+  acted-number (instruction.Gather i) z = acted-as _ _ (plan-keeps (registerBytes x) (x .tables) (instruction.Gather i) z .operation) ∙ gather-number _ _ _ _
+  acted-number (instruction.Scatter i) z = acted-as _ _ (plan-keeps (registerBytes x) (x .tables) (instruction.Scatter i) z .operation) ∙ scatter-number _ _ _ _
+  acted-number (instruction.RawSend i) z = absurd (plan-keeps (registerBytes x) (x .tables) (instruction.RawSend i) z)
 
   plan-number : (i : Instruction) → planEffect (x .constants) (planned i) s .number ≡ firstOf (planned i .number) (dataTests x i (planned i) s)
   unfolding planEffect

@@ -20,7 +20,7 @@ use Rattle.plan.specs.Checked.{checked}
 use Rattle.shl.proofs.Refusal.{shl-writes}
 use Rattle.gather.proofs.Refusal.{gather-writes}
 use Rattle.scatter.proofs.Refusal.{scatter-writes}
-use Rattle.step.specs.State.{Setup, State, registerSize, lengthsOf}
+use Rattle.step.specs.State.{Setup, State, registerBytes, lengthsOf}
 use Rattle.step.specs.Step.{acted, planEffect, stepAt, after}
 use Rattle.step.proofs.StepOf.{stepOf}
 use Rattle.step.proofs.Unwritten.{unwritten}
@@ -56,7 +56,7 @@ module _ (x : Setup) (s : State) where
 
   decoded-writes : (at : ℕ) (d : Reply (Read Instruction)) → WritesOnlyWhenDone (stepOf x (λ (p : Plan). planEffect (x .constants) p s) at d .effect)
   decoded-writes at (reply.refused n) = refused-writes n detail.None
-  decoded-writes at (reply.done i) = plan-writes (checked (registerSize x) (x .tables) (i .value))
+  decoded-writes at (reply.done i) = plan-writes (checked (registerBytes x) (x .tables) (i .value))
 
   -- every step whose number is not 0 writes nothing
   pub step-writes : (at : ℕ) → WritesOnlyWhenDone (stepAt x at s .effect)

@@ -21,7 +21,7 @@ use Rattle.shl.proofs.Plain.{shl-plain}
 use Rattle.gather.proofs.Plain.{gather-plain}
 use Rattle.scatter.specs.Scatter.{scatterEffect}
 use Rattle.scatter.proofs.Plain.{scatter-plain}
-use Rattle.step.specs.State.{Setup, State, registerSize}
+use Rattle.step.specs.State.{Setup, State, registerBytes}
 use Rattle.step.specs.Step.{acted, planEffect, Stepped, stepAt}
 use Rattle.step.proofs.StepOf.{stepOf}
 use Rattle.step.proofs.SameStep.{SameStep, RelatedStates, alike-steps, refused-steps}
@@ -49,7 +49,7 @@ module _ (x : Setup) (s u : State) (r : PlainStates s u) where
 
   decoded-plain : (at : ℕ) (d : Reply (Read Instruction)) → stepped s at d .effect .number ≢ 10 → SameStep PlainStates (stepped s at d) (stepped u at d) s u
   decoded-plain at (reply.refused n) sure = refused-steps SameBytes s u r at n
-  decoded-plain at (reply.done i) sure = alike-steps SameBytes s u r (i .next) _ _ (plan-plain (checked (registerSize x) (x .tables) (i .value)) sure)
+  decoded-plain at (reply.done i) sure = alike-steps SameBytes s u r (i .next) _ _ (plan-plain (checked (registerBytes x) (x .tables) (i .value)) sure)
 
 pub step-plain : (x : Setup) (at : ℕ) (s u : State) → PlainStates s u → stepAt x at s .effect .number ≢ 10 → SameStep PlainStates (stepAt x at s) (stepAt x at u) s u
 unfolding stepAt

@@ -28,7 +28,7 @@ use Rattle.gather.proofs.LaneResults as gather
 use Rattle.gather.proofs.Refusal.{gather-spares-memory}
 use Rattle.scatter.proofs.PairResults as scatter
 use Rattle.scatter.proofs.Refusal.{scatter-spares-registers}
-use Rattle.step.specs.State.{Setup, State, registerSize, lengthsOf}
+use Rattle.step.specs.State.{Setup, State, registerBytes, lengthsOf}
 use Rattle.step.specs.Step.{acted, planEffect, Stepped, stepAt, after}
 use Rattle.step.specs.Leaves.{ResultsFor, Leaves}
 use Rattle.step.specs.Completes.{Completes}
@@ -40,7 +40,7 @@ use Rattle.step.proofs.AcceptedLaws.{plan-refuses, plan-passes}
 
 -- the step at an instruction
 step-is : (x : Setup) (s : State) (at : ℕ) (i : Instruction) (next : ℕ) → instructionAt (x .kernel) at ≡ got i next
-    → stepAt x at s ≡ record { next = next; effect = planEffect (x .constants) (checked (registerSize x) (x .tables) i) s }
+    → stepAt x at s ≡ record { next = next; effect = planEffect (x .constants) (checked (registerBytes x) (x .tables) i) s }
 unfolding stepAt
 step-is x s at i next is = ap (stepOf x (λ (p : Plan). planEffect (x .constants) p s) at) is
 
@@ -81,8 +81,8 @@ module _ (x : Setup) (s : State) (good : tablesGood (lengthsOf x s) (x .tables) 
       }
 
   -- by the size that is chosen, which is the one that the tables were judged by
-  chosen-sound : (i : Instruction) → checked (registerSize x) (x .tables) i .number ≡ 0
-      → Sound (length (s .registers .bytes)) (length (s .surfaces .bytes)) (checked (registerSize x) (x .tables) i)
+  chosen-sound : (i : Instruction) → checked (registerBytes x) (x .tables) i .number ≡ 0
+      → Sound (length (s .registers .bytes)) (length (s .surfaces .bytes)) (checked (registerBytes x) (x .tables) i)
   chosen-sound i =
       subst (λ (n : ℕ). checked n (x .tables) i .number ≡ 0 → Sound (length (s .registers .bytes)) (length (s .surfaces .bytes)) (checked n (x .tables) i))
       (sym (chosen-good (x .constants .«register_size») (limited (lengthsOf x s) (x .tables) good .size-good)))
@@ -90,9 +90,9 @@ module _ (x : Setup) (s : State) (good : tablesGood (lengthsOf x s) (x .tables) 
 
   -- the instruction at a position, decoded and not refused
   step-leaves : (at : ℕ) (i : Instruction) (next : ℕ) → instructionAt (x .kernel) at ≡ got i next → stepAt x at s .effect .number ≡ 0
-      → Leaves x (checked (registerSize x) (x .tables) i) s (after (stepAt x at s .effect) s)
+      → Leaves x (checked (registerBytes x) (x .tables) i) s (after (stepAt x at s .effect) s)
   step-leaves at i next is done =
-      let p = checked (registerSize x) (x .tables) i in
+      let p = checked (registerBytes x) (x .tables) i in
       let effect : stepAt x at s .effect ≡ planEffect (x .constants) p s = ap (λ (t : Stepped). t .effect) (step-is x s at i next is) in
       let done′ : planEffect (x .constants) p s .number ≡ 0 = sym (ap (λ (e : Effect). e .number) effect) ∙ done in
       let zero : p .number ≡ 0 = accepted p done′ in

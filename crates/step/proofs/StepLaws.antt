@@ -14,7 +14,7 @@ use Rattle.decoder.specs.Decoding.{instructionAt, decodedReply}
 use Rattle.plan.specs.declared.Plan.{Plan}
 use Rattle.plan.specs.Checked.{checked}
 use Rattle.step.specs.declared.Progress.{Progress}
-use Rattle.step.specs.State.{Setup, State, registerSize}
+use Rattle.step.specs.State.{Setup, State, registerBytes}
 use Rattle.step.specs.Step.{planEffect, Stepped, stepAt, after}
 use Rattle.step.proofs.StepOf.{stepOf}
 use Rattle.step.proofs.Unwritten.{unwritten}
@@ -33,10 +33,10 @@ module _ (x : Setup) (at : ℕ) (s : State) where
   unchanged n = λ i. record { registers = unwritten [] (s .registers) refl i; surfaces = s .surfaces; memory = unwritten [] (s .memory) refl i }
 
   module _ (d : Decoded) (told : decodedReply d ≡ instructionAt (x .kernel) at) where
-    pub accepted-advances : (i : Instruction) (c : Cursor) (p : Plan) (r : Status) (u : State) → d ≡ decoded.Accepted i c → p ≡ checked (registerSize x) (x .tables) i → (r .number ≡ planEffect (x .constants) p s .number) × (r .detail ≡ planEffect (x .constants) p s .detail) × (u ≡ after (planEffect (x .constants) p s) s)
+    pub accepted-advances : (i : Instruction) (c : Cursor) (p : Plan) (r : Status) (u : State) → d ≡ decoded.Accepted i c → p ≡ checked (registerBytes x) (x .tables) i → (r .number ≡ planEffect (x .constants) p s .number) × (r .detail ≡ planEffect (x .constants) p s .detail) × (u ≡ after (planEffect (x .constants) p s) s)
         → Takes s (stepAt x at s) (record { number = r .number; detail = r .detail; next = c .at }) u
     accepted-advances i c p r u is plan done =
-        let taken : Takes s (record { next = c .at; effect = planEffect (x .constants) (checked (registerSize x) (x .tables) i) s }) (record { number = r .number; detail = r .detail; next = c .at }) u =
+        let taken : Takes s (record { next = c .at; effect = planEffect (x .constants) (checked (registerBytes x) (x .tables) i) s }) (record { number = r .number; detail = r .detail; next = c .at }) u =
         (done .0 ∙ ap (λ (q : Plan). planEffect (x .constants) q s .number) plan, done .1 ∙ ap (λ (q : Plan). planEffect (x .constants) q s .detail) plan, refl, done .2 ∙ ap (λ (q : Plan). after (planEffect (x .constants) q s) s) plan)
         in
         subst (λ (t : Stepped). Takes s t (record { number = r .number; detail = r .detail; next = c .at }) u) (stepped (decodedReply (decoded.Accepted i c)) (sym told ∙ ap decodedReply is)) taken

@@ -17,7 +17,7 @@ use Rattle.shl.specs.Shl.{shlEffect}
 use Rattle.gather.specs.Gather.{gatherEffect}
 use Rattle.scatter.specs.Offending.{ScatterTells, done}
 use Rattle.scatter.proofs.FirstPair.{scatter-tells}
-use Rattle.step.specs.State.{Setup, State, registerSize}
+use Rattle.step.specs.State.{Setup, State, registerBytes}
 use Rattle.step.specs.Step.{acted, planEffect, stepAt}
 use Rattle.step.specs.FirstFailing.{window}
 use Rattle.step.specs.Tells.{Tells, undecoded, tested, performed}
@@ -26,7 +26,7 @@ use Rattle.step.proofs.AcceptedLaws.{plan-refuses, plan-passes}
 
 module _ (x : Setup) (s : State) where
   abbrev planned : Instruction → Plan
-  planned i = checked (registerSize x) (x .tables) i
+  planned i = checked (registerBytes x) (x .tables) i
 
   -- what an accepted instruction's own tests tell
   abbrev Own : Instruction → Effect → Type 0
@@ -37,11 +37,11 @@ module _ (x : Setup) (s : State) where
 
   pub own-tells : (i : Instruction) → planned i .number ≡ 0 → Own i (acted (x .constants) (planned i .operation) (planned i) s)
   unfolding acted shlEffect gatherEffect
-  own-tells (instruction.Shl i) z = acts-as (instruction.Shl i) _ (plan-keeps (registerSize x) (x .tables) (instruction.Shl i) z .operation) done
-  own-tells (instruction.Gather i) z = acts-as (instruction.Gather i) _ (plan-keeps (registerSize x) (x .tables) (instruction.Gather i) z .operation) done
+  own-tells (instruction.Shl i) z = acts-as (instruction.Shl i) _ (plan-keeps (registerBytes x) (x .tables) (instruction.Shl i) z .operation) done
+  own-tells (instruction.Gather i) z = acts-as (instruction.Gather i) _ (plan-keeps (registerBytes x) (x .tables) (instruction.Gather i) z .operation) done
   own-tells (instruction.Scatter i) z =
-      acts-as (instruction.Scatter i) _ (plan-keeps (registerSize x) (x .tables) (instruction.Scatter i) z .operation) (scatter-tells (window x s) (x .constants .mask) (planned (instruction.Scatter i)) (s .registers))
-  own-tells (instruction.RawSend i) z = absurd (plan-keeps (registerSize x) (x .tables) (instruction.RawSend i) z)
+      acts-as (instruction.Scatter i) _ (plan-keeps (registerBytes x) (x .tables) (instruction.Scatter i) z .operation) (scatter-tells (window x s) (x .constants .mask) (planned (instruction.Scatter i)) (s .registers))
+  own-tells (instruction.RawSend i) z = absurd (plan-keeps (registerBytes x) (x .tables) (instruction.RawSend i) z)
 
   module _ (at : ℕ) where
     abbrev Told : Effect → Type 0
@@ -55,7 +55,7 @@ module _ (x : Setup) (s : State) where
         asked zero e = subst Told (sym (plan-passes (planned (i .value)) _ e)) (performed is e (own-tells (i .value) e))
         asked (suc n) e =
             subst Told (sym (plan-refuses (planned (i .value)) _ (omega (arith, e))))
-            (subst (λ (k : ℕ). Tells x at s k (planned (i .value) .detail)) (sym e) (tested is e (plan-names (registerSize x) (x .tables) (i .value))))
+            (subst (λ (k : ℕ). Tells x at s k (planned (i .value) .detail)) (sym e) (tested is e (plan-names (registerBytes x) (x .tables) (i .value))))
 
     pub step-tells : Told (stepAt x at s .effect)
     unfolding stepAt

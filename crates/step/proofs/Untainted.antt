@@ -19,7 +19,7 @@ use Rattle.shl.proofs.Untainted.{shl-alike}
 use Rattle.gather.proofs.Untainted.{gather-alike}
 use Rattle.scatter.specs.Scatter.{scatterEffect}
 use Rattle.scatter.proofs.Untainted.{scatter-alike}
-use Rattle.step.specs.State.{Setup, State, registerSize}
+use Rattle.step.specs.State.{Setup, State, registerBytes}
 use Rattle.step.specs.Step.{acted, planEffect, Stepped, stepAt}
 use Rattle.step.proofs.StepOf.{stepOf}
 use Rattle.step.proofs.SameStep.{SameStep, RelatedStates, alike-steps, refused-steps}
@@ -47,7 +47,7 @@ module _ (x : Setup) (s u : State) (r : AgreeingStates s u) where
 
   decoded-same : (at : ℕ) (d : Reply (Read Instruction)) → SameStep AgreeingStates (stepped s at d) (stepped u at d) s u
   decoded-same at (reply.refused n) = refused-steps SameUntainted s u r at n
-  decoded-same at (reply.done i) = alike-steps SameUntainted s u r (i .next) _ _ (plan-alike (checked (registerSize x) (x .tables) (i .value)))
+  decoded-same at (reply.done i) = alike-steps SameUntainted s u r (i .next) _ _ (plan-alike (checked (registerBytes x) (x .tables) (i .value)))
 
 pub step-same : (x : Setup) (at : ℕ) (s u : State) → AgreeingStates s u → SameStep AgreeingStates (stepAt x at s) (stepAt x at u) s u
 unfolding stepAt

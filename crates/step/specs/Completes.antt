@@ -5,7 +5,7 @@ use Rattle.reader.specs.Reply.{got}
 use Rattle.decoder.specs.declared.Instruction.{Instruction}
 use Rattle.decoder.specs.Decoding.{instructionAt}
 use Rattle.plan.specs.Checked.{checked}
-use Rattle.step.specs.State.{Setup, State, registerSize}
+use Rattle.step.specs.State.{Setup, State, registerBytes}
 use Rattle.step.specs.Leaves.{Leaves}
 use Rattle.step.specs.FirstFailing.{firstFailing}
 
@@ -14,4 +14,4 @@ pub record Completes (x : Setup) (at : ℕ) (s : State) (next : ℕ) (u : State)
   pub instruction : Instruction
   pub decodes : instructionAt (x .kernel) at ≡ got instruction next
   pub passes : firstFailing x at s ≡ 0
-  pub leaves : Leaves x (checked (registerSize x) (x .tables) instruction) s u
+  pub leaves : Leaves x (checked (registerBytes x) (x .tables) instruction) s u

@@ -15,7 +15,7 @@ use Rattle.plan.specs.Checked.{checked}
 use Rattle.staging.specs.Lanes.{lanesOn}
 use Rattle.staging.specs.Sources.{eitherTainted}
 use Rattle.scatter.specs.Scatter.{Window, channelsOn, target, misaligned, outside}
-use Rattle.step.specs.State.{Setup, State, registerSize}
+use Rattle.step.specs.State.{Setup, State, registerBytes}
 
 -- the number of the test that comes first, if it fails, else that of the later one
 abbrev pub firstOf : ℕ → ℕ → ℕ
@@ -45,4 +45,4 @@ unfoldable pub firstFailing : Setup → ℕ → State → ℕ
 firstFailing x at s =
     onReply (instructionAt (x .kernel) at)
     (λ n. n)
-    (λ i. firstOf (checked (registerSize x) (x .tables) (i .value) .number) (dataTests x (i .value) (checked (registerSize x) (x .tables) (i .value)) s))
+    (λ i. firstOf (checked (registerBytes x) (x .tables) (i .value) .number) (dataTests x (i .value) (checked (registerBytes x) (x .tables) (i .value)) s))

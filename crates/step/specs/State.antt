@@ -28,9 +28,9 @@ abbrev pub state : List ℕ → List ℕ → List ℕ → List ℕ → List ℕ 
 state registers registerTaint surfaces surfaceTaint memory memoryTaint =
     record { registers = buffer registers registerTaint; surfaces = buffer surfaces surfaceTaint; memory = buffer memory memoryTaint }
 
--- the bytes of a register
-abbrev pub registerSize : Setup → ℕ
-registerSize x = chosenSize (x .constants .«register_size»)
+-- the bytes of a register, as the run chose (`chosenSize`: in a run that is not 13, the number itself)
+abbrev pub registerBytes : Setup → ℕ
+registerBytes x = chosenSize (x .constants .«register_size»)
 
 -- all lengths that 13 looks at, and the register size
 abbrev pub lengthsOf : Setup → State → Lengths

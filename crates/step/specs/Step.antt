@@ -17,7 +17,7 @@ use Rattle.shl.specs.Shl.{shlEffect}
 use Rattle.gather.specs.Gather.{gatherEffect}
 use Rattle.scatter.specs.Scatter.{scatterEffect}
 use Rattle.step.specs.declared.Constants.{Constants}
-use Rattle.step.specs.State.{Setup, State, registerSize}
+use Rattle.step.specs.State.{Setup, State, registerBytes}
 
 -- No memory byte is read: memory enters by its length alone. No accepted plan is without an operation; 9 would be its number.
 unfoldable pub acted : Constants → Operation → Plan → State → Effect
@@ -40,7 +40,7 @@ unfoldable pub stepAt : Setup → ℕ → State → Stepped
 stepAt x at s =
     onReply (instructionAt (x .kernel) at)
     (λ n. record { next = at; effect = refused n detail.None })
-    (λ i. record { next = i .next; effect = planEffect (x .constants) (checked (registerSize x) (x .tables) (i .value)) s })
+    (λ i. record { next = i .next; effect = planEffect (x .constants) (checked (registerBytes x) (x .tables) (i .value)) s })
 
 -- the state after an effect; surfaces are never written
 abbrev pub after : Effect → State → State

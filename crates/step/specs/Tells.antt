@@ -10,7 +10,7 @@ use Rattle.decoder.specs.Decoding.{instructionAt}
 use Rattle.plan.specs.Checked.{checked}
 use Rattle.plan.specs.Places.{NamesOf}
 use Rattle.scatter.specs.Offending.{ScatterTells}
-use Rattle.step.specs.State.{Setup, State, registerSize}
+use Rattle.step.specs.State.{Setup, State, registerBytes}
 use Rattle.step.specs.FirstFailing.{window}
 
 module _ (x : Setup) (at : ℕ) (s : State) where
@@ -18,8 +18,8 @@ module _ (x : Setup) (at : ℕ) (s : State) where
     -- decoding's numbers tell nothing
     undecoded : {n : ℕ} → instructionAt (x .kernel) at ≡ refused n → Tells n detail.None
     -- those of the tests before data name the operand that its region refuses, by its own rule, or none
-    tested : {i : Instruction} {next n : ℕ} → instructionAt (x .kernel) at ≡ got i next → checked (registerSize x) (x .tables) i .number ≡ suc n → NamesOf (registerSize x) (x .tables) i (checked (registerSize x) (x .tables) i)
-        → Tells (suc n) (checked (registerSize x) (x .tables) i .detail)
+    tested : {i : Instruction} {next n : ℕ} → instructionAt (x .kernel) at ≡ got i next → checked (registerBytes x) (x .tables) i .number ≡ suc n → NamesOf (registerBytes x) (x .tables) i (checked (registerBytes x) (x .tables) i)
+        → Tells (suc n) (checked (registerBytes x) (x .tables) i .detail)
     -- those of the tests of data name the first pair, or none
-    performed : {i : Instruction} {next n : ℕ} {d : Detail} → instructionAt (x .kernel) at ≡ got i next → checked (registerSize x) (x .tables) i .number ≡ 0
-        → ScatterTells (window x s) (x .constants .mask) (checked (registerSize x) (x .tables) i) (s .registers .bytes) n d → Tells n d
+    performed : {i : Instruction} {next n : ℕ} {d : Detail} → instructionAt (x .kernel) at ≡ got i next → checked (registerBytes x) (x .tables) i .number ≡ 0
+        → ScatterTells (window x s) (x .constants .mask) (checked (registerBytes x) (x .tables) i) (s .registers .bytes) n d → Tells n d

@@ -127,7 +127,7 @@ variables-at-edges =
     )
     (refl, refl, refl, refl, refl, refl, refl, refl, refl, refl, refl, refl, refl, refl)
 
--- document 02, request 5: the same at either size, and sizes that no card has
+-- document 02, request 5: the same tables at either size, and sizes that no card has
 sizes-at-edges : (variableIn 32 128 UD 32 16 ≡ true)
     × (variableIn 64 128 UD 32 16 ≡ false)
     × (variableIn 32 128 UD 16 8 ≡ false)

@@ -1,4 +1,4 @@
--- What good lengths are: each limit of `lengthsGood` as a fact. Of a register's size all that laws ask is that it is 32 or 64, or not 0.
+-- What good lengths are: each limit of `lengthsGood` as a fact; and what a register's size is: 32 or 64, so not 0.
 use mathlib.Core.Path.{_≡_, refl}
 use mathlib.Core.Bool.{Bool, true, false, cond, _&&_, _||_}
 use Prim.Native.Nat.{ℕ, _+_, _%_, _^_, _≤_, _<_}

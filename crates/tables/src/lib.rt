@@ -36,7 +36,7 @@ fn register_size_good(register_size: u8) -> bool
     (register_size == 32) | (register_size == 64)
 }
 
-// The bytes of a register, 64 or 32, in a run that chose this number; 13 comes before any number but these two is used.
+// The bytes of a register in a run that chose this number: 64 for 64, else 32. A run that chose neither is 13 before this is asked.
 pub fn chosen_size(number: u8) -> u8
     ensures { λ r. ⌜ r ≡ chosenSize number ⌝ }
 {

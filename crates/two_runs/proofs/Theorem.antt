@@ -1,4 +1,4 @@
--- Demand 3, one claim about whole runs: for every kernel, tables, base and mask, two runs whose marks are equal and whose unmarked bytes
+-- Demand 3, one claim about whole runs: for every kernel, tables, base, mask and register size, two runs whose marks are equal and whose unmarked bytes
 -- agree give the same answer, whatever it is, and end with equal marks and equal unmarked bytes; their predicates may differ in bits at or past their counts.
 use mathlib.Core.Path.{_≡_, refl, sym, ap, subst, _∙_}
 use mathlib.Core.Bool.{Bool, true, false, cond}

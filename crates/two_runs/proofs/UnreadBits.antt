@@ -40,7 +40,7 @@ use Rattle.gather.specs.Gather.{isRead, gatheredByte, gatheredMark, gatherWrite
 use Rattle.scatter.specs.Scatter.{channelsOn, target, sourceByte, scatterPair, firstOffending, scatterEffect}
 use Rattle.scatter.proofs.AmongAlike.{among-alike}
 use Rattle.step.specs.declared.Constants.{Constants}
-use Rattle.step.specs.State.{Setup, State, registerSize, lengthsOf}
+use Rattle.step.specs.State.{Setup, State, registerBytes, lengthsOf}
 use Rattle.step.specs.Step.{Stepped, acted, planEffect, stepAt}
 use Rattle.step.proofs.StepOf.{stepOf}
 use Rattle.run.specs.Run.{stopped, runFrom, run}
@@ -138,14 +138,14 @@ module _ (x : Setup) (other : Predicates) (same : SamePredicates (x .tables .pre
   abbrev y : Setup
   y = record { kernel = x .kernel; tables = tables (x .tables .variables) other (x .tables .surfaces); constants = x .constants }
 
-  effect-alike : (s : State) (i : Instruction) → planEffect (x .constants) (checked (registerSize x) (x .tables) i) s ≡ planEffect (x .constants) (checked (registerSize y) (y .tables) i) s
+  effect-alike : (s : State) (i : Instruction) → planEffect (x .constants) (checked (registerBytes x) (x .tables) i) s ≡ planEffect (x .constants) (checked (registerBytes y) (y .tables) i) s
   unfolding checked
   effect-alike s i =
       let id = predicateId (controlOf i .pred) in
       let p = x .tables .predicates in
       rw (← refusal-alike p other same id (controlOf i))
       (tested-alike (x .constants) s (controlRefusal (predicateAt p id) (controlOf i)) detail.None _ _
-      (λ z. instruction-alike (x .constants) s (registerSize x) (x .tables) other i _ _ (passed-alike p other same id (controlOf i) z)))
+      (λ z. instruction-alike (x .constants) s (registerBytes x) (x .tables) other i _ _ (passed-alike p other same id (controlOf i) z)))
 
   step-alike : (at : ℕ) (s : State) → stepAt x at s ≡ stepAt y at s
   unfolding stepAt

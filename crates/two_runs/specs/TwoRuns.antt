@@ -32,7 +32,7 @@ pub record SamePredicates (p q : Predicates) : Type 0 where
   pub counts : p .counts ≡ q .counts
   pub elements : (id k : ℕ) → k < getD (p .counts) id 0 → bit (getD (p .bits) id 0) k ≡ bit (getD (q .bits) id 0) k
 
--- equal kernel, tables, base and mask, but for such bits
+-- equal kernel, tables, base, mask and register size, but for such bits
 pub record SameSetup (x y : Setup) : Type 0 where
   pub kernel : x .kernel ≡ y .kernel
   pub variables : x .tables .variables ≡ y .tables .variables

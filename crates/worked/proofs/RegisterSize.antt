@@ -30,7 +30,7 @@ pub crossing-64 :
 unfolding output-opened
 crossing-64 = refl
 
--- with 32 it does: 13
+-- with 32 it is as long as a register and starts none: 13
 pub crossing-32 :
     caseFileOutput (crossing)
     ≡ lineOf (hex 8 0x400d000000000000)

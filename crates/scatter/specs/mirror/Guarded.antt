@@ -1,4 +1,4 @@
--- What a scatter does with any plan at all. Decoding admits 8 and 16 lanes only, and the guard asks for at most 16: a decoded and checked
+-- What a scatter does with any plan at all. Decoding admits 8 and 16 lanes only, and the guard asks for at most 16, and for channels at most 16 dwords apart: a decoded and checked
 -- scatter passes (`sound-fits` in `proofs/SoundLaws.antt`; `planned-fits` of the crate step). A plan whose elements have no place in the room is
 -- refused with 7 and writes nothing.
 use Prim.Native.Nat.{ℕ}
