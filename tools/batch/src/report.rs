@@ -1,0 +1,334 @@
+//! The report as text: the differences first, then what both agree on, then the summary.
+
+use std::collections::BTreeMap;
+use std::fmt::Write;
+
+use crate::answer::Head;
+use crate::compare::{Comparison, Counts};
+use crate::folders::Case;
+use crate::run::Outcome;
+use crate::words::{amount, grouped, shown, Meanings};
+
+/// A case with all that is known of it.
+pub struct Entry<'a> {
+    pub case: &'a Case,
+    pub outcome: Outcome,
+    /// With a card: what differs, or why nothing can be compared. None where the bench has no answer.
+    pub comparison: Option<Result<Comparison, String>>,
+    /// The refused or last instruction, in a sentence, and the one where the card stopped.
+    pub instruction: Option<String>,
+    pub card_instruction: Option<String>,
+}
+
+impl Entry<'_> {
+    pub fn name(&self) -> String {
+        shown(&self.case.name)
+    }
+
+    pub fn head(&self) -> Option<Head> {
+        match &self.outcome {
+            Outcome::Answered { head, .. } => Some(*head),
+            Outcome::NotAnswered(_) => None,
+        }
+    }
+
+    pub fn compared(&self) -> Option<&Comparison> {
+        self.comparison.as_ref()?.as_ref().ok()
+    }
+
+    pub fn not_compared(&self) -> Option<&str> {
+        let wrong = self.comparison.as_ref()?.as_ref().err()?;
+        Some(wrong)
+    }
+
+    pub fn differences(&self) -> usize {
+        self.compared()
+            .map_or(0, |found| found.counts.differences())
+    }
+
+    /// Whether doubtful bytes differ, and nothing else does.
+    pub fn differs_in_doubt_alone(&self) -> bool {
+        self.differences() == 0
+            && self
+                .compared()
+                .is_some_and(|found| !found.doubtful.is_empty())
+    }
+
+    /// What was wrong with a refused case, and where.
+    pub fn refusal(&self) -> Option<String> {
+        let Outcome::Answered { head, why, .. } = &self.outcome else {
+            return None;
+        };
+        let Head {
+            number, position, ..
+        } = *head;
+        match number {
+            0 => None,
+            13 | 14 => {
+                let place = match why {
+                    Some(why) => format!(", {why}"),
+                    None if number == 14 => format!(", line {position}"),
+                    None => String::new(),
+                };
+                Some(format!("{number}{place}"))
+            }
+            _ => {
+                let text = self
+                    .instruction
+                    .as_deref()
+                    .unwrap_or("instruction not known");
+                Some(format!("{number}, {text}"))
+            }
+        }
+    }
+}
+
+pub struct Run<'a> {
+    pub entries: Vec<Entry<'a>>,
+    /// Folders that could not be read.
+    pub unread: Vec<(Vec<u8>, String)>,
+    pub meanings: Meanings,
+    pub has_card: bool,
+    pub seconds: f64,
+}
+
+impl Run<'_> {
+    /// Those that need a writer, most differences first.
+    pub fn differing(&self) -> Vec<&Entry<'_>> {
+        let mut entries: Vec<_> = self.with(|entry| entry.differences() > 0);
+        entries.sort_by_key(|entry| std::cmp::Reverse(entry.differences()));
+        entries
+    }
+
+    pub fn with(&self, wanted: impl Fn(&Entry) -> bool) -> Vec<&Entry<'_>> {
+        self.entries.iter().filter(|entry| wanted(entry)).collect()
+    }
+
+    pub fn not_answered(&self) -> usize {
+        self.with(|entry| entry.head().is_none()).len()
+    }
+
+    /// 0 all equal, 1 differences, 2 something could not be done.
+    pub fn status(&self) -> u8 {
+        let undone = self.not_answered() + self.unread.len();
+        if undone > 0
+            || self
+                .entries
+                .iter()
+                .any(|entry| entry.not_compared().is_some())
+        {
+            2
+        } else {
+            u8::from(self.entries.iter().any(|entry| entry.differences() > 0))
+        }
+    }
+
+    pub fn numbers(&self) -> BTreeMap<u8, usize> {
+        let mut numbers = BTreeMap::new();
+        for head in self.entries.iter().filter_map(Entry::head) {
+            *numbers.entry(head.number).or_insert(0) += 1;
+        }
+        numbers
+    }
+
+    /// What both agree on, in one line.
+    pub fn agreed(&self) -> String {
+        let compared: Vec<_> = self.entries.iter().filter_map(Entry::compared).collect();
+        let equal = compared
+            .iter()
+            .filter(|found| found.counts.differences() == 0 && found.doubtful.is_empty());
+        let sum = |of: fn(&Counts) -> usize| compared.iter().map(|found| of(&found.counts)).sum();
+        let all: usize = sum(|counts| counts.compared);
+        format!(
+            "{} of {} are equal, and {} of {}",
+            grouped(equal.count()),
+            amount(compared.len(), "compared case"),
+            grouped(sum(Counts::equal)),
+            amount(all, "byte")
+        )
+    }
+
+    pub fn time(&self) -> String {
+        let made = |entry: &Entry| matches!(entry.outcome, Outcome::Answered { made: true, .. });
+        let kept = |entry: &Entry| matches!(entry.outcome, Outcome::Answered { made: false, .. });
+        let made = self.with(made).len();
+        let mut text = format!("{:.2} s; {} made", self.seconds, amount(made, "answer"));
+        let kept = self.with(kept).len();
+        if kept > 0 {
+            let _ = write!(text, ", {} there already", grouped(kept));
+        }
+        text
+    }
+
+    /// The line 40 in words.
+    pub fn in_words(&self, head: Head) -> String {
+        let Head {
+            number,
+            completed,
+            position,
+        } = head;
+        let meaning = self.meanings.of(number);
+        let completed = amount(usize::from(completed), "instruction");
+        match number {
+            13 => format!("13, {meaning}"),
+            14 => format!("14, {meaning}, line {position}"),
+            0 => format!("0, {meaning}; {completed} completed, up to byte {position}"),
+            _ => format!("{number}, {meaning}; {completed} completed, refused at byte {position}"),
+        }
+    }
+
+    pub fn text(&self) -> String {
+        let mut lines = Vec::new();
+        if self.has_card {
+            self.tell_differences(&mut lines);
+        }
+        self.tell_summary(&mut lines);
+        lines.push(String::new());
+        lines.join("\n")
+    }
+
+    fn tell_differences(&self, lines: &mut Vec<String>) {
+        let differing = self.differing();
+        lines.push(match differing.len() {
+            0 => "differences: none".to_string(),
+            count => format!("differences: {}, most first", amount(count, "case")),
+        });
+        for entry in &differing {
+            lines.push(String::new());
+            self.tell_case(entry, lines);
+        }
+        lines.push(String::new());
+        let doubtful = self.with(|entry| entry.differs_in_doubt_alone());
+        if !doubtful.is_empty() {
+            let count = amount(doubtful.len(), "case");
+            lines.push(format!(
+                "only doubtful bytes differ, needs no writer: {count}"
+            ));
+            for entry in doubtful {
+                lines.push(String::new());
+                self.tell_case(entry, lines);
+            }
+            lines.push(String::new());
+        }
+        let not_compared = self.with(|entry| entry.not_compared().is_some());
+        if !not_compared.is_empty() {
+            let count = amount(not_compared.len(), "case");
+            lines.push(format!("could not be compared: {count}"));
+            for entry in not_compared {
+                let wrong = entry.not_compared().unwrap_or_default();
+                lines.push(format!("  {}: {wrong}", entry.name()));
+            }
+            lines.push(String::new());
+        }
+        lines.push(format!("both agree: {}", self.agreed()));
+        lines.push(String::new());
+    }
+
+    fn tell_case(&self, entry: &Entry, lines: &mut Vec<String>) {
+        let name = entry.name();
+        let counts = entry.compared().map(|found| found.counts);
+        let counts = counts.unwrap_or_default();
+        lines.push(format!("{name}: {}", in_counts(&counts)));
+        lines.extend(self.details(entry).iter().map(|line| format!("  {line}")));
+    }
+
+    /// What is told of a case's differences, a line each; those of doubtful bytes come last, further in.
+    pub fn details(&self, entry: &Entry) -> Vec<String> {
+        let mut lines = Vec::new();
+        let Some(found) = entry.compared() else {
+            return lines;
+        };
+        match found.heads {
+            Some((bench, card)) => {
+                lines.push(format!("bench: {}", self.in_words(bench)));
+                lines.push(format!("card:  {}", self.in_words(card)));
+            }
+            None => {
+                if let Some(head) = entry.head() {
+                    lines.push(format!("both: {}", self.in_words(head)));
+                }
+            }
+        }
+        lines.extend(entry.instruction.clone());
+        lines.extend(entry.card_instruction.clone());
+        lines.extend(found.lines.iter().cloned());
+        if !found.doubtful.is_empty() {
+            lines.push("doubtful, needs no writer:".to_string());
+            lines.extend(found.doubtful.iter().map(|line| format!("  {line}")));
+        }
+        lines
+    }
+
+    fn tell_summary(&self, lines: &mut Vec<String>) {
+        let all = self.entries.len();
+        let not_answered = self.with(|entry| entry.head().is_none());
+        lines.push(format!("cases: {}", grouped(all)));
+        lines.push(format!("answers: {}", grouped(all - not_answered.len())));
+        let numbers = self.numbers();
+        let most = numbers.values().max().copied().unwrap_or(0);
+        let width = grouped(most).len();
+        for (number, count) in numbers {
+            let count = grouped(count);
+            let meaning = self.meanings.of(number);
+            lines.push(format!("  {count:>width$} with {number}, {meaning}"));
+        }
+        let refused = self.with(|entry| entry.refusal().is_some());
+        if !refused.is_empty() {
+            lines.push(format!("refused: {}", grouped(refused.len())));
+            for entry in refused {
+                let refusal = entry.refusal().unwrap_or_default();
+                lines.push(format!("  {}: {refusal}", entry.name()));
+            }
+        }
+        if !not_answered.is_empty() {
+            lines.push(format!("not answered: {}", grouped(not_answered.len())));
+            for entry in not_answered {
+                if let Outcome::NotAnswered(wrong) = &entry.outcome {
+                    lines.push(format!("  {}: {wrong}", entry.name()));
+                }
+            }
+        }
+        if !self.unread.is_empty() {
+            let count = grouped(self.unread.len());
+            lines.push(format!("folders that cannot be read: {count}"));
+            for (name, wrong) in &self.unread {
+                lines.push(format!("  {}: {wrong}", shown(name)));
+            }
+        }
+        lines.push(format!("time: {}", self.time()));
+    }
+}
+
+/// `5 differences: number, 4 register bytes`.
+pub fn in_counts(counts: &Counts) -> String {
+    let mut parts = Vec::new();
+    if counts.head > 0 {
+        parts.push(format!("{} of the line 40", counts.head));
+    }
+    if counts.shape > 0 {
+        parts.push(format!("{} of length or base", counts.shape));
+    }
+    for (count, noun) in [
+        (counts.register_bytes, "register byte"),
+        (counts.memory_bytes, "memory byte"),
+        (counts.marks, "mark"),
+    ] {
+        if count > 0 {
+            parts.push(amount(count, noun));
+        }
+    }
+    let mut text = String::new();
+    if !parts.is_empty() {
+        let all = amount(counts.differences(), "difference");
+        text = format!("{all} ({})", parts.join(", "));
+    }
+    if counts.doubtful_bytes > 0 {
+        let and = if text.is_empty() { "" } else { ", and " };
+        let _ = write!(
+            text,
+            "{and}{}",
+            amount(counts.doubtful_bytes, "doubtful byte")
+        );
+    }
+    text
+}
