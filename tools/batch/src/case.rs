@@ -160,7 +160,7 @@ mod tests {
 
     #[test]
     fn a_case() {
-        let text = b"0100\n020210000800\n0b40\n0724\n02070000\x300100";
+        let text = b"0100\n020210000800\n0b40\n0724\n020700000100";
         let case = CaseFile::read(text).unwrap();
         assert_eq!(case.register_size, 64);
         assert_eq!(case.kernel, [0x24]);

@@ -6,6 +6,7 @@ mod compare;
 mod folders;
 mod hex;
 mod listing;
+mod map;
 mod options;
 mod page;
 mod progress;
@@ -121,7 +122,7 @@ fn batch(options: &Options) -> Result<u8, Stop> {
         seconds: 0.0,
     };
     let mut status = 0;
-    if !tell_instructions(&mut run, options, answers) {
+    if !tell_instructions(&mut run, options) {
         say("the program listing broke off; the instructions are not told");
         status = 2;
     }
@@ -240,7 +241,7 @@ pub fn read_case(case: &Case, head: Head) -> Result<CaseFile, String> {
 }
 
 /// Puts the refused or last instruction beside each case that is refused or differs. False where the listing broke off.
-fn tell_instructions(run: &mut Run, options: &Options, answers: &Path) -> bool {
+fn tell_instructions(run: &mut Run, options: &Options) -> bool {
     let mut wanted = Vec::new();
     for (index, entry) in run.entries.iter().enumerate() {
         let Some(head) = entry.head().filter(|head| !head.nothing_ran()) else {
@@ -254,7 +255,6 @@ fn tell_instructions(run: &mut Run, options: &Options, answers: &Path) -> bool {
             wanted.push((index, head, case.kernel));
         }
     }
-    let _ = answers;
     let kernels: Vec<&[u8]> = wanted.iter().map(|(_, _, kernel)| &kernel[..]).collect();
     let Some(listings) = listing::list(&options.listing, &kernels) else {
         return false;
