@@ -297,7 +297,7 @@ fn register_place(variables: &[Variable], first: usize, last: usize) -> String {
         let Some(from) = elements.next() else {
             continue;
         };
-        let to = elements.last().unwrap_or(from);
+        let to = elements.next_back().unwrap_or(from);
         names.push(if from == to {
             element_name(number, from)
         } else {

@@ -90,8 +90,11 @@ fn batch(options: &Options) -> Result<u8, Stop> {
     let answers = options.out.as_deref().unwrap_or(&options.folder);
     look_at_folders(options)?;
     let Found { cases, unread } = find_cases(&options.folder);
+    let name = name_of(&options.folder);
+    if let Some((_, wrong)) = unread.iter().find(|(below, _)| below.is_empty()) {
+        return Err(Stop::Failure(format!("{name} cannot be read: {wrong}")));
+    }
     if cases.is_empty() && unread.is_empty() {
-        let name = name_of(&options.folder);
         return Err(Stop::Failure(format!("there is no case below {name}")));
     }
     if let Some(card) = &options.card {
@@ -136,7 +139,7 @@ fn batch(options: &Options) -> Result<u8, Stop> {
         }
     }
     write_out(&run.text())?;
-    say(&last_line(&run));
+    say(&format!("{}; {:.2} s", run.outline(), run.seconds));
     Ok(status.max(run.status()))
 }
 
@@ -286,27 +289,4 @@ fn tell_instructions(run: &mut Run, options: &Options) -> bool {
             .map(|text| format!("card: {text}"));
     }
     true
-}
-
-/// What is said on standard error when all is done.
-fn last_line(run: &Run) -> String {
-    let all = run.entries.len();
-    let mut text = format!("{} in {:.2} s", amount(all, "case"), run.seconds);
-    let not_answered = run.not_answered();
-    if not_answered > 0 {
-        text.push_str(&format!(", {} not answered", grouped(not_answered)));
-    }
-    if run.has_card {
-        let differing = run.differing().len();
-        text.push_str(&match differing {
-            0 => ", no differences".to_string(),
-            1 => ", 1 differs".to_string(),
-            _ => format!(", {} differ", grouped(differing)),
-        });
-        let not_compared = run.with(|entry| entry.not_compared().is_some()).len();
-        if not_compared > 0 {
-            text.push_str(&format!(", {} not compared", grouped(not_compared)));
-        }
-    }
-    text
 }

@@ -4,40 +4,41 @@ use std::fmt::Write;
 
 use crate::answer::Buffers;
 use crate::case::{CaseFile, Variable};
-use crate::compare::element_name;
-use crate::hex;
 
 const ROW: usize = 32;
 
-/// Classes of cells, in the style: x differs, d is doubtful, m has another mark; of pieces: v0 to v5 the colours, s and e where a variable starts and ends.
+/// A row is its first byte and its bytes, in characters of one width: the script of the page finds the byte below the pointer by them, and
+/// what it tells by `data-v`, the variables, and `data-c`, the card's bytes where they differ. Classes of bytes: x differs, d is doubtful, m has
+/// another mark.
 pub fn map(case: &CaseFile, bench: &Buffers, card: Option<&Buffers>) -> String {
     let map = Map {
         variables: &case.variables,
-        covers: covers(&case.variables, bench.registers.len()),
+        register_size: case.register_size,
         bench,
         card,
     };
     let length = bench.registers.len();
-    let mut html = String::from("<div class=map>\n");
+    let variables: Vec<_> = case
+        .variables
+        .iter()
+        .map(|of| format!("{} {} {}", of.kind.name(), of.start, of.count))
+        .collect();
+    let mut html = format!("<div class=map data-v=\"{}\">\n", variables.join(","));
     let mut row = 0;
     while row < length {
-        let quiet = (row..length).step_by(ROW);
-        let quiet = quiet.take_while(|&row| map.is_quiet(row)).count();
+        let rows = (row..length).step_by(ROW);
+        let quiet = rows.take_while(|&row| map.is_quiet(row)).count();
         if quiet > 1 {
             let end = (row + quiet * ROW).min(length);
             let _ = writeln!(
                 html,
-                "<div class=quiet>{row} to {}: in no variable, nothing to show</div>",
+                "<div>{row} to {}: in no variable, nothing to show</div>",
                 end - 1
             );
             row = end;
             continue;
         }
-        let starts = row > 0 && case.register_size > ROW && row.is_multiple_of(case.register_size);
-        let class = if starts { "\"row register\"" } else { "row" };
-        let _ = write!(html, "<div class={class}><b>{row}</b>");
         map.write_row(row, &mut html);
-        html.push_str("</div>\n");
         row += ROW;
     }
     html.push_str("</div>\n");
@@ -46,31 +47,16 @@ pub fn map(case: &CaseFile, bench: &Buffers, card: Option<&Buffers>) -> String {
 
 struct Map<'a> {
     variables: &'a [Variable],
-    /// Of each byte the variables and elements that have it.
-    covers: Vec<Vec<(usize, usize)>>,
+    register_size: usize,
     bench: &'a Buffers,
     card: Option<&'a Buffers>,
 }
 
-fn covers(variables: &[Variable], length: usize) -> Vec<Vec<(usize, usize)>> {
-    let mut covers = vec![Vec::new(); length];
-    for (number, variable) in variables.iter().enumerate() {
-        for byte in variable.start..variable.end().min(length) {
-            let element = variable.element_at(byte);
-            covers[byte].extend(element.map(|element| (number, element)));
-        }
-    }
-    covers
-}
-
 impl Map<'_> {
-    fn card_byte(&self, byte: usize) -> Option<u8> {
-        self.card?.registers.get(byte).copied()
-    }
-
-    fn differs(&self, byte: usize) -> bool {
-        let card = self.card_byte(byte);
-        card.is_some_and(|card| card != self.bench.registers[byte])
+    /// The card's byte, where it is another.
+    fn other_byte(&self, byte: usize) -> Option<u8> {
+        let card = self.card?.registers.get(byte).copied();
+        card.filter(|card| *card != self.bench.registers[byte])
     }
 
     fn is_doubtful(&self, byte: usize) -> bool {
@@ -82,129 +68,104 @@ impl Map<'_> {
         card.is_some_and(|card| card != self.is_doubtful(byte))
     }
 
-    fn is_quiet(&self, row: usize) -> bool {
-        (row..(row + ROW).min(self.covers.len())).all(|byte| {
-            let has_something = self.differs(byte) || self.is_doubtful(byte);
-            self.covers[byte].is_empty() && !has_something && !self.has_other_mark(byte)
-        })
+    fn end_of(&self, row: usize) -> usize {
+        (row + ROW).min(self.bench.registers.len())
     }
 
-    /// In pieces of bytes that the same elements have.
+    fn is_quiet(&self, row: usize) -> bool {
+        let end = self.end_of(row);
+        let is_bare = |variable: &Variable| variable.end() <= row || variable.start >= end;
+        self.variables.iter().all(is_bare) && (row..end).all(|byte| self.class(byte).is_empty())
+    }
+
+    fn class(&self, byte: usize) -> &'static str {
+        let differs = self.other_byte(byte).is_some();
+        match (differs, self.is_doubtful(byte), self.has_other_mark(byte)) {
+            (false, false, false) => "",
+            (false, false, true) => "m",
+            (false, true, false) => "d",
+            (false, true, true) => "\"d m\"",
+            (true, false, false) => "x",
+            (true, false, true) => "\"x m\"",
+            (true, true, false) => "\"x d\"",
+            (true, true, true) => "\"x d m\"",
+        }
+    }
+
     fn write_row(&self, row: usize, html: &mut String) {
-        let end = (row + ROW).min(self.covers.len());
+        let end = self.end_of(row);
+        html.push_str("<p");
+        if row > 0 && self.starts_register(row) {
+            html.push_str(" class=r");
+        }
+        let others: Vec<_> = (row..end)
+            .filter_map(|byte| Some(format!("{byte}:{:02x}", self.other_byte(byte)?)))
+            .collect();
+        if !others.is_empty() {
+            let _ = write!(html, " data-c=\"{}\"", others.join(" "));
+        }
+        let _ = write!(html, ">{row:4}  ");
         let mut first = row;
         while first < end {
-            let same = |&byte: &usize| {
-                let is_bare = self.covers[byte].is_empty();
-                self.covers[byte] == self.covers[first]
-                    && (!is_bare || self.differs(byte) == self.differs(first))
-            };
-            let length = (first..end).take_while(same).count();
-            self.write_piece(first, first + length, html);
-            first += length;
-        }
-    }
-
-    fn write_piece(&self, first: usize, end: usize, html: &mut String) {
-        let covers = &self.covers[first];
-        let mut classes = Vec::new();
-        if let Some((variable, _)) = covers.first() {
-            classes.push(format!("v{}", variable % 6));
-        }
-        let covering = || {
-            covers
+            let class = self.class(first);
+            let stretch = (first..end).take_while(|&byte| self.class(byte) == class);
+            let next = first + stretch.count();
+            let bytes: Vec<_> = self.bench.registers[first..next]
                 .iter()
-                .map(|(variable, _)| &self.variables[*variable])
-        };
-        if covering().any(|variable| variable.start == first) {
-            classes.push("s".to_string());
-        }
-        if covering().any(|variable| variable.end() == end) {
-            classes.push("e".to_string());
-        }
-        let class = attribute("class", &classes.join(" "));
-        let title = self.title(first, end);
-        let _ = write!(html, "<u{class} title=\"{title}\">");
-        for byte in first..end {
-            let mut classes = Vec::new();
-            for (holds, class) in [
-                (self.differs(byte), "x"),
-                (self.is_doubtful(byte), "d"),
-                (self.has_other_mark(byte), "m"),
-            ] {
-                if holds {
-                    classes.push(class);
-                }
-            }
-            let class = attribute("class", &classes.join(" "));
-            let _ = write!(html, "<i{class}>{:02x}</i>", self.bench.registers[byte]);
-        }
-        html.push_str("</u>");
-    }
-
-    /// What hovering tells: variable, element and both values.
-    fn title(&self, first: usize, end: usize) -> String {
-        let mut lines = Vec::new();
-        for &(number, element) in &self.covers[first] {
-            let variable = self.variables[number];
-            let place = variable.place(element);
-            let bytes = place..place + variable.kind.size();
-            let value = |registers: &[u8]| {
-                let bytes = registers.get(bytes.clone())?;
-                Some(variable.kind.value(bytes))
-            };
-            let name = element_name(number, element);
-            let start = format!("{name} {} at byte {place}: ", variable.kind.name());
-            let ours = value(&self.bench.registers).unwrap_or_default();
-            let theirs = self.card.and_then(|card| value(&card.registers));
-            lines.push(start + &both(ours, theirs));
-        }
-        if lines.is_empty() {
-            let start = match end - first {
-                1 => format!("byte {first}, in no variable: "),
-                _ => format!("bytes {first} to {}, in no variable: ", end - 1),
-            };
-            let text = |registers: &[u8]| Some(hex::text(registers.get(first..end)?));
-            let ours = text(&self.bench.registers).unwrap_or_default();
-            let theirs = self.card.and_then(|card| text(&card.registers));
-            lines.push(start + &both(ours, theirs));
-        }
-        for (what, holds) in [
-            ("doubtful", Map::is_doubtful as fn(&Self, usize) -> bool),
-            ("other mark of the card", Map::has_other_mark),
-        ] {
-            let bytes: Vec<_> = (first..end)
-                .filter(|&byte| holds(self, byte))
-                .map(|byte| byte.to_string())
+                .map(|byte| format!("{byte:02x}"))
                 .collect();
-            if !bytes.is_empty() {
-                let noun = if bytes.len() == 1 { "byte" } else { "bytes" };
-                lines.push(format!("{what}: {noun} {}", bytes.join(" ")));
+            let bytes = bytes.join(" ");
+            if class.is_empty() {
+                html.push_str(&bytes);
+            } else {
+                let _ = write!(html, "<i class={class}>{bytes}</i>");
             }
+            if next < end {
+                html.push(' ');
+            }
+            first = next;
         }
-        lines.join("&#10;")
+        for (number, variable) in self.variables.iter().enumerate() {
+            self.write_outline(number, variable, row, html);
+        }
+        html.push_str("</p>\n");
     }
-}
 
-fn both(ours: String, theirs: Option<String>) -> String {
-    match theirs {
-        Some(theirs) if theirs != ours => format!("bench {ours}, card {theirs}"),
-        _ => ours,
+    /// Registers of more than a row stand apart.
+    fn starts_register(&self, row: usize) -> bool {
+        self.register_size > ROW && row.is_multiple_of(self.register_size)
+    }
+
+    /// The rectangle of a variable that begins in a row: l its first byte there, w its bytes, h its rows and g the gaps between registers in
+    /// it. A variable of whole rows and a part of one has two.
+    fn write_outline(&self, number: usize, variable: &Variable, row: usize, html: &mut String) {
+        let (start, end) = (variable.start, variable.end());
+        let begins = (row..row + ROW).contains(&start);
+        let last = (end - 1) / ROW * ROW;
+        let whole_end = if end.is_multiple_of(ROW) { end } else { last };
+        let (from, to) = if begins && end <= row + ROW {
+            (start, end)
+        } else if begins {
+            (start, whole_end)
+        } else if row == last && whole_end != end && start < row {
+            (row, end)
+        } else {
+            return;
+        };
+        let rows = (to - row).div_ceil(ROW);
+        let width = if rows > 1 { ROW } else { to - from };
+        let inner = (1..rows).filter(|index| self.starts_register(row + index * ROW));
+        let mut place = format!("--l:{};--w:{width}", from - row);
+        if rows > 1 {
+            let _ = write!(place, ";--h:{rows};--g:{}", inner.count());
+        }
+        let _ = write!(html, "<s class=v{} style={place}></s>", number % 6);
     }
 }
 
 fn is_marked(buffers: &Buffers, byte: usize) -> Option<bool> {
     let mark = buffers.register_marks.as_ref()?.get(byte)?;
     Some(*mark != 0)
-}
-
-/// Without quotes where none are needed, as a page has many.
-fn attribute(name: &str, value: &str) -> String {
-    match value {
-        "" => String::new(),
-        _ if value.contains(' ') => format!(" {name}=\"{value}\""),
-        _ => format!(" {name}={value}"),
-    }
 }
 
 #[cfg(test)]
@@ -222,7 +183,7 @@ mod tests {
     }
 
     #[test]
-    fn cells() {
+    fn bytes_of_each_kind() {
         let case = CaseFile::read(b"020200000200").unwrap();
         let mut marks = vec![0; 32];
         marks[2] = 1;
@@ -232,26 +193,38 @@ mod tests {
         registers[31] = 3;
         marks[2] = 0;
         let card = buffers(registers, marks);
-        let html = map(&case, &bench, Some(&card));
-        for part in [
-            "<u class=\"v0 s\" title=\"v0[0] UW at byte 0: 257 (0x0101)\"><i>01</i><i>01</i></u>",
-            "<u class=\"v0 e\" title=\"v0[1] UW at byte 2: bench 257 (0x0101), card 513 (0x0201)&#10;\
-             doubtful: byte 2&#10;other mark of the card: byte 2\">\
-             <i class=\"d m\">01</i><i class=x>01</i></u>",
-            "<u title=\"byte 31, in no variable: bench 01, card 03\"><i class=x>01</i></u>",
-        ] {
-            assert!(html.contains(part), "{part}\n{html}");
-        }
+        let between = ["01"; 27].join(" ");
+        assert_eq!(
+            map(&case, &bench, Some(&card)),
+            format!(
+                "<div class=map data-v=\"UW 0 2\">\n\
+                 <p data-c=\"3:02 31:03\">   0  01 01 <i class=\"d m\">01</i> <i class=x>01</i> {between} <i class=x>01</i>\
+                 <s class=v0 style=--l:0;--w:4></s></p>\n</div>\n"
+            )
+        );
     }
 
     #[test]
     fn rows_with_nothing_to_show_are_one() {
-        let case = CaseFile::read(b"020200000200\n0b40").unwrap();
+        let case = CaseFile::read(b"020200000200").unwrap();
         let html = map(&case, &buffers(vec![0; 256], vec![0; 256]), None);
-        assert!(html.contains("<b>0</b>"));
-        assert!(html.contains("32 to 255: in no variable, nothing to show"));
-        let case = CaseFile::read(b"020000004000\n0b40").unwrap();
-        let html = map(&case, &buffers(vec![0; 256], vec![0; 256]), None);
-        assert_eq!(html.matches("\"row register\"").count(), 3);
+        assert_eq!(html.matches("<p").count(), 1);
+        assert!(html.contains("<div>32 to 255: in no variable, nothing to show</div>"));
+    }
+
+    #[test]
+    fn outlines() {
+        // 40 words of 64-byte registers: two rows, and 16 bytes of a third.
+        let case = CaseFile::read(b"020200002800\n0b40\n02040a000200").unwrap();
+        let html = map(&case, &buffers(vec![0; 128], vec![0; 128]), None);
+        let outlines: Vec<_> = html
+            .match_indices("<s ")
+            .map(|(at, _)| &html[at..])
+            .collect();
+        assert!(outlines[0].starts_with("<s class=v0 style=--l:0;--w:32;--h:2;--g:0></s>"));
+        assert!(outlines[1].starts_with("<s class=v1 style=--l:10;--w:2></s>"));
+        assert!(outlines[2].starts_with("<s class=v0 style=--l:0;--w:16></s>"));
+        assert_eq!(outlines.len(), 3);
+        assert_eq!(html.matches("<p class=r>  64").count(), 1);
     }
 }

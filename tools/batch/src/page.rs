@@ -9,10 +9,11 @@ use crate::map::map;
 use crate::options::Options;
 use crate::report::{in_counts, Entry, Run};
 use crate::run::Outcome;
-use crate::words::{amount, grouped, shown};
+use crate::words::{grouped, shown};
 use crate::{read_answer, read_case};
 
 const STYLE: &str = include_str!("page.css");
+const SCRIPT: &str = include_str!("page.js");
 
 /// Groups of up to so many cases show their maps at once.
 const OPEN: usize = 5;
@@ -48,6 +49,7 @@ pub fn page(run: &Run, options: &Options, answers: &Path) -> String {
         }
         html.push_str("</ul>\n");
     }
+    let _ = write!(html, "<div id=tip></div>\n<script>\n{SCRIPT}</script>\n");
     html
 }
 
@@ -82,16 +84,11 @@ fn groups<'a>(run: &'a Run<'a>) -> Vec<Group<'a>> {
 }
 
 fn write_summary(run: &Run, html: &mut String) {
-    let all = amount(run.entries.len(), "case");
-    let _ = write!(html, "<p>{all}");
+    let _ = write!(html, "<p>{}.", run.outline());
     if run.has_card {
-        let differing = run.differing().len();
-        let _ = write!(html, ", of which {} differ.", grouped(differing));
         let _ = write!(html, " Both agree: {}.", run.agreed());
-    } else {
-        html.push('.');
     }
-    let _ = writeln!(html, " Time: {}.</p>", escaped(&run.time()));
+    let _ = writeln!(html, " Time: {}.</p>", run.time());
     html.push_str("<details><summary>Answers by number</summary>\n<table>\n");
     for (number, count) in run.numbers() {
         let (count, meaning) = (grouped(count), escaped(run.meanings.of(number)));
@@ -101,17 +98,17 @@ fn write_summary(run: &Run, html: &mut String) {
 }
 
 fn write_legend(run: &Run, html: &mut String) {
-    html.push_str("<p class=legend><span class=map><u><i class=d>00</i></u></span> doubtful");
+    html.push_str("<p><span class=key><i class=d>00</i></span> doubtful");
     if run.has_card {
         html.push_str(
-            " <span class=map><u><i class=x>00</i></u></span> differs \
-             <span class=map><u><i class=\"x d\">00</i></u></span> differs and is doubtful \
-             <span class=map><u><i class=m>00</i></u></span> the card's mark is another",
+            " <span class=key><i class=x>00</i></span> differs \
+             <span class=key><i class=\"x d\">00</i></span> differs and is doubtful \
+             <span class=key><i class=m>00</i></span> the card's mark is another",
         );
     }
     html.push_str(
-        " <span class=map><u class=\"v0 s\"><i>00</i><i>00</i></u><u class=\"v0 e\"><i>00</i><i>00</i></u></span> a variable. \
-         Bytes are the bench's; hovering tells variable, element and value.</p>\n",
+        " <span class=\"key v0\">00 00 00 00</span> a variable. \
+         Bytes are the bench's; the pointer on one tells variable, element and value.</p>\n",
     );
 }
 

@@ -140,12 +140,33 @@ impl Run<'_> {
         let sum = |of: fn(&Counts) -> usize| compared.iter().map(|found| of(&found.counts)).sum();
         let all: usize = sum(|counts| counts.compared);
         format!(
-            "{} of {} are equal, and {} of {}",
+            "{} of {} compared, {} of {}",
             grouped(equal.count()),
-            amount(compared.len(), "compared case"),
+            amount(compared.len(), "case"),
             grouped(sum(Counts::equal)),
             amount(all, "byte")
         )
+    }
+
+    /// `13 cases, 6 differ, 2 not compared`.
+    pub fn outline(&self) -> String {
+        let mut text = amount(self.entries.len(), "case");
+        let not_answered = self.not_answered();
+        if not_answered > 0 {
+            let _ = write!(text, ", {} not answered", grouped(not_answered));
+        }
+        if self.has_card {
+            text.push_str(&match self.differing().len() {
+                0 => ", no differences".to_string(),
+                1 => ", 1 differs".to_string(),
+                count => format!(", {} differ", grouped(count)),
+            });
+            let not_compared = self.with(|entry| entry.not_compared().is_some()).len();
+            if not_compared > 0 {
+                let _ = write!(text, ", {} not compared", grouped(not_compared));
+            }
+        }
+        text
     }
 
     pub fn time(&self) -> String {
@@ -191,6 +212,7 @@ impl Run<'_> {
         let differing = self.differing();
         lines.push(match differing.len() {
             0 => "differences: none".to_string(),
+            1 => "differences: 1 case".to_string(),
             count => format!("differences: {}, most first", amount(count, "case")),
         });
         for entry in &differing {

@@ -3,7 +3,7 @@
 use std::fs::{self, File};
 use std::io::{self, Read, Write};
 use std::os::unix::fs::MetadataExt;
-use std::path::{Path, PathBuf};
+use std::path::Path;
 use std::process::{Command, Stdio};
 use std::sync::atomic::{AtomicUsize, Ordering};
 use std::sync::OnceLock;
@@ -54,7 +54,7 @@ impl Runner<'_> {
             let watcher = scope.spawn(|| progress.show());
             // Where no more threads are to be had, fewer do.
             let others: Vec<_> = (1..self.jobs.min(cases.len()))
-                .map_while(|_| thread::Builder::new().spawn_scoped(scope, &work).ok())
+                .map_while(|_| thread::Builder::new().spawn_scoped(scope, work).ok())
                 .collect();
             work();
             for other in others {
@@ -185,12 +185,16 @@ pub fn count_answers(bench: &Path, cases: &[Case], answers: &Path) -> usize {
         .count()
 }
 
-/// Writes a file beside its place and puts it there whole.
+/// Writes a file beside its place and puts it there whole. A device or a pipe is written as it is, and a link leads to its file.
 pub fn write_whole(place: &Path, text: &[u8]) -> io::Result<()> {
+    if fs::metadata(place).is_ok_and(|about| !about.is_file()) {
+        return fs::write(place, text);
+    }
+    let place = fs::canonicalize(place).unwrap_or_else(|_| place.to_path_buf());
     let mut name = place.file_name().unwrap_or_default().to_os_string();
     name.push(format!(".unfinished-{}", std::process::id()));
-    let unfinished: PathBuf = place.with_file_name(name);
-    let written = fs::write(&unfinished, text).and_then(|()| fs::rename(&unfinished, place));
+    let unfinished = place.with_file_name(name);
+    let written = fs::write(&unfinished, text).and_then(|()| fs::rename(&unfinished, &place));
     if written.is_err() {
         let _ = fs::remove_file(&unfinished);
     }
