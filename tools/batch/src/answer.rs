@@ -2,6 +2,9 @@
 
 use crate::hex;
 
+/// More bytes than any answer has: registers and memory of 4,096 bytes, in hex, and their marks.
+pub const TOO_LONG: u64 = 1 << 16;
+
 /// The line 40.
 #[derive(Clone, Copy, Debug, PartialEq, Eq)]
 pub struct Head {

@@ -5,14 +5,14 @@ pub fn bytes(line: &[u8]) -> Result<Vec<u8>, String> {
     if line.is_empty() {
         return Err("empty".to_string());
     }
-    if let Some(place) = line
-        .iter()
-        .position(|&character| digit(character).is_none())
-    {
-        return Err(format!(
-            "character {} is no lower-case hex digit",
-            place + 1
-        ));
+    if let Some(place) = line.iter().position(|&byte| digit(byte).is_none()) {
+        let what = match line[place] {
+            b'\r' => "a carriage return",
+            b' ' => "a space",
+            b'A'..=b'F' => "an upper-case digit",
+            _ => "no hex digit",
+        };
+        return Err(format!("character {} is {what}", place + 1));
     }
     if !line.len().is_multiple_of(2) {
         return Err(format!("{} digits, an odd number", line.len()));
@@ -53,10 +53,11 @@ mod tests {
         assert_eq!(bytes(b"0aff"), Ok(vec![10, 255]));
         assert_eq!(bytes(b""), Err("empty".to_string()));
         assert_eq!(bytes(b"0a0"), Err("3 digits, an odd number".to_string()));
-        assert_eq!(
-            bytes(b"0A"),
-            Err("character 2 is no lower-case hex digit".to_string())
-        );
+        let wrong = |line: &[u8]| bytes(line).unwrap_err();
+        assert_eq!(wrong(b"0A"), "character 2 is an upper-case digit");
+        assert_eq!(wrong(b"0a\r"), "character 3 is a carriage return");
+        assert_eq!(wrong(b"0a 0"), "character 3 is a space");
+        assert_eq!(wrong(b"0x"), "character 2 is no hex digit");
     }
 
     #[test]

@@ -21,7 +21,7 @@ use std::path::Path;
 use std::process::ExitCode;
 use std::thread;
 
-use answer::{Answer, Head};
+use answer::{Answer, Head, TOO_LONG};
 use case::CaseFile;
 use compare::{compare, Comparison};
 use folders::{find_cases, remove_unfinished, written_over, Case, Found};
@@ -139,7 +139,7 @@ fn batch(options: &Options) -> Result<u8, Stop> {
         }
     }
     write_out(&run.text())?;
-    say(&format!("{}; {:.2} s", run.outline(), run.seconds));
+    say(&format!("{}; {:.3} s", run.outline(), run.seconds));
     Ok(status.max(run.status()))
 }
 
@@ -221,8 +221,11 @@ fn compare_case(
 pub fn read_answer(path: &Path, is_of_card: bool) -> Result<Answer, String> {
     let name = name_of(path);
     let text = match fs::metadata(path) {
-        Ok(about) if about.is_file() => fs::read(path),
-        Ok(_) => return Err(format!("{name} is no file")),
+        Ok(about) if !about.is_file() => return Err(format!("{name} is no file")),
+        Ok(about) if about.len() >= TOO_LONG => {
+            return Err(format!("{name} is too long for an answer"))
+        }
+        Ok(_) => fs::read(path),
         Err(error) => Err(error),
     };
     let text = text.map_err(|error| match error.kind() {

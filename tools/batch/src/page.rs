@@ -16,7 +16,7 @@ const STYLE: &str = include_str!("page.css");
 const SCRIPT: &str = include_str!("page.js");
 
 /// Groups of up to so many cases show their maps at once.
-const OPEN: usize = 5;
+const OPEN: usize = 20;
 
 pub fn page(run: &Run, options: &Options, answers: &Path) -> String {
     let title = if run.has_card {

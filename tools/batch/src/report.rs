@@ -173,7 +173,7 @@ impl Run<'_> {
         let made = |entry: &Entry| matches!(entry.outcome, Outcome::Answered { made: true, .. });
         let kept = |entry: &Entry| matches!(entry.outcome, Outcome::Answered { made: false, .. });
         let made = self.with(made).len();
-        let mut text = format!("{:.2} s; {} made", self.seconds, amount(made, "answer"));
+        let mut text = format!("{:.3} s; {} made", self.seconds, amount(made, "answer"));
         let kept = self.with(kept).len();
         if kept > 0 {
             let _ = write!(text, ", {} there already", grouped(kept));

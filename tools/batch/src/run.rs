@@ -9,7 +9,7 @@ use std::sync::atomic::{AtomicUsize, Ordering};
 use std::sync::OnceLock;
 use std::thread;
 
-use crate::answer::{Answer, Head};
+use crate::answer::{Answer, Head, TOO_LONG};
 use crate::folders::{unfinished_name, Case};
 use crate::progress::Progress;
 use crate::words::reason;
@@ -140,9 +140,12 @@ fn answer_of(program: &Path, case: File) -> Result<(Vec<u8>, Answer), String> {
         child.map_err(|error| format!("the program cannot be started: {}", reason(&error)))?;
     let mut text = Vec::new();
     let read = match child.stdout.take() {
-        Some(mut stdout) => stdout.read_to_end(&mut text),
+        Some(stdout) => stdout.take(TOO_LONG).read_to_end(&mut text),
         None => Ok(0),
     };
+    if text.len() as u64 == TOO_LONG {
+        let _ = child.kill();
+    }
     let ended = child.wait();
     if read.is_err() || !ended.is_ok_and(|status| status.success()) {
         return Err("the program broke off".to_string());
