@@ -81,6 +81,7 @@ fn tell_how_far(options: &Options) -> ExitCode {
     remove_unfinished(&cases, answers);
     let there = grouped(count_answers(&options.bench, &cases, answers));
     let all = amount(cases.len(), "case");
+    progress::clear();
     fail(&format!(
         "interrupted; {there} of {all} have their answers, and the same call goes on from there"
     ))

@@ -172,13 +172,22 @@ fn body(run: &Run, entry: &Entry, options: &Options, answers: &Path) -> String {
     if !is_told && !has_doubt && !is_refused {
         return html;
     }
-    let lines = if is_told {
-        run.details(entry)
-    } else {
-        let mut lines = vec![run.in_words(bench.head)];
-        lines.extend(entry.instruction.clone());
-        lines
-    };
+    write_lines(&run.about(entry), &mut html);
+    if let Some(buffers) = bench
+        .buffers
+        .filter(|buffers| !buffers.registers.is_empty())
+    {
+        let card = card.and_then(|card| card.buffers);
+        html.push_str(&map(&case, &buffers, card.as_ref()));
+    }
+    write_lines(&run.told(entry), &mut html);
+    html
+}
+
+fn write_lines(lines: &[String], html: &mut String) {
+    if lines.is_empty() {
+        return;
+    }
     html.push_str("<ul>\n");
     for line in lines {
         let class = if line.starts_with(' ') {
@@ -189,14 +198,6 @@ fn body(run: &Run, entry: &Entry, options: &Options, answers: &Path) -> String {
         let _ = writeln!(html, "<li{class}>{}", escaped(line.trim_start()));
     }
     html.push_str("</ul>\n");
-    if let Some(buffers) = bench
-        .buffers
-        .filter(|buffers| !buffers.registers.is_empty())
-    {
-        let card = card.and_then(|card| card.buffers);
-        html.push_str(&map(&case, &buffers, card.as_ref()));
-    }
-    html
 }
 
 fn load(entry: &Entry, answers: &Path) -> Option<(CaseFile, Answer)> {

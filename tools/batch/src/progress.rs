@@ -53,9 +53,14 @@ impl Progress {
                 say_over(&line(self.done(), self.all, self.seconds()));
             }
         }
-        if terminal {
-            say_over("");
-        }
+        clear();
+    }
+}
+
+/// Takes the line away, where there is one.
+pub fn clear() {
+    if io::stderr().is_terminal() {
+        say_over("");
     }
 }
 

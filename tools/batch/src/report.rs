@@ -251,29 +251,35 @@ impl Run<'_> {
         let counts = entry.compared().map(|found| found.counts);
         let counts = counts.unwrap_or_default();
         lines.push(format!("{name}: {}", in_counts(&counts)));
-        lines.extend(self.details(entry).iter().map(|line| format!("  {line}")));
+        let told = [self.about(entry), self.told(entry)].concat();
+        lines.extend(told.iter().map(|line| format!("  {line}")));
     }
 
-    /// What is told of a case's differences, a line each; those of doubtful bytes come last, further in.
-    pub fn details(&self, entry: &Entry) -> Vec<String> {
-        let mut lines = Vec::new();
-        let Some(found) = entry.compared() else {
-            return lines;
+    /// The line 40 in words, or both where they differ, and the instruction.
+    pub fn about(&self, entry: &Entry) -> Vec<String> {
+        let heads = entry.compared().and_then(|found| found.heads);
+        let mut lines = match (heads, entry.head()) {
+            (Some((bench, card)), _) => vec![
+                format!("bench: {}", self.in_words(bench)),
+                format!("card:  {}", self.in_words(card)),
+            ],
+            (None, Some(head)) if entry.compared().is_some() => {
+                vec![format!("both: {}", self.in_words(head))]
+            }
+            (None, Some(head)) => vec![self.in_words(head)],
+            (None, None) => Vec::new(),
         };
-        match found.heads {
-            Some((bench, card)) => {
-                lines.push(format!("bench: {}", self.in_words(bench)));
-                lines.push(format!("card:  {}", self.in_words(card)));
-            }
-            None => {
-                if let Some(head) = entry.head() {
-                    lines.push(format!("both: {}", self.in_words(head)));
-                }
-            }
-        }
         lines.extend(entry.instruction.clone());
         lines.extend(entry.card_instruction.clone());
-        lines.extend(found.lines.iter().cloned());
+        lines
+    }
+
+    /// What differs, a line each; doubtful bytes come last, further in.
+    pub fn told(&self, entry: &Entry) -> Vec<String> {
+        let Some(found) = entry.compared() else {
+            return Vec::new();
+        };
+        let mut lines = found.lines.clone();
         if !found.doubtful.is_empty() {
             lines.push("doubtful, needs no writer:".to_string());
             lines.extend(found.doubtful.iter().map(|line| format!("  {line}")));
