@@ -60,7 +60,7 @@ impl Answer {
             frames.push(frame);
         }
         let mut frames = Frames { frames, next: 0 };
-        let head = frames.take(0x40)?.ok_or("line 1: not a line 40")?;
+        let head = frames.take(0x40).ok_or("line 1: not a line 40")?;
         if head.len() != 7 {
             return Err("line 1: a line 40 has 7 bytes of content".to_string());
         }
@@ -114,18 +114,17 @@ impl Frames {
     }
 
     /// The content of the next line, if it is of this kind.
-    fn take(&mut self, kind: u8) -> Result<Option<Vec<u8>>, String> {
-        match self.frames.get(self.next) {
-            Some(frame) if frame[0] == kind => {
-                self.next += 1;
-                Ok(Some(frame[1..].to_vec()))
-            }
-            _ => Ok(None),
-        }
+    fn take(&mut self, kind: u8) -> Option<Vec<u8>> {
+        let frame = self
+            .frames
+            .get(self.next)
+            .filter(|frame| frame[0] == kind)?;
+        self.next += 1;
+        Some(frame[1..].to_vec())
     }
 
     fn must_take(&mut self, kind: u8) -> Result<Vec<u8>, String> {
-        self.take(kind)?.ok_or_else(|| {
+        self.take(kind).ok_or_else(|| {
             if self.is_at_end() {
                 format!("cut off: there is no line {kind:02x}")
             } else {
@@ -135,7 +134,7 @@ impl Frames {
     }
 
     fn take_marks(&mut self, kind: u8, length: usize) -> Result<Option<Vec<u8>>, String> {
-        let marks = self.take(kind)?;
+        let marks = self.take(kind);
         match &marks {
             Some(marks) if marks.len() != length => Err(format!(
                 "line {}: {} marks for {length} bytes",

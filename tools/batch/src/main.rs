@@ -3,6 +3,7 @@
 mod answer;
 mod case;
 mod compare;
+mod entries;
 mod folders;
 mod hex;
 mod listing;
@@ -21,14 +22,12 @@ use std::path::Path;
 use std::process::ExitCode;
 use std::thread;
 
-use answer::{Answer, Head, TOO_LONG};
-use case::CaseFile;
-use compare::{compare, Comparison};
-use folders::{find_cases, remove_unfinished, written_over, Case, Found};
+use entries::{entries, tell_instructions};
+use folders::{find_cases, remove_unfinished, written_over, Found};
 use options::Options;
 use progress::Progress;
-use report::{Entry, Run};
-use run::{count_answers, write_whole, Outcome, Runner};
+use report::Run;
+use run::{count_answers, write_whole, Runner};
 use words::{amount, grouped, reason, shown, Meanings};
 
 fn main() -> ExitCode {
@@ -119,14 +118,14 @@ fn batch(options: &Options) -> Result<u8, Stop> {
     let progress = Progress::of(cases.len());
     let outcomes = runner.run(&cases, &progress).map_err(Stop::Failure)?;
     let mut run = Run {
-        entries: entries(&cases, outcomes, options, answers),
+        entries: entries(&cases, outcomes, options.card.as_deref(), answers),
         unread,
         meanings: Meanings::from_lines(&options.meanings),
         has_card: options.card.is_some(),
         seconds: 0.0,
     };
     let mut status = 0;
-    if !tell_instructions(&mut run, options) {
+    if !tell_instructions(&mut run.entries, &options.listing) {
         say("the program listing broke off; the instructions are not told");
         status = 2;
     }
@@ -182,115 +181,4 @@ fn write_out(text: &str) -> Result<(), Stop> {
             "standard output cannot be written".to_string(),
         )),
     }
-}
-
-fn entries<'a>(
-    cases: &'a [Case],
-    outcomes: Vec<Outcome>,
-    options: &Options,
-    answers: &Path,
-) -> Vec<Entry<'a>> {
-    let entry = |(case, outcome): (&'a Case, Outcome)| {
-        let comparison = match (&outcome, &options.card) {
-            (Outcome::Answered { head, .. }, Some(card)) => {
-                Some(compare_case(case, *head, answers, card))
-            }
-            _ => None,
-        };
-        Entry {
-            case,
-            outcome,
-            comparison,
-            instruction: None,
-            card_instruction: None,
-        }
-    };
-    cases.iter().zip(outcomes).map(entry).collect()
-}
-
-fn compare_case(
-    case: &Case,
-    head: Head,
-    answers: &Path,
-    card: &Path,
-) -> Result<Comparison, String> {
-    let card = read_answer(&case.answer_below(card), true)?;
-    let bench = read_answer(&case.answer_below(answers), false)?;
-    Ok(compare(&read_case(case, head)?, &bench, &card))
-}
-
-pub fn read_answer(path: &Path, is_of_card: bool) -> Result<Answer, String> {
-    let name = name_of(path);
-    let text = match fs::metadata(path) {
-        Ok(about) if !about.is_file() => return Err(format!("{name} is no file")),
-        Ok(about) if about.len() >= TOO_LONG => {
-            return Err(format!("{name} is too long for an answer"))
-        }
-        Ok(_) => fs::read(path),
-        Err(error) => Err(error),
-    };
-    let text = text.map_err(|error| match error.kind() {
-        io::ErrorKind::NotFound => format!("there is no {name}"),
-        _ => format!("{name} cannot be read: {}", reason(&error)),
-    })?;
-    Answer::read(&text, is_of_card).map_err(|wrong| format!("{name}: {wrong}"))
-}
-
-/// Where nothing ran, nothing of the case is wanted.
-pub fn read_case(case: &Case, head: Head) -> Result<CaseFile, String> {
-    if head.nothing_ran() {
-        return Ok(CaseFile::default());
-    }
-    let name = shown(&case.name);
-    let text = fs::read(&case.file)
-        .map_err(|error| format!("{name} cannot be read: {}", reason(&error)))?;
-    CaseFile::read(&text).map_err(|wrong| format!("{name}: {wrong}"))
-}
-
-/// Puts the refused or last instruction beside each case that is refused or differs. False where the listing broke off.
-fn tell_instructions(run: &mut Run, options: &Options) -> bool {
-    let mut wanted = Vec::new();
-    for (index, entry) in run.entries.iter().enumerate() {
-        let Some(head) = entry.head().filter(|head| !head.nothing_ran()) else {
-            continue;
-        };
-        let differs = entry.differences() > 0 || entry.differs_in_doubt_alone();
-        if head.number == 0 && !differs {
-            continue;
-        }
-        if let Ok(case) = read_case(entry.case, head) {
-            wanted.push((index, head, case.kernel));
-        }
-    }
-    let kernels: Vec<&[u8]> = wanted.iter().map(|(_, _, kernel)| &kernel[..]).collect();
-    let Some(listings) = listing::list(&options.listing, &kernels) else {
-        return false;
-    };
-    for ((index, head, kernel), lines) in wanted.iter().zip(&listings) {
-        let entry = &mut run.entries[*index];
-        let at = |head: Head| {
-            let completed = usize::from(head.completed);
-            let text = listing::instruction(lines, completed, kernel)?;
-            let position = head.position;
-            Some(format!(
-                "instruction {}, at byte {position}: {text}",
-                completed + 1
-            ))
-        };
-        entry.instruction = if head.number == 0 {
-            let last = usize::from(head.completed).checked_sub(1);
-            last.and_then(|last| listing::instruction(lines, last, kernel))
-                .map(|text| format!("last instruction, {}: {text}", head.completed))
-        } else {
-            at(*head)
-        };
-        let card = entry.compared().and_then(|found| found.heads);
-        let card = card.map(|(_, card)| card);
-        entry.card_instruction = card
-            .filter(|card| card.number != 0 && !card.nothing_ran())
-            .filter(|card| (card.completed, card.position) != (head.completed, head.position))
-            .and_then(at)
-            .map(|text| format!("card: {text}"));
-    }
-    true
 }

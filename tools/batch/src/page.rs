@@ -5,12 +5,12 @@ use std::path::Path;
 
 use crate::answer::{Answer, Buffers};
 use crate::case::CaseFile;
+use crate::entries::{read_answer, read_case, Entry};
 use crate::map::map;
 use crate::options::Options;
-use crate::report::{in_counts, Entry, Run};
+use crate::report::{in_counts, Run};
 use crate::run::Outcome;
 use crate::words::{grouped, shown};
-use crate::{read_answer, read_case};
 
 const STYLE: &str = include_str!("page.css");
 const SCRIPT: &str = include_str!("page.js");

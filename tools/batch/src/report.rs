@@ -4,84 +4,10 @@ use std::collections::BTreeMap;
 use std::fmt::Write;
 
 use crate::answer::Head;
-use crate::compare::{Comparison, Counts};
-use crate::folders::Case;
+use crate::compare::Counts;
+use crate::entries::Entry;
 use crate::run::Outcome;
 use crate::words::{amount, grouped, shown, Meanings};
-
-/// A case with all that is known of it.
-pub struct Entry<'a> {
-    pub case: &'a Case,
-    pub outcome: Outcome,
-    /// With a card: what differs, or why nothing can be compared. None where the bench has no answer.
-    pub comparison: Option<Result<Comparison, String>>,
-    /// The refused or last instruction, in a sentence, and the one where the card stopped.
-    pub instruction: Option<String>,
-    pub card_instruction: Option<String>,
-}
-
-impl Entry<'_> {
-    pub fn name(&self) -> String {
-        shown(&self.case.name)
-    }
-
-    pub fn head(&self) -> Option<Head> {
-        match &self.outcome {
-            Outcome::Answered { head, .. } => Some(*head),
-            Outcome::NotAnswered(_) => None,
-        }
-    }
-
-    pub fn compared(&self) -> Option<&Comparison> {
-        self.comparison.as_ref()?.as_ref().ok()
-    }
-
-    pub fn not_compared(&self) -> Option<&str> {
-        let wrong = self.comparison.as_ref()?.as_ref().err()?;
-        Some(wrong)
-    }
-
-    pub fn differences(&self) -> usize {
-        self.compared()
-            .map_or(0, |found| found.counts.differences())
-    }
-
-    /// Whether doubtful bytes differ, and nothing else does.
-    pub fn differs_in_doubt_alone(&self) -> bool {
-        self.differences() == 0
-            && self
-                .compared()
-                .is_some_and(|found| !found.doubtful.is_empty())
-    }
-
-    /// What was wrong with a refused case, and where.
-    pub fn refusal(&self) -> Option<String> {
-        let Outcome::Answered { head, why, .. } = &self.outcome else {
-            return None;
-        };
-        let Head {
-            number, position, ..
-        } = *head;
-        match number {
-            0 => None,
-            13 | 14 => {
-                let place = match why {
-                    Some(why) => format!(", {why}"),
-                    None if number == 14 => format!(", line {position}"),
-                    None => String::new(),
-                };
-                Some(format!("{number}{place}"))
-            }
-            _ => {
-                let text = self
-                    .instruction
-                    .as_deref()
-                    .unwrap_or("instruction not known");
-                Some(format!("{number}, {text}"))
-            }
-        }
-    }
-}
 
 pub struct Run<'a> {
     pub entries: Vec<Entry<'a>>,
