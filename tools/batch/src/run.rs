@@ -51,8 +51,8 @@ impl Runner<'_> {
             progress.step();
         };
         thread::scope(|scope| {
-            let watcher = scope.spawn(|| progress.show());
             // Where no more threads are to be had, fewer do.
+            let watcher = thread::Builder::new().spawn_scoped(scope, || progress.show());
             let others: Vec<_> = (1..self.jobs.min(cases.len()))
                 .map_while(|_| thread::Builder::new().spawn_scoped(scope, work).ok())
                 .collect();
@@ -61,7 +61,9 @@ impl Runner<'_> {
                 let _ = other.join();
             }
             progress.end();
-            watcher.thread().unpark();
+            if let Ok(watcher) = watcher {
+                watcher.thread().unpark();
+            }
         });
         let outcomes = outcomes.into_iter().map(|outcome| {
             let lost = || Outcome::NotAnswered("the run of the case broke off".to_string());
@@ -84,24 +86,26 @@ impl Runner<'_> {
         Outcome::Answered { head, made, why }
     }
 
-    /// The answer gets the moment at which the work on it began: a case that changes meanwhile is newer.
+    /// The answer gets the moment before its case is opened to be answered: a case that changes meanwhile is newer.
     fn make(&self, case: &Case, index: usize, place: &Path) -> Result<Answer, String> {
         let unwritten =
             |error: io::Error| format!("the answer cannot be written: {}", reason(&error));
         let unfinished = place.with_file_name(unfinished_name(std::process::id(), index));
-        let case_file = open_case(&case.file)?;
+        open_case(&case.file)?;
         if let Some(folder) = place.parent() {
             fs::create_dir_all(folder).map_err(unwritten)?;
         }
         let mut file = File::create(&unfinished).map_err(unwritten)?;
         let began = file.metadata().and_then(|about| about.modified());
-        let made = answer_of(self.bench, case_file).and_then(|(text, answer)| {
-            file.write_all(&text)
-                .and_then(|()| file.set_modified(began?))
-                .and_then(|()| fs::rename(&unfinished, place))
-                .map_err(unwritten)?;
-            Ok(answer)
-        });
+        let made = open_case(&case.file)
+            .and_then(|case| answer_of(self.bench, case))
+            .and_then(|(text, answer)| {
+                file.write_all(&text)
+                    .and_then(|()| file.set_modified(began?))
+                    .and_then(|()| fs::rename(&unfinished, place))
+                    .map_err(unwritten)?;
+                Ok(answer)
+            });
         if made.is_err() {
             let _ = fs::remove_file(&unfinished);
         }
