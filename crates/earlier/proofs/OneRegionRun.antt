@@ -22,8 +22,8 @@ use Rattle.plan.specs.declared.Plan.{Plan}
 use Rattle.plan.specs.Checked.{checked}
 use Rattle.step.specs.State.{Setup, State, registerBytes, lengthsOf}
 use Rattle.step.specs.Step.{Stepped, acted, planEffect, stepAt, after}
-use Rattle.scatter.specs.Scatter.{Window}
-use Rattle.scatter.specs.Offending.{ScatterTells, done, doubtful, misalignedPair, outsidePair}
+use Rattle.scatter_effect.specs.Scatter.{Window}
+use Rattle.scatter_effect.specs.Offending.{ScatterTells, done, doubtful, misalignedPair, outsidePair}
 use Rattle.step.proofs.StepOf.{stepOf}
 use Rattle.step.specs.Tells.{Tells, undecoded, tested, performed}
 use Rattle.step.proofs.StepTells.{own-tells, step-tells}

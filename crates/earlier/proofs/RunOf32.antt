@@ -34,7 +34,7 @@ use Rattle.plan.specs.declared.Operation.the-variants as operation
 use Rattle.plan.specs.Needed.{registersNeeded}
 use Rattle.plan.specs.Checked.{shlDst, shlSrc0, shlSrc1, checkedShl, gatherOffset, gatherElementOffset, gatherDst, checkedGatherOperands, checkedGather, scatterAddress, scatterElementOffset, scatterSrc, checkedScatter, sendDesc, sendSrc, sendDst, checkedSend, checkedOperands, checked}
 use Rattle.plan.proofs.InstructionLaws.{plan-keeps}
-use Rattle.scatter.specs.Scatter.{Window, scatterPair, scatterEffect, sourceByte}
+use Rattle.scatter_effect.specs.Scatter.{Window, scatterPair, scatterEffect, sourceByte}
 use Rattle.step.specs.declared.Constants.{Constants}
 use Rattle.step.specs.State.{Setup, State, registerBytes, lengthsOf}
 use Rattle.step.specs.Step.{Stepped, acted, planEffect, stepAt}

@@ -52,7 +52,7 @@ use Rattle.plan.specs.Needed.{elementsNeeded, blockBytes}
 use Rattle.plan.specs.Plans.{refusedPlan, tested, testedFrom, shlPlan, gatherPlan, scatterPlan}
 use Rattle.staging.specs.Lanes.{lanesOn}
 use Rattle.staging.specs.Sources.{eitherTainted}
-use Rattle.scatter.specs.Scatter.{Window, channelsOn, target, misaligned, outside, firstOffending}
+use Rattle.scatter_effect.specs.Scatter.{Window, channelsOn, target, misaligned, outside, firstOffending}
 use Rattle.step.specs.declared.Constants.{Constants}
 use Rattle.step.specs.State.{Setup, State, lengthsOf}
 use Rattle.step.specs.Step.{Stepped, acted}

@@ -13,8 +13,8 @@ use Rattle.channels.specs.declared.Lanes.{Lanes}
 use Rattle.plan.specs.declared.Plan.{Plan}
 use Rattle.staging.specs.Lanes.{lanesOn}
 use Rattle.staging.specs.declared.Layout.{Layout}
-use Rattle.scatter.specs.declared.Pairs.{Pairs}
-use Rattle.scatter.specs.Scatter.{Window, scatterEffect}
+use Rattle.scatter_pairs.specs.declared.Pairs.{Pairs}
+use Rattle.scatter_effect.specs.Scatter.{Window, scatterEffect}
 use Rattle.scatter.specs.mirror.Guarded.{scatterFits, scatterGuarded}
 use Rattle.scatter.specs.mirror.FromRoom.{layoutFor, pairsOf, sourcesStaged, WorkedOut, roomEffect}
 use Rattle.scatter.proofs.OrderLaws.{refusal-done, same-done}
@@ -42,6 +42,3 @@ module _ (w : Window) (mask : ℕ) (p : Plan) (registers : Buffer) where
 -- what the code asks of the lanes
 pub layout-few : (p : Plan) (l : Layout) → scatterFits p ≡ true → l ≡ layoutFor p → l .lanes ≤ 16
 layout-few p l fits e = rw e (few p fits)
-
-pub pairs-few : (p : Plan) (s : Pairs) → scatterFits p ≡ true → s ≡ pairsOf p → s .lanes ≤ 16
-pairs-few p s fits e = rw e (few p fits)

@@ -12,10 +12,12 @@ use Rattle.cells.specs.Writes.{writtenAll}
 use Rattle.cells.specs.Effect.{Effect, refused, writing, MemoryDone}
 use Rattle.cells.proofs.EffectLaws.{unless-refused, unless-passed, nothing-written}
 use Rattle.staging.specs.declared.Layout.{Layout}
-use Rattle.scatter.specs.declared.Rule.the-variants as rule
-use Rattle.scatter.specs.declared.Pairs.{Pairs}
-use Rattle.scatter.specs.Scatter.{Window}
-use Rattle.scatter.specs.mirror.FromRoom.{allWrites, firstBreaking, someTainted, roomEffect}
+use Rattle.scatter_pairs.specs.declared.Rule.the-variants as rule
+use Rattle.scatter_pairs.specs.declared.Pairs.{Pairs}
+use Rattle.scatter_effect.specs.Scatter.{Window}
+use Rattle.scatter_pairs.specs.mirror.Search.{firstBreaking, someTainted}
+use Rattle.scatter_writes.specs.mirror.Writes.{allWrites}
+use Rattle.scatter.specs.mirror.FromRoom.{roomEffect}
 
 pub refusal-done : (e : Effect) (n : ℕ) (d : Detail) (b : Buffer) → e ≡ refused n d → MemoryDone e (record { number = n; detail = d }) b b
 refusal-done e n d b is =

@@ -1,15 +1,15 @@
 -- What is worked out of a plan before its pairs: how the sources stand, what is asked of each pair, and the room with the sources.
-use Prim.Native.Nat.{ℕ, _+_, _*_}
+use Prim.Native.Nat.{ℕ}
 use mathlib.Core.Path.{_≡_}
 use lib.ListN.{getD}
 use Rattle.cells.specs.Buffer.{Buffer}
 use Rattle.channels.specs.Exec.{execSize}
 use Rattle.plan.specs.declared.Plan.{Plan}
-use Rattle.plan.specs.Needed.{enabledBelow, scatterNeeded}
+use Rattle.plan.specs.Needed.{scatterNeeded}
 use Rattle.staging.specs.declared.Layout.{Layout}
 use Rattle.staging.specs.mirror.Room.{layoutOf, dataPlace, dataStaged}
-use Rattle.scatter.specs.declared.Pairs.{Pairs}
-use Rattle.scatter.specs.mirror.FromRoom.{layoutFor, pairsOf, sourcesStaged, rowPlace}
+use Rattle.scatter_pairs.specs.declared.Pairs.{Pairs}
+use Rattle.scatter.specs.mirror.FromRoom.{layoutFor, pairsOf, sourcesStaged}
 
 pub layout-told : (p : Plan) (lanes : ℕ) (l : Layout) → lanes ≡ execSize (p .control .exec) → l ≡ layoutOf (p .left) (p .right) lanes → l ≡ layoutFor p
 layout-told p lanes l size made = rw (← size) made
@@ -20,7 +20,3 @@ pairs-told p lanes first l size layout begin = rw (size, begin, layout)
 pub sources-told : (registers : Buffer) (p : Plan) (lanes from needed : ℕ) (room : Buffer) → lanes ≡ execSize (p .control .exec) → from ≡ getD (p .payload .at) 0 0 → needed ≡ scatterNeeded (p .stride) (p .control .exec) (p .channels) → room ≡ dataStaged registers (p .left) (p .right) lanes from needed → room ≡ sourcesStaged registers p
 unfolding sourcesStaged
 sources-told registers p lanes from needed room size begin count made = rw (← size, ← begin, ← count) made
-
-pub row-told : (s : Pairs) (c below r : ℕ) → below ≡ enabledBelow (s .channels) c → r ≡ s .first + 4 * (below * s .stride) → r ≡ rowPlace s c
-unfolding rowPlace
-row-told s c below r counted made = rw (← counted) made

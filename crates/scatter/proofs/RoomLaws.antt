@@ -30,14 +30,16 @@ use Rattle.cells.proofs.BoolLaws.{both-true}
 use Rattle.staging.proofs.FitLaws.{fit-size, fit-bytes}
 use Rattle.staging.proofs.LanesOnLaws.{lanes-on-are}
 use Rattle.staging.proofs.RoomLaws.{data-first, data-second, data-either, data-copied}
-use Rattle.scatter.specs.declared.Rule.{Rule}
-use Rattle.scatter.specs.declared.Rule.the-variants as rule
-use Rattle.scatter.specs.Scatter.{Window, channelsOn, target, sourceByte, misaligned, scatterPair, firstOffending, scatterEffect}
+use Rattle.scatter_pairs.specs.declared.Rule.{Rule}
+use Rattle.scatter_pairs.specs.declared.Rule.the-variants as rule
+use Rattle.scatter_effect.specs.Scatter.{Window, channelsOn, target, sourceByte, misaligned, scatterPair, firstOffending, scatterEffect}
 use Rattle.scatter.specs.mirror.Guarded.{scatterFits}
-use Rattle.scatter.specs.mirror.Rules.{breaks}
-use Rattle.scatter.specs.mirror.FromRoom.{layoutFor, pairsOf, sourcesStaged, laneSum, WorkedOut, enabledLanes, targetFrom, rowPlace, pairWrites, rowWrites, allWrites, firstBreaking, someTainted, roomEffect}
-use Rattle.scatter.proofs.AmongAlike.{among-alike}
-use Rattle.scatter.proofs.EffectOrder.{tested, scatter-in-order}
+use Rattle.scatter_pairs.specs.mirror.Rules.{breaks}
+use Rattle.scatter_pairs.specs.mirror.Search.{enabledLanes, targetFrom, firstBreaking, someTainted}
+use Rattle.scatter_writes.specs.mirror.Writes.{rowPlace, pairWrites, rowWrites, allWrites}
+use Rattle.scatter.specs.mirror.FromRoom.{layoutFor, pairsOf, sourcesStaged, laneSum, WorkedOut, roomEffect}
+use Rattle.scatter_effect.proofs.AmongAlike.{among-alike}
+use Rattle.scatter_effect.proofs.EffectOrder.{tested, scatter-in-order}
 use Rattle.scatter.proofs.NeededLaws.{dword-needed, needed-at-most}
 use Rattle.scatter.proofs.SameWrites.{same-writes}
 use Rattle.scatter.proofs.TargetLaws.{wrapped-twice}

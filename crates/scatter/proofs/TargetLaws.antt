@@ -5,8 +5,9 @@ use mathlib.Core.List.{List}
 use native.Mathlib.Omega.{arith}
 use Rattle.staging.specs.declared.Layout.{Layout}
 use Rattle.staging.specs.mirror.Room.{firstNumber, secondNumber}
-use Rattle.scatter.specs.Scatter.{targetAddress}
-use Rattle.scatter.specs.mirror.FromRoom.{laneSum, targetFrom}
+use Rattle.scatter_effect.specs.Scatter.{targetAddress}
+use Rattle.scatter_pairs.specs.mirror.Search.{targetFrom}
+use Rattle.scatter.specs.mirror.FromRoom.{laneSum}
 
 pub sum-told : (bytes : List ℕ) (s : Layout) (lane address element r : ℕ) → address ≡ firstNumber bytes s lane → element ≡ secondNumber bytes s lane → r ≡ (address + element) % 2 ^ 64 → r ≡ laneSum bytes s lane
 unfolding laneSum

@@ -1,4 +1,1 @@
-pub mod Scatter
-pub mod Results
-pub mod Offending
 pub mod mirror

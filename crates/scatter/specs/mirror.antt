@@ -1,3 +1,2 @@
 pub mod Guarded
-pub mod Rules
 pub mod FromRoom

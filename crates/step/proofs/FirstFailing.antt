@@ -14,7 +14,7 @@ use Rattle.plan.specs.Checked.{checked}
 use Rattle.plan.proofs.InstructionLaws.{plan-keeps}
 use Rattle.shl.proofs.Refusal.{shl-number}
 use Rattle.gather.proofs.Refusal.{gather-number}
-use Rattle.scatter.proofs.FirstTest.{scatter-number}
+use Rattle.scatter_effect.proofs.FirstTest.{scatter-number}
 use Rattle.step.specs.State.{Setup, State, registerBytes}
 use Rattle.step.specs.Step.{acted, planEffect, stepAt}
 use Rattle.step.specs.FirstFailing.{firstOf, someDoubtful, somePair, dataTests, firstFailing}

@@ -19,7 +19,7 @@ use Rattle.plan.specs.declared.Operation.the-variants as operation
 use Rattle.plan.specs.Checked.{checked}
 use Rattle.shl.proofs.Refusal.{shl-writes}
 use Rattle.gather.proofs.Refusal.{gather-writes}
-use Rattle.scatter.proofs.Refusal.{scatter-writes}
+use Rattle.scatter_effect.proofs.Refusal.{scatter-writes}
 use Rattle.step.specs.State.{Setup, State, registerBytes, lengthsOf}
 use Rattle.step.specs.Step.{acted, planEffect, stepAt, after}
 use Rattle.step.proofs.StepOf.{stepOf}

@@ -21,10 +21,10 @@ use Rattle.shl.proofs.Refusal.{shl-spares-memory, shl-detail}
 use Rattle.gather.specs.mirror.Guarded.{gatherGuarded}
 use Rattle.gather.proofs.GuardLaws as gather
 use Rattle.gather.proofs.Refusal.{gather-spares-memory, gather-detail}
-use Rattle.scatter.specs.Scatter.{Window}
+use Rattle.scatter_effect.specs.Scatter.{Window}
 use Rattle.scatter.specs.mirror.Guarded.{scatterGuarded}
 use Rattle.scatter.proofs.GuardLaws as scatter
-use Rattle.scatter.proofs.Refusal.{scatter-spares-registers}
+use Rattle.scatter_effect.proofs.Refusal.{scatter-spares-registers}
 use Rattle.step.specs.declared.Constants.{Constants}
 use Rattle.step.specs.State.{State}
 use Rattle.step.specs.Step.{acted, planEffect, after}

@@ -19,8 +19,8 @@ use Rattle.plan.specs.Checked.{checked}
 use Rattle.staging.specs.Lanes.{lanesOn}
 use Rattle.shl.proofs.Plain.{shl-plain}
 use Rattle.gather.proofs.Plain.{gather-plain}
-use Rattle.scatter.specs.Scatter.{scatterEffect}
-use Rattle.scatter.proofs.Plain.{scatter-plain}
+use Rattle.scatter_effect.specs.Scatter.{scatterEffect}
+use Rattle.scatter_effect.proofs.Plain.{scatter-plain}
 use Rattle.step.specs.State.{Setup, State, registerBytes}
 use Rattle.step.specs.Step.{acted, planEffect, Stepped, stepAt}
 use Rattle.step.proofs.StepOf.{stepOf}

@@ -26,8 +26,8 @@ use Rattle.shl.proofs.LaneResults as shl
 use Rattle.shl.proofs.Refusal.{shl-spares-memory}
 use Rattle.gather.proofs.LaneResults as gather
 use Rattle.gather.proofs.Refusal.{gather-spares-memory}
-use Rattle.scatter.proofs.PairResults as scatter
-use Rattle.scatter.proofs.Refusal.{scatter-spares-registers}
+use Rattle.scatter_effect.proofs.PairResults as scatter
+use Rattle.scatter_effect.proofs.Refusal.{scatter-spares-registers}
 use Rattle.step.specs.State.{Setup, State, registerBytes, lengthsOf}
 use Rattle.step.specs.Step.{acted, planEffect, Stepped, stepAt, after}
 use Rattle.step.specs.Leaves.{ResultsFor, Leaves}

@@ -15,8 +15,8 @@ use Rattle.plan.proofs.InstructionLaws.{plan-keeps}
 use Rattle.plan.proofs.PlaceLaws.{plan-names}
 use Rattle.shl.specs.Shl.{shlEffect}
 use Rattle.gather.specs.Gather.{gatherEffect}
-use Rattle.scatter.specs.Offending.{ScatterTells, done}
-use Rattle.scatter.proofs.FirstPair.{scatter-tells}
+use Rattle.scatter_effect.specs.Offending.{ScatterTells, done}
+use Rattle.scatter_effect.proofs.FirstPair.{scatter-tells}
 use Rattle.step.specs.State.{Setup, State, registerBytes}
 use Rattle.step.specs.Step.{acted, planEffect, stepAt}
 use Rattle.step.specs.FirstFailing.{window}

@@ -17,8 +17,8 @@ use Rattle.plan.specs.Checked.{checked}
 use Rattle.staging.specs.Lanes.{lanesOn}
 use Rattle.shl.proofs.Untainted.{shl-alike}
 use Rattle.gather.proofs.Untainted.{gather-alike}
-use Rattle.scatter.specs.Scatter.{scatterEffect}
-use Rattle.scatter.proofs.Untainted.{scatter-alike}
+use Rattle.scatter_effect.specs.Scatter.{scatterEffect}
+use Rattle.scatter_effect.proofs.Untainted.{scatter-alike}
 use Rattle.step.specs.State.{Setup, State, registerBytes}
 use Rattle.step.specs.Step.{acted, planEffect, Stepped, stepAt}
 use Rattle.step.proofs.StepOf.{stepOf}

@@ -14,7 +14,7 @@ use Rattle.plan.specs.declared.Plan.{Plan}
 use Rattle.plan.specs.Checked.{checked}
 use Rattle.staging.specs.Lanes.{lanesOn}
 use Rattle.staging.specs.Sources.{eitherTainted}
-use Rattle.scatter.specs.Scatter.{Window, channelsOn, target, misaligned, outside}
+use Rattle.scatter_effect.specs.Scatter.{Window, channelsOn, target, misaligned, outside}
 use Rattle.step.specs.State.{Setup, State, registerBytes}
 
 -- the number of the test that comes first, if it fails, else that of the later one

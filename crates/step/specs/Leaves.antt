@@ -7,7 +7,7 @@ use Rattle.plan.specs.declared.Operation.{Operation}
 use Rattle.plan.specs.declared.Operation.the-variants as operation
 use Rattle.shl.specs.Results as shl
 use Rattle.gather.specs.Results as gather
-use Rattle.scatter.specs.Results as scatter
+use Rattle.scatter_effect.specs.Results as scatter
 use Rattle.step.specs.State.{Setup, State, lengthsOf}
 
 -- no refused plan is completed

@@ -15,7 +15,7 @@ use Rattle.plan.specs.Checked.{checked}
 use Rattle.staging.specs.Lanes.{lanesOn}
 use Rattle.shl.specs.Shl.{shlEffect}
 use Rattle.gather.specs.Gather.{gatherEffect}
-use Rattle.scatter.specs.Scatter.{scatterEffect}
+use Rattle.scatter_effect.specs.Scatter.{scatterEffect}
 use Rattle.step.specs.declared.Constants.{Constants}
 use Rattle.step.specs.State.{Setup, State, registerBytes}
 

@@ -9,7 +9,7 @@ use Rattle.decoder.specs.declared.Instruction.{Instruction}
 use Rattle.decoder.specs.Decoding.{instructionAt}
 use Rattle.plan.specs.Checked.{checked}
 use Rattle.plan.specs.Places.{NamesOf}
-use Rattle.scatter.specs.Offending.{ScatterTells}
+use Rattle.scatter_effect.specs.Offending.{ScatterTells}
 use Rattle.step.specs.State.{Setup, State, registerBytes}
 use Rattle.step.specs.FirstFailing.{window}
 

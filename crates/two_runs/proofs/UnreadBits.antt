@@ -37,8 +37,8 @@ use Rattle.controls.proofs.PassedLaws.{elements-reach}
 use Rattle.staging.specs.Lanes.{lanesOn}
 use Rattle.shl.specs.Shl.{shlValue, shlMark, shlLane, shlEffect}
 use Rattle.gather.specs.Gather.{isRead, gatheredByte, gatheredMark, gatherWrites, gatherLane, gatherEffect}
-use Rattle.scatter.specs.Scatter.{channelsOn, target, sourceByte, scatterPair, firstOffending, scatterEffect}
-use Rattle.scatter.proofs.AmongAlike.{among-alike}
+use Rattle.scatter_effect.specs.Scatter.{channelsOn, target, sourceByte, scatterPair, firstOffending, scatterEffect}
+use Rattle.scatter_effect.proofs.AmongAlike.{among-alike}
 use Rattle.step.specs.declared.Constants.{Constants}
 use Rattle.step.specs.State.{Setup, State, registerBytes, lengthsOf}
 use Rattle.step.specs.Step.{Stepped, acted, planEffect, stepAt}

@@ -1,29 +1,25 @@
 -- A scatter whose sources stand in the room, and whose lanes were each worked out once: whether a lane is on, and the sum of its address and
 -- its element offset. `proofs/RoomLaws.antt` shows that it is the scatter of `Scatter`, whose sources stand in the registers.
-use Prim.Native.Nat.{ℕ, _+_, _*_, _-_, _%_, _^_, _<_}
+use Prim.Native.Nat.{ℕ, _+_, _%_, _^_, _<_}
 use mathlib.Core.Path.{_≡_}
 use mathlib.Core.Bool.{Bool, false}
 use mathlib.Core.List.{List, []}
 use lib.ListN.{getD}
-use Rattle.details.specs.declared.Detail.{Detail}
 use Rattle.details.specs.declared.Detail.the-variants as detail
 use Rattle.cells.specs.Buffer.{Buffer}
-use Rattle.cells.specs.Writes.{Write, copyWrites}
-use Rattle.cells.specs.Over.{among, each, some, firstPair}
 use Rattle.cells.specs.Effect.{Effect, unless, unlessFound, writing}
-use Rattle.channels.specs.Bits.{bit}
 use Rattle.channels.specs.Exec.{execSize}
 use Rattle.channels.specs.mirror.Prepared.{isOn}
 use Rattle.channels.specs.declared.Lanes.{Lanes}
 use Rattle.plan.specs.declared.Plan.{Plan}
-use Rattle.plan.specs.Needed.{enabledBelow, scatterNeeded}
+use Rattle.plan.specs.Needed.{scatterNeeded}
 use Rattle.staging.specs.declared.Layout.{Layout}
-use Rattle.staging.specs.mirror.Room.{layoutOf, dataPlace, dataStaged, firstNumber, secondNumber, eitherStaged}
-use Rattle.scatter.specs.Scatter.{Window}
-use Rattle.scatter.specs.declared.Rule.{Rule}
-use Rattle.scatter.specs.declared.Rule.the-variants as rule
-use Rattle.scatter.specs.declared.Pairs.{Pairs}
-use Rattle.scatter.specs.mirror.Rules.{breaks}
+use Rattle.staging.specs.mirror.Room.{layoutOf, dataPlace, dataStaged, firstNumber, secondNumber}
+use Rattle.scatter_effect.specs.Scatter.{Window}
+use Rattle.scatter_pairs.specs.declared.Rule.the-variants as rule
+use Rattle.scatter_pairs.specs.declared.Pairs.{Pairs}
+use Rattle.scatter_pairs.specs.mirror.Search.{someTainted, firstBreaking}
+use Rattle.scatter_writes.specs.mirror.Writes.{allWrites}
 
 -- how both addresses' elements stand in the room
 abbrev pub layoutFor : Plan → Layout
@@ -53,35 +49,7 @@ pub record WorkedOut (bytes : List ℕ) (s : Layout) (lanes : Lanes) (on : List 
   pub lane-on : (k : ℕ) → k < s .lanes → getD on k false ≡ isOn lanes k
   pub lane-sum : (k : ℕ) → k < s .lanes → getD sums k 0 ≡ laneSum bytes s k
 
-unfoldable pub enabledLanes : List Bool → ℕ → List ℕ
-enabledLanes on lanes = among (λ k. getD on k false) lanes
-
--- ---- of each pair
-unfoldable pub targetFrom : ℕ → ℕ → ℕ
-targetFrom sum c = (sum + 4 * c) % 2 ^ 64
-
--- the byte of the room where the data of a channel begin
-unfoldable pub rowPlace : Pairs → ℕ → ℕ
-rowPlace s c = s .first + 4 * (enabledBelow (s .channels) c * s .stride)
-
-unfoldable pub pairWrites : ℕ → Buffer → ℕ → ℕ → ℕ → ℕ → List Write
-pairWrites base room begin sum c lane = copyWrites room (begin + 4 * lane) (targetFrom sum c - base) 4
-
--- what the lanes of one channel write, whose data begin at a place
-unfoldable pub rowWrites : ℕ → Buffer → ℕ → List Bool → List ℕ → ℕ → ℕ → List Write
-rowWrites base room begin on sums lanes c = each (λ i. pairWrites base room begin (getD sums i 0) c i) (enabledLanes on lanes)
-
-unfoldable pub allWrites : ℕ → Buffer → Pairs → List Bool → List ℕ → List Write
-allWrites base room s on sums = each (λ c. rowWrites base room (rowPlace s c) on sums (s .lanes) c) (among (bit (s .channels)) 4)
-
--- the first enabled pair that breaks a rule
-unfoldable pub firstBreaking : Rule → Pairs → List Bool → List ℕ → Detail
-firstBreaking rule s on sums = firstPair (λ c i. breaks rule (targetFrom (getD sums i 0) c)) (among (bit (s .channels)) 4) (enabledLanes on (s .lanes))
-
 -- ---- of the instruction
-unfoldable pub someTainted : List ℕ → Layout → List Bool → Bool
-someTainted taint s on = some (eitherStaged taint s) (enabledLanes on (s .lanes))
-
 unfoldable pub roomEffect : Window → Layout → Pairs → List Bool → List ℕ → Buffer → Effect
 roomEffect w l s on sums room =
     unless (someTainted (room .taint) l on) 10 detail.None

@@ -13,7 +13,7 @@ use Rattle.channels.specs.Exec.{execSize}
 use Rattle.plan.specs.declared.Plan.{Plan}
 use Rattle.staging.specs.Lanes.{lanesOn}
 use Rattle.staging.specs.mirror.Room.{elementsFit}
-use Rattle.scatter.specs.Scatter.{Window, scatterEffect}
+use Rattle.scatter_effect.specs.Scatter.{Window, scatterEffect}
 
 -- "scatter 8 and 16 only", channels' data at most 16 dwords apart (max(16, 64/4)), and UQ elements of 8 bytes
 unfoldable pub scatterFits : Plan → Bool

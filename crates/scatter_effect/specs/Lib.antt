@@ -1,0 +1,3 @@
+pub mod Scatter
+pub mod Results
+pub mod Offending
