@@ -22,7 +22,7 @@ use Rattle.step.specs.State.{Setup, State}
 use Rattle.output.specs.Output.{answerLine, outputBytes}
 use Rattle.run.specs.Run.{run}
 use Rattle.run.proofs.Whole.{tables-refused}
-use Rattle.run.proofs.PlainRunLaws.{equal-taken}
+use Rattle.plain_run.proofs.PlainRunLaws.{equal-taken}
 use Rattle.answering.specs.mirror.Setting as loader
 use Rattle.answering.specs.mirror.Setting.{taintOf}
 use Rattle.answering.proofs.BenchLaws.{begun, blocks-answered}

@@ -3,6 +3,4 @@ pub mod Whole
 pub mod Fuel
 pub mod Within
 pub mod Kept
-pub mod WholeRun
 pub mod RunLaws
-pub mod PlainRunLaws

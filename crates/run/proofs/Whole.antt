@@ -9,7 +9,6 @@ use Rattle.step.specs.State.{Setup, State, lengthsOf}
 use Rattle.details.proofs.OperandLaws.{values-tell}
 use Rattle.run.specs.declared.Answer.{Answer}
 use Rattle.run.specs.Run.{numbersOf, stopped, runThrough, run}
-use Rattle.run.specs.PlainRun.{unmarked, plainRun}
 
 pub run-is : (x : Setup) (s : State) → run x s ≡ cond (tablesGood (lengthsOf x s) (x .tables)) (runThrough x s) (stopped 13 0 0 s)
 unfolding run
@@ -24,11 +23,6 @@ tables-passed x s good = rw good
 pub tables-refused : (x : Setup) (s : State) → tablesGood (lengthsOf x s) (x .tables) ≡ false → run x s ≡ stopped 13 0 0 s
 unfolding run
 tables-refused x s bad = rw bad
-
--- the plain run is the run of the same bytes with no marks
-pub plain-run-is : (x : Setup) (registers surfaces memory : List ℕ) → plainRun x registers surfaces memory ≡ run x (record { registers = unmarked registers; surfaces = unmarked surfaces; memory = unmarked memory })
-unfolding plainRun
-plain-run-is x registers surfaces memory = refl
 
 -- an answer is its numbers: where they are equal, so are the answers
 pub same-numbers : (a b : Answer) → numbersOf a ≡ numbersOf b → a ≡ b

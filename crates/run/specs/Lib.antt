@@ -1,5 +1,2 @@
 pub mod Run
-pub mod mirror
-pub mod PlainRun
 pub mod Ran
-pub mod WholeRun

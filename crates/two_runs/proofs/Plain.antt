@@ -16,9 +16,10 @@ use Rattle.step.specs.Step.{stepAt, after}
 use Rattle.step.proofs.Kept.{refused-step-keeps}
 use Rattle.step.proofs.Plain.{PlainStates, step-plain}
 use Rattle.run.specs.Run.{Outcome, stopped, runThrough, run}
-use Rattle.run.specs.PlainRun.{unmarked}
+use Rattle.plain_run.specs.PlainRun.{unmarked}
 use Rattle.run.proofs.Simulation.{run-keeps, runs-same-where}
-use Rattle.run.proofs.Whole.{run-is, plain-run-is}
+use Rattle.run.proofs.Whole.{run-is}
+use Rattle.plain_run.proofs.PlainRunLaws.{plain-run-is}
 use Rattle.two_runs.specs.Plain.{NoMarks, plainly, SameAnswerAndBytes}
 
 -- ---- no marks stay no marks

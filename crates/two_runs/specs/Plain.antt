@@ -5,7 +5,7 @@ use Prim.Native.Nat.{ℕ}
 use lib.ListN.{getD}
 use Rattle.step.specs.State.{Setup, State}
 use Rattle.run.specs.Run.{Outcome}
-use Rattle.run.specs.PlainRun.{plainRun}
+use Rattle.plain_run.specs.PlainRun.{plainRun}
 
 -- no byte is marked
 pub record NoMarks (s : State) : Type 0 where

@@ -1,6 +1,6 @@
 -- Every starred line of the table holds: computed from the definitions.
 use mathlib.Core.Path.{refl}
-use Rattle.run.specs.PlainRun.{plainRun}
+use Rattle.plain_run.specs.PlainRun.{plainRun}
 use Rattle.worked.specs.Case.{hex, played, Every}
 use Rattle.worked.specs.Region.{lastByte, registersTouched}
 use Rattle.worked.specs.Table.{table}

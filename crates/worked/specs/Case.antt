@@ -5,7 +5,7 @@ use Prim.Native.Nat.{ℕ, zero, suc, _/_, _%_, _^_}
 use lib.ListN.{replicate}
 use Rattle.tables.specs.Tables.{Tables}
 use Rattle.run.specs.Run.{Outcome}
-use Rattle.run.specs.PlainRun.{plainRun}
+use Rattle.plain_run.specs.PlainRun.{plainRun}
 
 -- n bytes, written as one number in hex, the first byte first, as the paper writes them
 unfoldable pub hex : ℕ → ℕ → List ℕ

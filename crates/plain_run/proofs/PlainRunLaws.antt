@@ -13,11 +13,16 @@ use Rattle.tables.specs.declared.Lengths.{Lengths}
 use Rattle.tables.specs.Tables.{Tables, tablesGood}
 use Rattle.tables.proofs.Laws.{limited, surfaces-small}
 use Rattle.step.specs.State.{Setup, State, state, lengthsOf}
 use Rattle.run.specs.declared.Answer.{Answer}
 use Rattle.run.specs.Run.{outcome, run}
-use Rattle.run.specs.PlainRun.{plainRun, plainOutcome, withoutMarks}
-use Rattle.run.specs.mirror.TooLong.{tooLong}
-use Rattle.run.proofs.Whole.{tables-refused, plain-run-is}
+use Rattle.plain_run.specs.PlainRun.{unmarked, plainRun, plainOutcome, withoutMarks}
+use Rattle.plain_run.specs.mirror.TooLong.{tooLong}
+use Rattle.run.proofs.Whole.{tables-refused}
+
+-- the plain run is the run of the same bytes with no marks
+pub plain-run-is : (x : Setup) (registers surfaces memory : List ℕ) → plainRun x registers surfaces memory ≡ run x (record { registers = unmarked registers; surfaces = unmarked surfaces; memory = unmarked memory })
+unfolding plainRun
+plain-run-is x registers surfaces memory = refl
 
 -- the first of equal elements, whatever they are
 pub equal-taken : {A : Type 0} (a : A) (n m : ℕ) → n ≤ m → take n (replicate m a) ≡ replicate n a

@@ -15,11 +15,11 @@ use Rattle.step.proofs.FirstFailing.{step-number}
 use Rattle.step.proofs.StepTells.{step-tells}
 use Rattle.step.proofs.Kept.{after-lengths}
 use Rattle.step.proofs.Results.{step-completes}
 use Rattle.run.specs.Run.{Outcome, run}
 use Rattle.run.specs.Ran.{Ran, ended, refusedAt, went, wentCount}
-use Rattle.run.specs.WholeRun.{Stops, atEnd, refusedBy, Told, WholeRun, unfit, ran}
+use Rattle.whole_run.specs.WholeRun.{Stops, atEnd, refusedBy, Told, WholeRun, unfit, ran}
 use Rattle.run.proofs.Whole.{tables-refused}
 use Rattle.run.proofs.Fuel.{run-ran, run-completed}
 
 -- one more at the start of a sequence
 abbrev onward : {A : Type 0} → A → (ℕ → A) → ℕ → A

@@ -1,9 +1,9 @@
--- `run::plain_run` meets its contract: it is the run over zeros.
+-- `plain_run::plain_run` meets its contract: it is the run over zeros.
 use mathlib.Core.Path.{sym, _∙_}
 use borrow.Author.Needs.{needs}
-use Rattle.run.proofs.PlainRunLaws.{equal-taken, length-taken, short-told, too-long-answers, zeros-answer}
-use Rattle.run.proofs.plain_run.Statement.{statement}
-use Rattle.run.proofs.plain_run.Tie as tie
+use Rattle.plain_run.proofs.PlainRunLaws.{equal-taken, length-taken, short-told, too-long-answers, zeros-answer}
+use Rattle.plain_run.proofs.plain_run.Statement.{statement}
+use Rattle.plain_run.proofs.plain_run.Tie as tie
 
 -- where the lengths were asked for
 abbrev asked : tie.Else1 → tie.After-too-long
