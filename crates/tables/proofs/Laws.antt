@@ -3,18 +3,18 @@ use mathlib.Core.Path.{_≡_}
 use mathlib.Core.Bool.{true}
 use Prim.Native.Nat.{ℕ, _+_, _≤_, _<_}
 use lib.ListN.{length, getD}
-use Rattle.tables.specs.declared.Lengths.{Lengths}
-use Rattle.tables.specs.Lengths.{lengthsGood}
+use Rattle.lengths.specs.declared.Lengths.{Lengths}
+use Rattle.lengths.specs.Lengths.{lengthsGood}
 use Rattle.tables.specs.Variables.{variablesGood}
-use Rattle.tables.specs.Predicates.{predicatesGood}
-use Rattle.tables.specs.Surfaces.{surfaceLength, surfaceStart, surfacesGood}
+use Rattle.predicate_table.specs.Predicates.{predicatesGood}
+use Rattle.surface_table.specs.Surfaces.{surfaceLength, surfaceStart, surfacesGood}
 use Rattle.tables.specs.Tables.{Tables, tablesGood}
 use Rattle.channels.proofs.All.{All4, all4}
-use Rattle.tables.proofs.Limits.{Limited, lengths-limited}
+use Rattle.lengths.proofs.Limits.{Limited, lengths-limited}
 use Rattle.tables.proofs.Placement as placement
 use Rattle.tables.proofs.Placement.{Placed}
-use Rattle.tables.proofs.PredicateCounts as counts
-use Rattle.tables.proofs.SurfacePlaces as places
+use Rattle.predicate_table.proofs.PredicateCounts as counts
+use Rattle.surface_table.proofs.SurfacePlaces as places
 
 pub record Counted (t : Tables) : Type 0 where
   pub variables-few : length (t .variables .types) ≤ 256

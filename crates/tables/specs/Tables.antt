@@ -1,11 +1,11 @@
 -- What the caller's tables and lengths must satisfy. Document 01, "Tables and sizes", and number 13:
 -- "tables (a type not listed too) or lent lengths break the sizes above, or marks differ in length from their buffer".
 use mathlib.Core.Bool.{Bool, _&&_}
-use Rattle.tables.specs.declared.Lengths.{Lengths}
-use Rattle.tables.specs.Lengths.{lengthsGood}
+use Rattle.lengths.specs.declared.Lengths.{Lengths}
+use Rattle.lengths.specs.Lengths.{lengthsGood}
 use Rattle.tables.specs.Variables.{Variables, variablesGood}
-use Rattle.tables.specs.Predicates.{Predicates, predicatesGood}
-use Rattle.tables.specs.Surfaces.{Surfaces, surfacesGood}
+use Rattle.predicate_table.specs.Predicates.{Predicates, predicatesGood}
+use Rattle.surface_table.specs.Surfaces.{Surfaces, surfacesGood}
 
 pub record Tables : Type 0 where
   pub variables : Variables

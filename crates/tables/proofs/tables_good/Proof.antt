@@ -3,7 +3,7 @@ use mathlib.Core.Path.{sym, _∙_}
 use borrow.Author.Needs.{needs}
 use borrow.Author.Tests.{not-true, not-false}
 use Rattle.tables.specs.Tables.{tablesGood}
-use Rattle.tables.proofs.Limits.{size-some, lengths-limited}
+use Rattle.lengths.proofs.Limits.{size-some, lengths-limited}
 use Rattle.tables.proofs.tables_good.Statement.{statement}
 use Rattle.tables.proofs.tables_good.Tie as tie
 

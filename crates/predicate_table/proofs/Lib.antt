@@ -1,0 +1,2 @@
+pub mod PredicateCounts
+pub mod Edges

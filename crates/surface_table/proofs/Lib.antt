@@ -1,0 +1,2 @@
+pub mod SurfacePlaces
+pub mod Edges
