@@ -8,11 +8,11 @@ use lib.Dec.{eqb, ltb}
 use borrow.Author.Tests.{le-ltb, not-true, not-false}
 use Rattle.hex.specs.Bytes.{isHex, hexBytes}
 use Rattle.hex.proofs.ByteLaws.{empty-not-hex}
-use Rattle.frames.specs.declared.Case.{Case}
-use Rattle.frames.specs.mirror.Reading.{Contents, Tables, tables, Reading, reading, only}
-use Rattle.frames.specs.mirror.Lines.{badLine, longLine}
-use Rattle.frames.specs.mirror.Repeated.{variables, variableRead, predicates, predicateRead, surfaces, surfaceRead}
-use Rattle.frames.specs.mirror.Once.{once, onceRead}
+use Rattle.tally.specs.declared.Case.{Case}
+use Rattle.tally.specs.mirror.Reading.{Contents, Tables, tables, Reading, reading, only}
+use Rattle.tally.specs.mirror.Lines.{badLine, longLine}
+use Rattle.table_frames.specs.mirror.Repeated.{variables, variableRead, predicates, predicateRead, surfaces, surfaceRead}
+use Rattle.once_frames.specs.mirror.Once.{once, onceRead}
 use Rattle.frames.specs.mirror.Frames.{frameRead, lineRead}
 
 module _ (line : List ℕ) (case c : Case) (o : Contents) (t : Tables) (hex : Bool) (none : case .bad ≤ 0) (h : hex ≡ isHex line) where

@@ -6,10 +6,10 @@ use mathlib.Core.List.{List}
 use lib.Dec.{ltb, eqb}
 use lib.ListN.{getD}
 use Rattle.hex.specs.Bytes.{isHex, hexBytes}
-use Rattle.frames.specs.mirror.Reading.{Reading, reading, contents, tables, only}
-use Rattle.frames.specs.mirror.Lines.{badLine}
-use Rattle.frames.specs.mirror.Repeated.{Variables, variables, variableRead, Predicates, predicates, predicateRead, Surfaces, surfaces, surfaceRead}
-use Rattle.frames.specs.mirror.Once.{Once, once, onceRead}
+use Rattle.tally.specs.mirror.Reading.{Reading, reading, contents, tables, only}
+use Rattle.tally.specs.mirror.Lines.{badLine}
+use Rattle.table_frames.specs.mirror.Repeated.{Variables, variables, variableRead, Predicates, predicates, predicateRead, Surfaces, surfaces, surfaceRead}
+use Rattle.once_frames.specs.mirror.Once.{Once, once, onceRead}
 
 -- the reading with what a frame made of its part
 abbrev pub withVariables : Reading → Variables → Reading
