@@ -18,7 +18,7 @@ use Rattle.decoder.specs.declared.Scatter.{Scatter}
 use Rattle.decoder.specs.declared.RawSend.{RawSend}
 use Rattle.decoder.specs.declared.Instruction.{Instruction}
 use Rattle.decoder.specs.declared.Instruction.the-variants as instruction
-use Rattle.regions.specs.declared.Role.the-variants as role
+use Rattle.region_rules.specs.declared.Role.the-variants as role
 use Rattle.regions.proofs.ReachLaws.{cond-either}
 use Rattle.operands.specs.declared.TypeRule.{TypeRule}
 use Rattle.operands.specs.declared.TypeRule.the-variants as rule
@@ -31,7 +31,7 @@ use Rattle.plan.specs.declared.Part.{Part}
 use Rattle.plan.specs.declared.Plan.{Plan}
 use Rattle.controls.specs.Control.{predicateFor, controlRefusal}
 use Rattle.plan.specs.Control.{controlOf}
-use Rattle.plan.specs.Needed.{elementsNeeded, channelStride, scatterNeeded}
+use Rattle.payloads.specs.Needed.{elementsNeeded, channelStride, scatterNeeded}
 use Rattle.plan.specs.Plans.{tested, shlPlan, gatherPlan, scatterPlan}
 use Rattle.plan.specs.Checked.{shlDst, shlSrc0, shlSrc1, checkedShl, gatherOffset, gatherElementOffset, gatherDst, checkedGatherOperands, surfacePart, checkedGather, scatterAddress, scatterElementOffset, scatterSrc, checkedScatter, checkedSend, checkedOperands, checked}
 use Rattle.controls.proofs.PassedLaws.{lanes-fit}

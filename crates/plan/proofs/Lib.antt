@@ -3,6 +3,4 @@ pub mod NumberLaws
 pub mod PlaceLaws
 pub mod PlanLaws
 pub mod PredicateLaws
-pub mod Edges
-pub mod ChannelLaws
 pub mod InstructionLaws

@@ -19,7 +19,7 @@ use Rattle.decoder.specs.declared.RawSend.{RawSend}
 use Rattle.decoder.specs.declared.Instruction.{Instruction}
 use Rattle.decoder.specs.declared.Instruction.the-variants as instruction
 use Rattle.operands.specs.declared.Located.{Located}
-use Rattle.regions.specs.declared.Role.the-variants as role
+use Rattle.region_rules.specs.declared.Role.the-variants as role
 use Rattle.operands.specs.declared.TypeRule.the-variants as rule
 use Rattle.tables.specs.Variables.{Variables}
 use Rattle.operands.specs.Operands.{locatedVector, locatedRaw}
@@ -27,7 +27,7 @@ use Rattle.plan.specs.declared.Part.{Part}
 use Rattle.plan.specs.declared.Plan.{Plan}
 use Rattle.controls.specs.Control.{predicateFor, controlRefusal, bitsNamed}
 use Rattle.plan.specs.Control.{controlOf}
-use Rattle.plan.specs.Needed.{elementsNeeded, channelStride, scatterNeeded, registersNeeded, blockBytes}
+use Rattle.payloads.specs.Needed.{elementsNeeded, channelStride, scatterNeeded, registersNeeded, blockBytes}
 use Rattle.plan.specs.Plans.{refusedPlan, tested, testedFrom, shlPlan, gatherPlan, scatterPlan}
 
 -- SHL: Dst, Src0, Src1

@@ -16,9 +16,9 @@ use Rattle.field_groups.specs.declared.Operand.{Operand}
 use Rattle.field_groups.specs.declared.Operand.the-variants as kind
 use Rattle.decoder.specs.declared.Instruction.{Instruction}
 use Rattle.decoder.specs.declared.Instruction.the-variants as instruction
-use Rattle.regions.specs.declared.Role.{Role}
-use Rattle.regions.specs.declared.Role.the-variants as role
-use Rattle.regions.specs.RegionRules.{regionRefusal}
+use Rattle.region_rules.specs.declared.Role.{Role}
+use Rattle.region_rules.specs.declared.Role.the-variants as role
+use Rattle.region_rules.specs.RegionRules.{regionRefusal}
 use Rattle.operands.specs.declared.TypeRule.{TypeRule}
 use Rattle.operands.specs.declared.TypeRule.the-variants as rule
 use Rattle.operands.specs.declared.Located.{Located}
@@ -27,7 +27,7 @@ use Rattle.operands.specs.Variables.{inTable, variableAt}
 use Rattle.operands.specs.Operands.{locatedVector, locatedRaw}
 use Rattle.plan.specs.declared.Plan.{Plan}
 use Rattle.plan.specs.Control.{controlOf}
-use Rattle.plan.specs.Needed.{elementsNeeded, channelStride, scatterNeeded, registersNeeded}
+use Rattle.payloads.specs.Needed.{elementsNeeded, channelStride, scatterNeeded, registersNeeded}
 
 -- an operand as an instruction has it: a vector operand or a scalar, or a raw operand of which so many bytes are needed
 pub data Asked : Type 0 where

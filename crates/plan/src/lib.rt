@@ -8,13 +8,12 @@ use details::Detail;
 use field_groups::Control;
 use operands::Elements;
 use operands::TypeRule;
-use regions::Role;
+use region_rules::Role;
 ghost use mathlib.Core.Path.{_≡_};
 ghost use Rattle.details.specs.Details.{operandDetail};
 ghost use Rattle.tables.specs.Tables.{tables};
 ghost use Rattle.tables.specs.Borrowed.{variableTable, predicateTable, surfaceTable};
 ghost use Rattle.plan.specs.Control.{controlOf};
-ghost use Rattle.plan.specs.Needed.{elementsNeeded, enabledBelow, channelStride, scatterNeeded, registersNeeded, blockBytes};
 ghost use Rattle.plan.specs.Plans.{refusedPlan, shlPlan, gatherPlan, scatterPlan};
 ghost use Rattle.plan.specs.Checked.{checkedShl, checkedGatherOperands, surfacePart, checkedGather, checkedScatter, checkedSend, checked};
 
@@ -99,55 +98,6 @@ fn control_of(instruction: Instruction) -> Control
         Instruction::Scatter(i) => i.control,
         Instruction::RawSend(i) => i.control,
     }
-}
-
-fn elements_needed(exec: u8, code: u8) -> u32
-    ensures { λ r. ⌜ r ≡ elementsNeeded exec code ⌝ }
-{
-    (channels::split(exec).size as u32) * (element_types::size_of(code) as u32)
-}
-
-fn enabled_channels(channels: u8) -> u8
-    ensures { λ r. ⌜ r ≡ enabledBelow channels 4 ⌝ }
-{
-    channels % 2 + channels / 2 % 2 + channels / 4 % 2 + channels / 8 % 2
-}
-
-// The dwords from a channel's data to the next channel's.
-fn channel_stride(register_size: u8, exec: u8) -> u8
-    ensures { λ r. ⌜ r ≡ channelStride «register_size» exec ⌝ }
-{
-    let lanes = channels::split(exec).size;
-    let dwords = register_size / 4;
-    if lanes < dwords { dwords } else { lanes }
-}
-
-// The bytes of Src that the enabled channels need, where their data are so many dwords apart.
-pub fn scatter_needed(stride: u8, exec: u8, channels: u8) -> u32
-    ensures { λ r. ⌜ r ≡ scatterNeeded stride exec channels ⌝ }
-{
-    let size = channels::split(exec).size as u32;
-    let dword = element_types::size_of(element_types::UD) as u32;
-    let enabled = enabled_channels(channels) as u32;
-    if 0 < enabled {
-        return ((enabled - 1) * (stride as u32) + size) * dword;
-    }
-    size * dword
-}
-
-fn registers_needed(register_size: u8, count: u8) -> u32
-    ensures { λ r. ⌜ r ≡ registersNeeded «register_size» count ⌝ }
-{
-    (register_size as u32) * (count as u32)
-}
-
-fn block_bytes(code: u8) -> u8
-    ensures { λ r. ⌜ r ≡ blockBytes code ⌝ }
-{
-    if code == 0 {
-        return 1;
-    }
-    if code == 1 { 2 } else { 4 }
 }
 
 fn surface_part(surfaces: &[u16], index: u8) -> Part
@@ -309,7 +259,7 @@ fn check_gather_operands(
     let control = instruction.control;
     let exec = control.exec;
     let address = instruction.offset;
-    let needed = elements_needed(exec, element_types::UD);
+    let needed = payloads::elements_needed(exec, element_types::UD);
     let offset = operands::locate_vector(
         register_size,
         types,
@@ -348,7 +298,7 @@ fn check_gather_operands(
     let left = offset.elements;
     let right = element.elements;
     let payload = dst.elements;
-    let bytes = block_bytes(instruction.access.num_blocks);
+    let bytes = payloads::block_bytes(instruction.access.num_blocks);
     gather_plan(control, bits, left, right, payload, bytes, part)
 }
 
@@ -406,7 +356,7 @@ fn check_scatter(
     if 0 < address.number {
         return refused_at(address.number, 1);
     }
-    let offsets = elements_needed(exec, element_types::UQ);
+    let offsets = payloads::elements_needed(exec, element_types::UQ);
     let element = operands::locate_raw(
         types,
         starts,
@@ -418,8 +368,8 @@ fn check_scatter(
     if 0 < element.number {
         return refused_at(element.number, 2);
     }
-    let stride = channel_stride(register_size, exec);
-    let needed = scatter_needed(stride, exec, instruction.channels);
+    let stride = payloads::channel_stride(register_size, exec);
+    let needed = payloads::scatter_needed(stride, exec, instruction.channels);
     let src = operands::locate_raw(
         types,
         starts,
@@ -470,7 +420,7 @@ fn check_send(
     if 0 < desc.number {
         return refused_at(desc.number, 1);
     }
-    let sent = registers_needed(register_size, instruction.message.num_src);
+    let sent = payloads::registers_needed(register_size, instruction.message.num_src);
     let src = operands::locate_raw(
         types,
         starts,
@@ -482,7 +432,7 @@ fn check_send(
     if 0 < src.number {
         return refused_at(src.number, 2);
     }
-    let received = registers_needed(register_size, instruction.message.num_dst);
+    let received = payloads::registers_needed(register_size, instruction.message.num_dst);
     let dst = operands::locate_raw(
         types,
         starts,

@@ -6,11 +6,12 @@ use lib.Dec.{ltb, eqb}
 use Rattle.element_types.specs.Types.{UW, sizeOf}
 use Rattle.element_types.proofs.Sizes.{sizes}
 use Rattle.field_groups.specs.declared.General.{General}
-use Rattle.regions.specs.declared.Role.{Role}
-use Rattle.regions.specs.declared.Role.the-variants as role
+use Rattle.region_rules.specs.declared.Role.{Role}
+use Rattle.region_rules.specs.declared.Role.the-variants as role
 use Rattle.regions.specs.declared.Variable.{Variable}
-use Rattle.regions.specs.Regions.{verticalCode, widthCode, horizontalCode, strideOf, between, scalarRegionGood, rowElements, firstElement, sourceElement, elementOf}
-use Rattle.regions.specs.RegionRules.{isNumber, standsFor, widthZeroOr32, strideOverFour, widthOverExecSize, destinationStrideZero, nullOutOfPlace, scalarRegionWrong, firstBroken, regionRefusal}
+use Rattle.region_rules.specs.RegionWord.{verticalCode, widthCode, horizontalCode, strideOf, between, scalarRegionGood}
+use Rattle.regions.specs.Regions.{rowElements, firstElement, sourceElement, elementOf}
+use Rattle.region_rules.specs.RegionRules.{isNumber, standsFor, widthZeroOr32, strideOverFour, widthOverExecSize, destinationStrideZero, nullOutOfPlace, scalarRegionWrong, firstBroken, regionRefusal}
 use Rattle.regions.specs.Reach.{lowest, highest, twoRegisters, reachGood, elementsGood}
 use Rattle.regions.proofs.ReachLaws.{inside-highest}
 

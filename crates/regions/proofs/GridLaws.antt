@@ -6,10 +6,11 @@ use native.Mathlib.Nat.{div-one, mod-one}
 use lib.Dec.{eqb}
 use borrow.Author.Tests.{eqb-false}
 use Rattle.field_groups.specs.declared.General.{General}
-use Rattle.regions.specs.declared.Role.{Role}
-use Rattle.regions.specs.declared.Role.the-variants as role
+use Rattle.region_rules.specs.declared.Role.{Role}
+use Rattle.region_rules.specs.declared.Role.the-variants as role
 use Rattle.regions.specs.declared.Grid.{Grid}
-use Rattle.regions.specs.Regions.{strideOf, sourceElement, elementOf}
+use Rattle.region_rules.specs.RegionWord.{strideOf}
+use Rattle.regions.specs.Regions.{sourceElement, elementOf}
 use Rattle.regions.specs.mirror.Grid.{gridElement, gridOf}
 use Rattle.regions.proofs.ReachLaws.{cond-either}
 

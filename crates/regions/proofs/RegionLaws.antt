@@ -10,8 +10,9 @@ use Rattle.element_types.specs.Types.{sizeOf, isListed}
 use Rattle.element_types.proofs.Sizes.{register-whole}
 use Rattle.channels.proofs.All.{left, right, all3, all4}
 use Rattle.field_groups.specs.declared.General.{General}
-use Rattle.regions.specs.declared.Role.the-variants as role
-use Rattle.regions.specs.Regions.{widthCode, horizontalCode, strideOf, between, sourceRegionGood, destinationRegionGood, regionAllowed, rowElements, firstElement, sourceElement, elementOf}
+use Rattle.region_rules.specs.declared.Role.the-variants as role
+use Rattle.region_rules.specs.RegionWord.{widthCode, horizontalCode, strideOf, between, sourceRegionGood, destinationRegionGood, regionAllowed}
+use Rattle.regions.specs.Regions.{rowElements, firstElement, sourceElement, elementOf}
 use Rattle.regions.specs.Positions.{elementByte}
 use Rattle.regions.proofs.GridLaws.{stride-some}
 

@@ -1,5 +1,4 @@
 pub mod Regions
-pub mod RegionRules
 pub mod Reach
 pub mod mirror
 pub mod Positions

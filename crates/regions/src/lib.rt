@@ -1,24 +1,13 @@
-// Regions: which rule a region word breaks, which element of its variable each lane takes, and where that is.
+// Regions: which element of its variable each lane takes, and where that is.
 use field_groups::General;
+use region_rules::Role;
 ghost use mathlib.Core.Path.{_≡_};
 ghost use Prim.Native.Nat.{_+_, _-_, _/_, _%_, _≤_, _<_, min, max};
 ghost use Rattle.element_types.specs.Types.{sizeOf};
-ghost use Rattle.regions.specs.declared.Role.the-variants as role;
-ghost use Rattle.regions.specs.Regions.{strideOf, rowElements, firstElement, elementOf};
-ghost use Rattle.regions.specs.RegionRules.{isNumber, standsFor, regionRefusal};
+ghost use Rattle.regions.specs.Regions.{rowElements, firstElement, elementOf};
 ghost use Rattle.regions.specs.Reach.{lowest, highest, twoRegisters, elementsGood};
 ghost use Rattle.regions.specs.mirror.Grid.{gridElement, gridOf};
 ghost use Rattle.regions.specs.Positions.{lanePositions, elementByte};
-
-// <0;1,0>: vertical code 1, width code 2, horizontal code 1.
-const SCALAR_REGION: u16 = 0x0121;
-
-// What a vector operand or a scalar is for.
-pub enum Role {
-    Source,
-    Scalar,
-    Destination,
-}
 
 // A variable of the table: its type's code, start byte and element count.
 pub struct Variable {
@@ -39,92 +28,6 @@ struct Grid {
 struct Reach {
     low: u32,
     high: u32,
-}
-
-// The stride of a code; Null is 0 too.
-fn stride_of(code: u16) -> u8
-    ensures { λ r. ⌜ r ≡ strideOf code ⌝ }
-{
-    if code == 2 {
-        return 1;
-    }
-    if code == 3 {
-        return 2;
-    }
-    if code == 4 {
-        return 4;
-    }
-    if code == 5 {
-        return 8;
-    }
-    if code == 6 {
-        return 16;
-    }
-    if code == 7 { 32 } else { 0 }
-}
-
-fn is_number(code: u16) -> bool
-    ensures { λ r. ⌜ r ≡ isNumber code ⌝ }
-{
-    (1 <= code) & (code <= 7)
-}
-
-fn stands_for(number: u8, code: u16) -> bool
-    ensures { λ r. ⌜ r ≡ standsFor number code ⌝ }
-{
-    is_number(code) & (stride_of(code) == number)
-}
-
-// 20, 21, 22, 24.
-fn source_refusal(region: u16, lanes: u8) -> u8
-    ensures { λ r. ⌜ r ≡ regionRefusal role.Source region lanes ⌝ }
-{
-    let vertical = region % 16;
-    let width = region / 16 % 16;
-    let horizontal = region / 256 % 16;
-    if stands_for(0, width) | stands_for(32, width) {
-        return 20;
-    }
-    if 4 < stride_of(horizontal) {
-        return 21;
-    }
-    if lanes < stride_of(width) {
-        return 22;
-    }
-    if !is_number(vertical) | !is_number(width) | !is_number(horizontal) {
-        return 24;
-    }
-    0
-}
-
-// 21, 23, 24; the lanes do not matter.
-fn destination_refusal(region: u16) -> u8
-    ensures { λ r. ⌜ r ≡ regionRefusal role.Destination region 0 ⌝ }
-{
-    let vertical = region % 16;
-    let width = region / 16 % 16;
-    let horizontal = region / 256 % 16;
-    if 4 < stride_of(horizontal) {
-        return 21;
-    }
-    if stands_for(0, horizontal) {
-        return 23;
-    }
-    if (vertical != 0) | (width != 0) | !is_number(horizontal) {
-        return 24;
-    }
-    0
-}
-
-// The number of the first rule that a region word breaks, for an operand of this role and so many lanes; 0 if it breaks none.
-pub fn region_refusal(role: Role, region: u16, lanes: u8) -> u8
-    ensures { λ r. ⌜ r ≡ regionRefusal role region lanes ⌝ }
-{
-    match role {
-        Role::Source => source_refusal(region, lanes),
-        Role::Scalar => if region == SCALAR_REGION { 0 } else { 25 },
-        Role::Destination => destination_refusal(region),
-    }
 }
 
 // 0 where the divisor is 0.
@@ -163,12 +66,12 @@ fn grid_of(register_size: u8, role: Role, general: General, size: u8) -> Grid
     ensures { λ r. ⌜ r ≡ gridOf «register_size» role general size ⌝ }
 {
     let first = first_element(register_size, general, size);
-    let horizontal = stride_of(general.region / 256 % 16);
+    let horizontal = region_rules::stride_of(general.region / 256 % 16);
     match role {
         Role::Source => Grid {
             first,
-            vertical: stride_of(general.region % 16),
-            width: stride_of(general.region / 16 % 16),
+            vertical: region_rules::stride_of(general.region % 16),
+            width: region_rules::stride_of(general.region / 16 % 16),
             horizontal,
         },
         Role::Scalar => Grid {

@@ -1,6 +1,6 @@
 -- `regions::grid_of` meets its contract: at each return, what the calls and tests on the way say picks the case of `Grid`.
 use borrow.Author.Needs.{needs}
-use Rattle.regions.specs.Regions.{verticalCode, widthCode, horizontalCode}
+use Rattle.region_rules.specs.RegionWord.{verticalCode, widthCode, horizontalCode}
 use Rattle.regions.specs.mirror.Grid.{gridOf}
 use Rattle.regions.proofs.grid_of.Statement.{statement}
 use Rattle.regions.proofs.grid_of.Tie as tie

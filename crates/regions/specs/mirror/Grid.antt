@@ -2,10 +2,11 @@
 -- elements are those of `Regions`.
 use Prim.Native.Nat.{ℕ, _+_, _*_, _/_, _%_}
 use Rattle.field_groups.specs.declared.General.{General}
-use Rattle.regions.specs.declared.Role.{Role}
-use Rattle.regions.specs.declared.Role.the-variants as role
+use Rattle.region_rules.specs.declared.Role.{Role}
+use Rattle.region_rules.specs.declared.Role.the-variants as role
 use Rattle.regions.specs.declared.Grid.{Grid}
-use Rattle.regions.specs.Regions.{verticalCode, widthCode, horizontalCode, strideOf, firstElement}
+use Rattle.region_rules.specs.RegionWord.{verticalCode, widthCode, horizontalCode, strideOf}
+use Rattle.regions.specs.Regions.{firstElement}
 
 -- lane k in rows of width
 unfoldable pub gridElement : Grid → ℕ → ℕ

@@ -1,0 +1,2 @@
+pub mod RegionWord
+pub mod RegionRules
