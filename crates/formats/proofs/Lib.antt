@@ -8,6 +8,7 @@ pub mod TableTests
 pub mod WordLaws
 pub mod AroundLaws
 pub mod NumberLaws
+pub mod PartLaws
 pub mod ScanLaws
 pub mod WritingLaws
 pub mod DigitLaws

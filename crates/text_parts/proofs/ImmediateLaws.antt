@@ -22,7 +22,7 @@ use Rattle.formats.proofs.NumberLaws.{number-lawful, number-under}
 use Rattle.element_types.specs.Types.{sizeOf, isListed, hasHighWord}
 use Rattle.field_groups.specs.declared.Immediate.{Immediate}
 use Rattle.text_parts.specs.mirror.Immediate.{types, wideTypes, typeBehind, codeAt, placeOf, immediateTo, immediateFrom, immediateParts, immediateFits, immediate}
-use Rattle.text_parts.proofs.PartLaws.{in-table, in-range}
+use Rattle.formats.proofs.PartLaws.{in-table, in-range}
 
 -- ---- the type behind the number
 

@@ -1,7 +1,3 @@
-pub mod PartLaws
-pub mod GoodLaws
-pub mod PredicateLaws
-pub mod ExecLaws
 pub mod FieldLaws
 pub mod RawLaws
 pub mod ImmediateLaws

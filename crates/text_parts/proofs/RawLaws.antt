@@ -18,7 +18,7 @@ use Rattle.formats.proofs.AroundLaws.{before-lawful}
 use Rattle.formats.proofs.NumberLaws.{number-lawful, number-under}
 use Rattle.text_parts.specs.mirror.Fields.{decimal}
 use Rattle.text_parts.specs.mirror.Raw.{rawTo, rawFrom, rawParts, rawFits, raw}
-use Rattle.text_parts.proofs.PartLaws.{in-range}
+use Rattle.formats.proofs.PartLaws.{in-range}
 use Rattle.text_parts.proofs.FieldLaws.{decimal-lawful}
 
 raw-parts-lawful : Lawful rawParts (isDigit 10)

@@ -1,5 +1,3 @@
-pub mod Predicate
-pub mod Exec
 pub mod Fields
 pub mod Raw
 pub mod Immediate

@@ -1,12 +1,12 @@
--- `text_parts::predicate_at` meets its contract: at each return, what the calls and tests on the way say picks the case of `Predicate`.
+-- `control_texts::predicate_at` meets its contract: at each return, what the calls and tests on the way say picks the case of `Predicate`.
 use native.Mathlib.Nat.{pos-of-ne-zero}
 use borrow.Author.Needs.{needs}
 use borrow.Author.Tests.{eq-eqb, ne-eqb}
 use Rattle.formats.specs.Format.{pair, through, blank}
-use Rattle.text_parts.specs.mirror.Predicate.{predicate, idAndEnding}
-use Rattle.text_parts.proofs.BoundLaws.{opening-bound, id-bound, ending-bound}
-use Rattle.text_parts.proofs.predicate_at.Statement.{statement}
-use Rattle.text_parts.proofs.predicate_at.Tie as tie
+use Rattle.control_texts.specs.mirror.Predicate.{predicate, idAndEnding}
+use Rattle.control_texts.proofs.BoundLaws.{opening-bound, id-bound, ending-bound}
+use Rattle.control_texts.proofs.predicate_at.Statement.{statement}
+use Rattle.control_texts.proofs.predicate_at.Tie as tie
 
 predicate-word-requires : tie.Need-predicate-word-requires
 predicate-word-requires c κs =

@@ -1,7 +1,7 @@
--- `text_parts::is_p0` meets its contract.
-use Rattle.text_parts.proofs.PredicateLaws.{p0, not-p0}
-use Rattle.text_parts.proofs.is_p0.Statement.{statement}
-use Rattle.text_parts.proofs.is_p0.Tie as tie
+-- `control_texts::is_p0` meets its contract.
+use Rattle.control_texts.proofs.PredicateLaws.{p0, not-p0}
+use Rattle.control_texts.proofs.is_p0.Statement.{statement}
+use Rattle.control_texts.proofs.is_p0.Tie as tie
 
 returns : tie.Need-returns
 returns c = let a = c .before .args in p0 (a .opening) (a .id) (c .if1 .taken)

@@ -1,8 +1,8 @@
--- `text_parts::ending_at` meets its contract: at each return, what the calls and tests on the way say picks the case of `Predicate`.
+-- `control_texts::ending_at` meets its contract: at each return, what the calls and tests on the way say picks the case of `Predicate`.
 use borrow.Author.Needs.{needs}
-use Rattle.text_parts.specs.mirror.Predicate.{ending}
-use Rattle.text_parts.proofs.ending_at.Statement.{statement}
-use Rattle.text_parts.proofs.ending_at.Tie as tie
+use Rattle.control_texts.specs.mirror.Predicate.{ending}
+use Rattle.control_texts.proofs.ending_at.Statement.{statement}
+use Rattle.control_texts.proofs.ending_at.Tie as tie
 
 returns : tie.Need-returns
 unfolding ending

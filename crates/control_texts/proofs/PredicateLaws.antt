@@ -17,9 +17,9 @@ use Rattle.formats.proofs.Combining.{pair-lawful, through-lawful, blank-lawful,
 use Rattle.formats.proofs.TableTests.{sound, opens, size, table-under}
 use Rattle.formats.proofs.WordLaws.{table-lawful, begins-table}
 use Rattle.formats.proofs.NumberLaws.{number-lawful, begins-number, number-under, decimal-characters}
-use Rattle.text_parts.specs.mirror.Predicate.{zeros, nothing, openings, endings, groupEndings, predicateTo, predicateFrom, predicateFits, ending, idAndEnding, predicate}
-use Rattle.text_parts.proofs.PartLaws.{in-table, in-range}
-use Rattle.text_parts.proofs.GoodLaws.{predicate-good-is}
+use Rattle.control_texts.specs.mirror.Predicate.{zeros, nothing, openings, endings, groupEndings, predicateTo, predicateFrom, predicateFits, ending, idAndEnding, predicate}
+use Rattle.formats.proofs.PartLaws.{in-table, in-range}
+use Rattle.control_texts.proofs.GoodLaws.{predicate-good-is}
 
 pub both-zero : (v : ℕ × ℕ) → zeros v ≡ true → v ≡ (0, 0)
 both-zero v h = λ i. (eqb-true (v .0) 0 (both-left (eqb (v .0) 0) (eqb (v .1) 0) h) i, eqb-true (v .1) 0 (both-right (eqb (v .0) 0) (eqb (v .1) 0) h) i)

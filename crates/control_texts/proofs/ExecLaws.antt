@@ -23,9 +23,9 @@ use Rattle.formats.proofs.TableTests.{sound, opens, single, size, table-under}
 use Rattle.formats.proofs.WordLaws.{table-lawful, begins-table}
 use Rattle.formats.proofs.AroundLaws.{before-lawful}
 use Rattle.formats.proofs.NumberLaws.{number-lawful, number-under}
-use Rattle.text_parts.specs.mirror.Exec.{maskEndings, sizes, scatterSizes, maskParts, mask, maskPlace, sizePlace, execFrom, execFits, exec, scatterExecFits, scatterExec}
-use Rattle.text_parts.proofs.PartLaws.{in-table, in-range}
-use Rattle.text_parts.proofs.GoodLaws.{exec-good-is, scatter-exec-good-is}
+use Rattle.control_texts.specs.mirror.Exec.{maskEndings, sizes, scatterSizes, maskParts, mask, maskPlace, sizePlace, execFrom, execFits, exec, scatterExecFits, scatterExec}
+use Rattle.formats.proofs.PartLaws.{in-table, in-range}
+use Rattle.control_texts.proofs.GoodLaws.{exec-good-is, scatter-exec-good-is}
 
 -- ---- the mask
 

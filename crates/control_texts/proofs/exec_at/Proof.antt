@@ -1,10 +1,10 @@
--- `text_parts::exec_at` meets its contract: at each return, what the calls and tests on the way say picks the case of `Exec`.
+-- `control_texts::exec_at` meets its contract: at each return, what the calls and tests on the way say picks the case of `Exec`.
 use borrow.Author.Needs.{needs}
 use Rattle.formats.specs.Format.{pair, through}
-use Rattle.text_parts.specs.mirror.Exec.{exec, execFrom}
-use Rattle.text_parts.proofs.BoundLaws.{mask-bound, size-bound}
-use Rattle.text_parts.proofs.exec_at.Statement.{statement}
-use Rattle.text_parts.proofs.exec_at.Tie as tie
+use Rattle.control_texts.specs.mirror.Exec.{exec, execFrom}
+use Rattle.control_texts.proofs.BoundLaws.{mask-bound, size-bound}
+use Rattle.control_texts.proofs.exec_at.Statement.{statement}
+use Rattle.control_texts.proofs.exec_at.Tie as tie
 
 exec-byte-requires : tie.Need-exec-byte-requires
 exec-byte-requires c κs =

@@ -1,11 +1,11 @@
--- `text_parts::mask_at` meets its contract: at each return, what the calls and tests on the way say picks the case of `Exec`.
+-- `control_texts::mask_at` meets its contract: at each return, what the calls and tests on the way say picks the case of `Exec`.
 use borrow.Author.Needs.{needs}
 use Rattle.formats.specs.Format.{pair, through}
 use Rattle.formats.specs.Words.{before}
-use Rattle.text_parts.specs.mirror.Exec.{mask, maskParts}
-use Rattle.text_parts.proofs.BoundLaws.{mask-number-bound, mask-ending-bound}
-use Rattle.text_parts.proofs.mask_at.Statement.{statement}
-use Rattle.text_parts.proofs.mask_at.Tie as tie
+use Rattle.control_texts.specs.mirror.Exec.{mask, maskParts}
+use Rattle.control_texts.proofs.BoundLaws.{mask-number-bound, mask-ending-bound}
+use Rattle.control_texts.proofs.mask_at.Statement.{statement}
+use Rattle.control_texts.proofs.mask_at.Tie as tie
 
 mask-code-requires : tie.Need-mask-code-requires
 mask-code-requires c κs =

@@ -1,0 +1,3 @@
+pub mod mirror
+pub mod Texts
+pub mod Told
