@@ -1,4 +1,4 @@
-// The words before an instruction's operands, read from a text: predicate and exec byte.
+// What stands before the operands in an instruction's line, read from a text: predicate, exec byte.
 use formats::Base;
 use formats::Cursor;
 use formats::NumberRead;

@@ -1,4 +1,4 @@
-// Parts of an instruction's operands, read from a text: numbers, raw operand, immediate.
+// Parts of an instruction's line, read from a text: numbers, raw operand, immediate.
 use field_groups::Immediate;
 use field_groups::Raw;
 use formats::Base;

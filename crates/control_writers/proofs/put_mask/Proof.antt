@@ -1,9 +1,9 @@
--- `part_writers::put_mask` meets its contract: its pieces are written one after another.
+-- `control_writers::put_mask` meets its contract: its pieces are written one after another.
 use borrow.Author.Needs.{needs}
 use Rattle.formats.proofs.WritingLaws.{wrote-three}
-use Rattle.part_writers.proofs.TextLaws.{mask-text}
-use Rattle.part_writers.proofs.put_mask.Statement.{statement}
-use Rattle.part_writers.proofs.put_mask.Tie as tie
+use Rattle.control_writers.proofs.TextLaws.{mask-text}
+use Rattle.control_writers.proofs.put_mask.Statement.{statement}
+use Rattle.control_writers.proofs.put_mask.Tie as tie
 
 returns : tie.Need-returns
 returns c = wrote-three _ _ _ _ _ _ _ _ _ _ _ _ (c .before .before .before .before .before .before .before .before .before .before .before .put-word .ensures) (c .before .before .before .before .before .before .before .put-number .ensures) (c .before .before .put-word2 .ensures) (mask-text _)

@@ -1,10 +1,10 @@
--- `part_writers::put_ending` meets its contract: which table it is depends on the opening and the id.
+-- `control_writers::put_ending` meets its contract: which table it is depends on the opening and the id.
 use mathlib.Core.Path.{sym, ap, _∙_}
 use Rattle.formats.specs.Writing.{written}
 use borrow.Author.Needs.{needs}
-use Rattle.part_writers.proofs.TextLaws.{group-ending, any-ending}
-use Rattle.part_writers.proofs.put_ending.Statement.{statement}
-use Rattle.part_writers.proofs.put_ending.Tie as tie
+use Rattle.control_writers.proofs.TextLaws.{group-ending, any-ending}
+use Rattle.control_writers.proofs.put_ending.Statement.{statement}
+use Rattle.control_writers.proofs.put_ending.Tie as tie
 
 returns : tie.Need-returns
 returns c = c .before .before .put-word .ensures ∙ ap (written _ _) (sym (group-ending _ _ _ _ (c .before .before .before .before .before .before .is-p0 .ensures) (c .before .before .before .before .before .if1 .taken)))

@@ -1,12 +1,12 @@
--- `part_writers::put_predicate` meets its contract: nothing for the word 0, else three pieces.
+-- `control_writers::put_predicate` meets its contract: nothing for the word 0, else three pieces.
 use mathlib.Core.Path.{sym, ap, _∙_}
 use Rattle.formats.specs.Writing.{written}
 use borrow.Author.Needs.{needs}
 use Rattle.formats.proofs.WritingLaws.{wrote-three}
-use Rattle.text_parts.proofs.PrintLaws.{some-print}
-use Rattle.part_writers.proofs.TextLaws.{no-predicate}
-use Rattle.part_writers.proofs.put_predicate.Statement.{statement}
-use Rattle.part_writers.proofs.put_predicate.Tie as tie
+use Rattle.control_texts.proofs.PrintLaws.{some-print}
+use Rattle.control_writers.proofs.TextLaws.{no-predicate}
+use Rattle.control_writers.proofs.put_predicate.Statement.{statement}
+use Rattle.control_writers.proofs.put_predicate.Tie as tie
 
 returns : tie.Need-returns
 returns c = c .before .before .put-word .ensures ∙ ap (written _ _) (sym (no-predicate _ (c .before .before .before .before .before .if1 .taken)))

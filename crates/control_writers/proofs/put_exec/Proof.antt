@@ -1,9 +1,9 @@
--- `part_writers::put_exec` meets its contract: its pieces are written one after another.
+-- `control_writers::put_exec` meets its contract: its pieces are written one after another.
 use borrow.Author.Needs.{needs}
 use Rattle.formats.proofs.WritingLaws.{wrote-two}
-use Rattle.part_writers.proofs.TextLaws.{exec-text}
-use Rattle.part_writers.proofs.put_exec.Statement.{statement}
-use Rattle.part_writers.proofs.put_exec.Tie as tie
+use Rattle.control_writers.proofs.TextLaws.{exec-text}
+use Rattle.control_writers.proofs.put_exec.Statement.{statement}
+use Rattle.control_writers.proofs.put_exec.Tie as tie
 
 returns : tie.Need-returns
 returns c =

@@ -1,9 +1,9 @@
--- `part_writers::mask_place` meets its contract: the flag picks the case.
+-- `control_writers::mask_place` meets its contract: the flag picks the case.
 use borrow.Author.Needs.{needs}
 use native.Mathlib.Omega.{arith}
-use Rattle.text_parts.specs.mirror.Exec.{maskPlace}
-use Rattle.part_writers.proofs.mask_place.Statement.{statement}
-use Rattle.part_writers.proofs.mask_place.Tie as tie
+use Rattle.control_texts.specs.mirror.Exec.{maskPlace}
+use Rattle.control_writers.proofs.mask_place.Statement.{statement}
+use Rattle.control_writers.proofs.mask_place.Tie as tie
 
 returns : tie.Need-returns
 unfolding maskPlace

@@ -1,8 +1,8 @@
--- `part_writers::size_place` meets its contract: at each return, the tests on the way pick the case of `sizePlace`.
+-- `control_writers::size_place` meets its contract: at each return, the tests on the way pick the case of `sizePlace`.
 use borrow.Author.Tests.{eq-eqb, ne-eqb}
-use Rattle.text_parts.specs.mirror.Exec.{sizePlace}
-use Rattle.part_writers.proofs.size_place.Statement.{statement}
-use Rattle.part_writers.proofs.size_place.Tie as tie
+use Rattle.control_texts.specs.mirror.Exec.{sizePlace}
+use Rattle.control_writers.proofs.size_place.Statement.{statement}
+use Rattle.control_writers.proofs.size_place.Tie as tie
 
 returns : tie.Need-returns
 unfolding sizePlace
