@@ -2,7 +2,7 @@
 use channels::Exec;
 use formats::Base;
 ghost use mathlib.Core.Path.{_≡_};
-ghost use Rattle.formats.specs.Writing.{wrote, written};
+ghost use Rattle.format_writers.specs.Writing.{wrote, written};
 ghost use Rattle.control_texts.specs.mirror.Predicate.{ending, predicate};
 ghost use Rattle.control_texts.specs.mirror.Exec.{mask, maskPlace, sizePlace, exec, scatterExec};
 
@@ -11,9 +11,9 @@ fn put_ending(out: &mut [u8], at: usize, opening: u64, id: u64, end: u64) -> usi
     ensures { λ r. ⌜ wrote r (now (out .exit)) ≡ written (now (out .entry)) at (ending opening id .print end) ⌝ }
 {
     if control_texts::is_p0(opening, id) {
-        formats::put_word(out, at, b".any) |.all) |", end)
+        format_writers::put_word(out, at, b".any) |.all) |", end)
     } else {
-        formats::put_word(out, at, b".any) |.all) |) |", end)
+        format_writers::put_word(out, at, b".any) |.all) |) |", end)
     }
 }
 
@@ -21,22 +21,22 @@ pub fn put_predicate(out: &mut [u8], at: usize, pred: u16) -> usize
     ensures { λ r. ⌜ wrote r (now (out .exit)) ≡ written (now (out .entry)) at (predicate .print pred) ⌝ }
 {
     if pred == 0 {
-        return formats::put_word(out, at, b"|(P|(!P|", 0);
+        return format_writers::put_word(out, at, b"|(P|(!P|", 0);
     }
     let word = pred as u64;
     let opening = 1 + word / 32768;
     let id = word % 4096;
-    let a = formats::put_word(out, at, b"|(P|(!P|", opening);
-    let b = formats::put_number(out, a, Base::Decimal, id);
+    let a = format_writers::put_word(out, at, b"|(P|(!P|", opening);
+    let b = format_writers::put_number(out, a, Base::Decimal, id);
     put_ending(out, b, opening, id, (word / 8192 % 4 + 2) % 3)
 }
 
 fn put_mask(out: &mut [u8], at: usize, code: u64) -> usize
     ensures { λ r. ⌜ wrote r (now (out .exit)) ≡ written (now (out .entry)) at (mask .print code) ⌝ }
 {
-    let a = formats::put_word(out, at, b"(M|", 0);
-    let b = formats::put_number(out, a, Base::Decimal, code % 8 + 1);
-    formats::put_word(out, b, b",|_NM,|", code / 8)
+    let a = format_writers::put_word(out, at, b"(M|", 0);
+    let b = format_writers::put_number(out, a, Base::Decimal, code % 8 + 1);
+    format_writers::put_word(out, b, b",|_NM,|", code / 8)
 }
 
 // A mask's place among M1 to M8 and M1_NM to M8_NM.
@@ -74,7 +74,7 @@ pub fn put_exec(out: &mut [u8], at: usize, byte: u8) -> usize
 {
     let e = channels::split(byte);
     let a = put_mask(out, at, mask_place(e));
-    formats::put_word(out, a, b"1) |2) |4) |8) |16) |32) |", size_place(e.size))
+    format_writers::put_word(out, a, b"1) |2) |4) |8) |16) |32) |", size_place(e.size))
 }
 
 pub fn put_scatter_exec(out: &mut [u8], at: usize, byte: u8) -> usize
@@ -82,7 +82,7 @@ pub fn put_scatter_exec(out: &mut [u8], at: usize, byte: u8) -> usize
 {
     let e = channels::split(byte);
     let a = put_mask(out, at, mask_place(e));
-    formats::put_word(
+    format_writers::put_word(
         out,
         a,
         b"8) |16) |",

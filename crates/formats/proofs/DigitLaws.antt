@@ -1,26 +1,21 @@
--- One turn of the loop over a number's digits, the test that it makes, and the digits written.
+-- One turn of the loop over a number's digits, and the test that it makes.
 use mathlib.Core.Path.{_≡_, refl, sym, ap, _∙_}
-use mathlib.Core.List.{List, [], _∷_, _++_}
+use mathlib.Core.List.{List, _∷_}
 use mathlib.Core.Bool.{Bool, true, false, cond}
 use Prim.Native.Nat.{ℕ, suc, _+_, _*_, _/_, _%_, _≤_, _<_}
 use native.Mathlib.Omega.{arith}
-use native.Mathlib.Nat.{div-lt-self, mod-lt, div-add-mod', mul-le-mul-right}
+use native.Mathlib.Nat.{div-add-mod', mul-le-mul-right}
 use native.Mathlib.Numerals.{add-one}
 use lib.Dec.{ltb, leb, eqb}
 use lib.ListN.{length, getD, drop, drop-of-length-le}
 use lib.Seq.{drop-cons}
-use borrow.Author.Tests.{leb-true, leb-false, le-leb, lt-leb, lt-ltb, le-ltb, eq-eqb, ne-eqb}
-use Rattle.hex.specs.Digits.{characterOf}
+use borrow.Author.Tests.{leb-true, leb-false, le-leb, lt-leb, eq-eqb, ne-eqb}
 use Rattle.formats.specs.Format.{got, stop}
-use Rattle.formats.specs.Numerals.{digits, digitsOf}
 use Rattle.formats.specs.Numbers.{number, radixOf}
 use Rattle.formats.specs.mirror.Digits.{valueOf, goesOn, moreDigits, begins, numberIn}
-use Rattle.formats.specs.Writing.{wrote, written}
 use Rattle.formats.specs.declared.Base.{Base}
 use Rattle.formats.specs.declared.Base.the-variants as base
 use Rattle.formats.proofs.Tests.{both-right}
-use Rattle.formats.proofs.NumberLaws.{digits-turns}
-use Rattle.formats.proofs.WritingLaws.{wrote-then}
 
 pub radix-between : (b : Base) (r : ℕ) → r ≡ radixOf b → (2 ≤ r) × (r ≤ 16)
 radix-between base.Decimal r e = (omega (arith, e), omega (arith, e))
@@ -100,27 +95,3 @@ module _ (s : List ℕ) (b low high at d : ℕ) (g : Bool) (inside : at < length
 pub number-end : (s : List ℕ) (b low high at : ℕ) → length s ≤ at → stop at ≡ number b low high .read s at
 unfolding number numberIn
 number-end s b low high at h = rw (drop-of-length-le s h)
-
--- ---- the digits written
-
-pub one-digit : (b n : ℕ) → 2 ≤ b → b ≤ 16 → n < b → digitsOf b n ≡ characterOf n ∷ []
-unfolding digits
-one-digit b n two small h = digits-turns b two small n (suc n) n (omega arith) (omega arith) ∙ rw (lt-ltb n b h)
-
-pub last-digit : (b n : ℕ) → 2 ≤ b → b ≤ 16 → b ≤ n → digitsOf b n ≡ digitsOf b (n / b) ++ (characterOf (n % b) ∷ [])
-unfolding digits
-last-digit b n two small h =
-    let d : n / b < n = div-lt-self (omega (arith, two, h)) two in
-    digits-turns b two small n (suc n) n (omega arith) (omega arith) ∙ rw (le-ltb n b h, digits-turns b two small n (n / b) (n / b) (omega (arith, d)) (omega arith))
-
-pub put-one : (l : List ℕ) (at b n e : ℕ) (m : List ℕ) → 2 ≤ b → b ≤ 16 → n < b → wrote e m ≡ written l at (characterOf n ∷ []) → wrote e m ≡ written l at (digitsOf b n)
-put-one l at b n e m two small h p = p ∙ ap (written l at) (sym (one-digit b n two small h))
-
-pub put-more : (l : List ℕ) (at b n e : ℕ) (m : List ℕ) (d : ℕ) (k : List ℕ) → 2 ≤ b → b ≤ 16 → b ≤ n → wrote e m ≡ written l at (digitsOf b (n / b)) → wrote d k ≡ written m e (characterOf (n % b) ∷ []) → wrote d k ≡ written l at (digitsOf b n)
-put-more l at b n e m d k two small h p q = wrote-then l at (digitsOf b (n / b)) (characterOf (n % b) ∷ []) e m d k p q ∙ ap (written l at) (sym (last-digit b n two small h))
-
-pub fewer : (b n : ℕ) → 2 ≤ b → b ≤ n → n / b < n
-fewer b n two h = div-lt-self (omega (arith, two, h)) two
-
-pub below-sixteen : (b n : ℕ) → 2 ≤ b → b ≤ 16 → n % b < 16
-below-sixteen b n two small = let h : n % b < b = mod-lt n (omega (arith, two)) in omega (arith, h, small)

@@ -1,16 +1,13 @@
--- Texts at the edges: words with a common start, numbers at the ends of their range, and a text that does not fit.
+-- Texts at the edges: words with a common start, numbers at the ends of their range.
 use mathlib.Core.Path.{_≡_, refl}
 use Prim.Native.Nat.{ℕ}
 use Prim.Native.String.{String}
-use Rattle.hex.specs.Digits.{isDecimal, isLetter, characterOf}
-use Rattle.hex.specs.Storing.{placed}
+use Rattle.hex.specs.Digits.{isDecimal, isLetter}
 use Rattle.formats.specs.Text.{text}
 use Rattle.formats.specs.Format.{Out, got, stop, pair, through}
 use Rattle.formats.specs.Words.{words, oneOf, table, before, after}
-use Rattle.formats.specs.Numerals.{digits, digitsOf}
 use Rattle.formats.specs.Numbers.{number}
 use Rattle.formats.specs.Whole.{whole}
-use Rattle.formats.specs.Writing.{within, wrote, written}
 use Rattle.formats.specs.mirror.Scan.{common, better, scan, chosen, wordIn}
 use Rattle.formats.specs.mirror.Digits.{valueOf, goesOn, moreDigits, begins, numberIn}
 
@@ -70,14 +67,3 @@ range t = whole (pair (before (text "(|") (after (number 10 0 255) (text ",|")))
 ranges : (range "(255,16)" ≡ got (255, 16) 8) × (range "(15,16)" ≡ stop 5) × (range "(256,1)" ≡ stop 3) × (range "(1,0) " ≡ stop 5) × (range "(1," ≡ stop 3)
 unfolding range
 ranges = (refl, refl, refl, refl, refl)
-
--- ---- writing
-
-written-numbers : (digitsOf 16 48879 ≡ text "beef") × (digitsOf 10 409 ≡ text "409") × (digitsOf 10 0 ≡ text "0")
-unfolding digits characterOf
-written-numbers = (refl, refl, refl)
-
--- what does not fit is lost, and the place is the buffer's end
-no-room : (written (text ".....") 1 (text "beef") ≡ wrote 5 (text ".beef")) × (written (text ".....") 3 (text "beef") ≡ wrote 5 (text "...be")) × (written (text ".....") 9 (text "beef") ≡ wrote 5 (text "....."))
-unfolding written within placed
-no-room = (refl, refl, refl)

@@ -10,7 +10,6 @@ pub mod AroundLaws
 pub mod NumberLaws
 pub mod PartLaws
 pub mod ScanLaws
-pub mod WritingLaws
 pub mod DigitLaws
 pub mod ShortLaws
 pub mod AnswerLaws

@@ -10,7 +10,7 @@ use lib.ListN.{length, drop, getD, length-drop, drop-of-length-le}
 use lib.Seq.{drop-cons, drop-drop}
 use borrow.Author.Tests.{eqb-true, eqb-false, eq-eqb, ne-eqb, ltb-true, ltb-false, lt-ltb}
 use Rattle.formats.specs.Format.{got, stop}
-use Rattle.formats.specs.Words.{ahead, words, wordAt, oneOf}
+use Rattle.formats.specs.Words.{ahead, words, oneOf}
 use Rattle.formats.specs.mirror.Scan.{common, wordOf, inWord, alikeAt, better, scan, noWord, chosen, wordIn}
 use Rattle.formats.specs.declared.Best.{Best}
 use Rattle.formats.proofs.Agree.{common-right}
@@ -25,7 +25,7 @@ word-bar : (c : ℕ) (p : List ℕ) → eqb c 124 ≡ true → wordOf (c ∷ p) 
 unfolding wordOf
 word-bar c p e = rw e
 
-word-none : (p : List ℕ) (j : ℕ) → length p ≤ j → wordOf (drop j p) ≡ []
+pub word-none : (p : List ℕ) (j : ℕ) → length p ≤ j → wordOf (drop j p) ≡ []
 unfolding wordOf
 word-none p j h = rw (drop-of-length-le p h)
 
@@ -130,7 +130,7 @@ words-first c (d ∷ q) = told (eqb c 124) (words (d ∷ q)) (words-first d q)
     told true ws e = refl
     told false ws e = rw e
 
-words-at : (p : List ℕ) (i : ℕ) → i < length p → words (drop i p) ≡ wordOf (drop i p) ∷ words (drop (i + length (wordOf (drop i p)) + 1) p)
+pub words-at : (p : List ℕ) (i : ℕ) → i < length p → words (drop i p) ≡ wordOf (drop i p) ∷ words (drop (i + length (wordOf (drop i p)) + 1) p)
 words-at p i h =
     let n = length (wordOf (getD p i 0 ∷ drop (suc i) p)) in
     let x : i + n + 1 ≡ suc i + n = omega arith in
@@ -183,18 +183,3 @@ word-missed p s at b e f = rw (← e, f)
 pub better-longer : (b : Best) (n : ℕ) (full : Bool) (i : ℕ) → b .reach < n → record { reach = n; full = full; word = i } ≡ better b n full i
 unfolding better
 better-longer b n full i h = rw (lt-ltb (b .reach) n h)
-
--- ---- the word of a number
-
-pub start-turn : (p : List ℕ) (from end left : ℕ) → from < length p → end ≡ from + length (wordOf (drop from p)) → (left ≡ 0 → ⊥) → wordAt (words (drop (end + 1) p)) (left - 1) ≡ wordAt (words (drop from p)) left
-unfolding wordAt
-start-turn p from end zero h e z = absurd (z refl)
-start-turn p from end (suc n) h e z = let k : suc n - 1 ≡ n = omega arith in rw (k, words-at p from h, e)
-
-pub start-here : (p : List ℕ) (from left : ℕ) → from < length p → left ≡ 0 → wordOf (drop from p) ≡ wordAt (words (drop from p)) left
-unfolding wordAt
-start-here p from left h e = rw (e, words-at p from h)
-
-pub start-over : (p : List ℕ) (from left : ℕ) → length p ≤ from → wordOf (drop from p) ≡ wordAt (words (drop from p)) left
-unfolding wordAt words
-start-over p from left h = rw (word-none p from h, drop-of-length-le p h)

@@ -4,6 +4,5 @@ pub mod Words
 pub mod Numerals
 pub mod Numbers
 pub mod Whole
-pub mod Writing
 pub mod Told
 pub mod mirror

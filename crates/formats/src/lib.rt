@@ -1,14 +1,9 @@
-// Texts read and written: a word of a table, and a number of a base and a range.
+// Texts read: a word of a table, and a number of a base and a range.
 ghost use mathlib.Core.Path.{_≡_};
 ghost use Prim.Native.Nat.{_+_, _*_, _≤_, _<_};
-ghost use mathlib.Core.List.{[], _∷_};
 ghost use lib.ListN.{length, drop};
-ghost use Rattle.hex.specs.Digits.{characterOf};
-ghost use Rattle.hex.specs.Bytes.{hexOf};
-ghost use Rattle.formats.specs.Words.{words, wordAt, oneOf};
-ghost use Rattle.formats.specs.Numerals.{digitsOf};
+ghost use Rattle.formats.specs.Words.{words, oneOf};
 ghost use Rattle.formats.specs.Numbers.{number, radixOf};
-ghost use Rattle.formats.specs.Writing.{within, wrote, written};
 ghost use Rattle.formats.specs.Told.{told};
 ghost use Rattle.formats.specs.mirror.Scan.{common, wordOf, inWord, alikeAt, better};
 ghost use Rattle.formats.specs.mirror.Digits.{valueOf, goesOn, moreDigits, begins};
@@ -37,7 +32,7 @@ struct Best {
 }
 
 // Whether the table has a character of a word at `j`.
-fn in_word(table: &[u8], j: usize) -> bool
+pub fn in_word(table: &[u8], j: usize) -> bool
     ensures { λ r. ⌜ r ≡ inWord (now (table .entry)) j ⌝ }
 {
     if j < table.len() {
@@ -48,7 +43,7 @@ fn in_word(table: &[u8], j: usize) -> bool
 }
 
 // Where the word ends that has a character at `from`, or ends there.
-fn word_end(table: &[u8], from: usize) -> usize
+pub fn word_end(table: &[u8], from: usize) -> usize
     ensures { λ r. ⌜ r ≡ from + length (wordOf (drop from (now (table .entry)))) ⌝ }
 {
     let mut i = from;
@@ -169,7 +164,7 @@ impl Cursor {
     }
 }
 
-fn radix(base: Base) -> u64
+pub fn radix(base: Base) -> u64
     ensures { λ r. ⌜ r ≡ radixOf base ⌝ }
 {
     match base {
@@ -237,85 +232,4 @@ fn more_digits(text: &[u8], at: usize, base: u64, high: u64, first: u64) -> Numb
         }
     }
     NumberRead::Got(v, Cursor { at: i })
-}
-
-fn clipped(at: usize, room: usize) -> usize
-    ensures { λ r. ⌜ r ≡ within room at ⌝ }
-{
-    if at < room { at } else { room }
-}
-
-// A character at `at`, if the buffer goes so far, and the place past it, the buffer's end at most.
-fn put_character(out: &mut [u8], at: usize, character: u8) -> usize
-    ensures { λ r. ⌜ wrote r (now (out .exit)) ≡ written (now (out .entry)) at (character ∷ []) ⌝ }
-{
-    if at < out.len() {
-        out[at] = character;
-        return at + 1;
-    }
-    out.len()
-}
-
-// Where word `index` begins; past the table's end if it has no such word.
-fn word_start(table: &[u8], index: u64) -> usize
-    ensures { λ r. ⌜ wordOf (drop r (now (table .entry))) ≡ wordAt (words (now (table .entry))) index ⌝ }
-{
-    let mut from = 0;
-    let mut left = index;
-    while from < table.len() {
-        if left == 0 {
-            return from;
-        }
-        let end = word_end(table, from);
-        from = end + 1;
-        left -= 1;
-    }
-    from
-}
-
-// Word `index` of the table, at `at` and after, and the place past it.
-pub fn put_word(out: &mut [u8], at: usize, table: &[u8], index: u64) -> usize
-    ensures { λ r. ⌜ wrote r (now (out .exit)) ≡ written (now (out .entry)) at (wordAt (words (now (table .entry))) index) ⌝ }
-{
-    let mut i = word_start(table, index);
-    let mut to = clipped(at, out.len());
-    while in_word(table, i) {
-        let e = put_character(out, to, table[i]);
-        to = e;
-        i += 1;
-    }
-    to
-}
-
-fn put_digit(out: &mut [u8], at: usize, d: u64) -> usize
-    requires { ⌜ d < 16 ⌝ }
-    ensures { λ r. ⌜ wrote r (now (out .exit)) ≡ written (now (out .entry)) at (characterOf d ∷ []) ⌝ }
-{
-    put_character(out, at, hex::character(d as u8))
-}
-
-fn put_digits(out: &mut [u8], at: usize, base: u64, n: u64) -> usize
-    requires { ⌜ (2 ≤ base) × (base ≤ 16) ⌝ }
-    ensures { λ r. ⌜ wrote r (now (out .exit)) ≡ written (now (out .entry)) at (digitsOf base n) ⌝ }
-{
-    if n < base {
-        return put_digit(out, at, n);
-    }
-    let e = put_digits(out, at, base, n / base);
-    put_digit(out, e, n % base)
-}
-
-// A number, at `at` and after, and the place past it.
-pub fn put_number(out: &mut [u8], at: usize, base: Base, n: u64) -> usize
-    ensures { λ r. ⌜ wrote r (now (out .exit)) ≡ written (now (out .entry)) at (digitsOf (radixOf base) n) ⌝ }
-{
-    put_digits(out, at, radix(base), n)
-}
-
-// A byte's two hex digits, at `at` and after, and the place past them.
-pub fn put_byte(out: &mut [u8], at: usize, byte: u8) -> usize
-    ensures { λ r. ⌜ wrote r (now (out .exit)) ≡ written (now (out .entry)) at (hexOf (byte ∷ [])) ⌝ }
-{
-    let a = put_digit(out, at, (byte / 16) as u64);
-    put_digit(out, a, (byte % 16) as u64)
 }

@@ -10,7 +10,7 @@ ghost use Rattle.hex.specs.Storing.{placed, fits, stored};
 ghost use Rattle.formats.specs.Text.{text};
 ghost use Rattle.formats.specs.Words.{words, wordAt};
 ghost use Rattle.formats.specs.Numerals.{digitsOf};
-ghost use Rattle.formats.specs.Writing.{wrote, written};
+ghost use Rattle.format_writers.specs.Writing.{wrote, written};
 ghost use Rattle.text_parts.specs.mirror.Raw.{raw};
 ghost use Rattle.text_parts.specs.mirror.Immediate.{typeBehind, placeOf, immediate};
 
@@ -25,17 +25,17 @@ pub fn above(n: u64, least: u64) -> u64
 pub fn put_decimal(out: &mut [u8], at: usize, end: &[u8], n: u64) -> usize
     ensures { λ r. ⌜ wrote r (now (out .exit)) ≡ written (now (out .entry)) at (digitsOf 10 n ++ wordAt (words (now (end .entry))) 0) ⌝ }
 {
-    let a = formats::put_number(out, at, Base::Decimal, n);
-    formats::put_word(out, a, end, 0)
+    let a = format_writers::put_number(out, at, Base::Decimal, n);
+    format_writers::put_word(out, a, end, 0)
 }
 
 // The same in hex, behind `0x`.
 pub fn put_hexadecimal(out: &mut [u8], at: usize, end: &[u8], n: u64) -> usize
     ensures { λ r. ⌜ wrote r (now (out .exit)) ≡ written (now (out .entry)) at (text "0x" ++ (digitsOf 16 n ++ wordAt (words (now (end .entry))) 0)) ⌝ }
 {
-    let a = formats::put_word(out, at, b"0x|", 0);
-    let b = formats::put_number(out, a, Base::Hexadecimal, n);
-    formats::put_word(out, b, end, 0)
+    let a = format_writers::put_word(out, at, b"0x|", 0);
+    let b = format_writers::put_number(out, a, Base::Hexadecimal, n);
+    format_writers::put_word(out, b, end, 0)
 }
 
 pub fn put_raw(out: &mut [u8], at: usize, r: Raw) -> usize
@@ -43,18 +43,18 @@ pub fn put_raw(out: &mut [u8], at: usize, r: Raw) -> usize
 {
     let index = r.index as u64;
     let offset = r.offset as u64;
-    let a = formats::put_word(out, at, b"v|", 0);
+    let a = format_writers::put_word(out, at, b"v|", 0);
     let b = put_decimal(out, a, b".|", index);
-    formats::put_number(out, b, Base::Decimal, offset)
+    format_writers::put_number(out, b, Base::Decimal, offset)
 }
 
 fn put_type(out: &mut [u8], at: usize, n: u64, place: u64) -> usize
     ensures { λ r. ⌜ wrote r (now (out .exit)) ≡ written (now (out .entry)) at (typeBehind n .print place) ⌝ }
 {
     if n < 4294967296 {
-        formats::put_word(out, at, b":uq|:ud|:d|:uw|:w|:ub|:b|:f|", place)
+        format_writers::put_word(out, at, b":uq|:ud|:d|:uw|:w|:ub|:b|:f|", place)
     } else {
-        formats::put_word(out, at, b":uq|", place)
+        format_writers::put_word(out, at, b":uq|", place)
     }
 }
 
@@ -83,7 +83,7 @@ pub fn put_immediate(out: &mut [u8], at: usize, i: Immediate) -> usize
 {
     let n = whole_number(i.low, i.high);
     let place = type_place(i.code);
-    let a = formats::put_number(out, at, Base::Hexadecimal, n);
+    let a = format_writers::put_number(out, at, Base::Hexadecimal, n);
     put_type(out, a, n, place)
 }
 

@@ -1,6 +1,6 @@
 -- `control_writers::put_ending` meets its contract: which table it is depends on the opening and the id.
 use mathlib.Core.Path.{sym, ap, _∙_}
-use Rattle.formats.specs.Writing.{written}
+use Rattle.format_writers.specs.Writing.{written}
 use borrow.Author.Needs.{needs}
 use Rattle.control_writers.proofs.TextLaws.{group-ending, any-ending}
 use Rattle.control_writers.proofs.put_ending.Statement.{statement}

@@ -1,6 +1,6 @@
 -- `control_writers::put_mask` meets its contract: its pieces are written one after another.
 use borrow.Author.Needs.{needs}
-use Rattle.formats.proofs.WritingLaws.{wrote-three}
+use Rattle.format_writers.proofs.WritingLaws.{wrote-three}
 use Rattle.control_writers.proofs.TextLaws.{mask-text}
 use Rattle.control_writers.proofs.put_mask.Statement.{statement}
 use Rattle.control_writers.proofs.put_mask.Tie as tie

@@ -1,8 +1,8 @@
 -- `control_writers::put_predicate` meets its contract: nothing for the word 0, else three pieces.
 use mathlib.Core.Path.{sym, ap, _∙_}
-use Rattle.formats.specs.Writing.{written}
+use Rattle.format_writers.specs.Writing.{written}
 use borrow.Author.Needs.{needs}
-use Rattle.formats.proofs.WritingLaws.{wrote-three}
+use Rattle.format_writers.proofs.WritingLaws.{wrote-three}
 use Rattle.control_texts.proofs.PrintLaws.{some-print}
 use Rattle.control_writers.proofs.TextLaws.{no-predicate}
 use Rattle.control_writers.proofs.put_predicate.Statement.{statement}

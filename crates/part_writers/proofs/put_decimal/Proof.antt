@@ -1,7 +1,7 @@
 -- `part_writers::put_decimal` meets its contract: its pieces are written one after another.
 use mathlib.Core.Path.{refl}
 use borrow.Author.Needs.{needs}
-use Rattle.formats.proofs.WritingLaws.{wrote-two}
+use Rattle.format_writers.proofs.WritingLaws.{wrote-two}
 use Rattle.part_writers.proofs.put_decimal.Statement.{statement}
 use Rattle.part_writers.proofs.put_decimal.Tie as tie
 

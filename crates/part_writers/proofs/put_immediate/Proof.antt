@@ -1,6 +1,6 @@
 -- `part_writers::put_immediate` meets its contract: its pieces are written one after another.
 use borrow.Author.Needs.{needs}
-use Rattle.formats.proofs.WritingLaws.{wrote-two}
+use Rattle.format_writers.proofs.WritingLaws.{wrote-two}
 use Rattle.part_writers.proofs.TextLaws.{immediate-text}
 use Rattle.part_writers.proofs.put_immediate.Statement.{statement}
 use Rattle.part_writers.proofs.put_immediate.Tie as tie

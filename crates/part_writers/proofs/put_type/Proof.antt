@@ -1,6 +1,6 @@
 -- `part_writers::put_type` meets its contract: which table it is depends on the number alone.
 use mathlib.Core.Path.{sym, ap, _∙_}
-use Rattle.formats.specs.Writing.{written}
+use Rattle.format_writers.specs.Writing.{written}
 use borrow.Author.Needs.{needs}
 use Rattle.part_writers.proofs.TextLaws.{narrow-type, wide-type}
 use Rattle.part_writers.proofs.put_type.Statement.{statement}

@@ -1,8 +1,8 @@
--- `formats::put_character` meets its contract: the character stands at its place, or is lost.
+-- `format_writers::put_character` meets its contract: the character stands at its place, or is lost.
 use borrow.Author.Needs.{needs}
-use Rattle.formats.proofs.WritingLaws.{wrote-one, wrote-lost}
-use Rattle.formats.proofs.put_character.Statement.{statement}
-use Rattle.formats.proofs.put_character.Tie as tie
+use Rattle.format_writers.proofs.WritingLaws.{wrote-one, wrote-lost}
+use Rattle.format_writers.proofs.put_character.Statement.{statement}
+use Rattle.format_writers.proofs.put_character.Tie as tie
 
 returns : tie.Need-returns
 returns c = wrote-one _ _ _ (c .if1 .taken)

@@ -10,8 +10,8 @@ use lib.Seq.{set-out, take-at, length-take-le}
 use borrow.Author.Tests.{ltb-true, ltb-false, le-ltb}
 use Rattle.hex.specs.Storing.{placed}
 use Rattle.hex.proofs.StoringLaws.{length-placed, placed-is}
-use Rattle.formats.specs.Writing.{within, Written, wrote, written}
+use Rattle.format_writers.specs.Writing.{within, Written, wrote, written}
 use Rattle.formats.proofs.Tests.{cond-then}
 
 -- ---- places
 

@@ -1,14 +1,15 @@
--- `formats::word_start` meets its contract. The invariant: the word looked for is word `left` of those from `from` on.
+-- `format_writers::word_start` meets its contract. The invariant: the word looked for is word `left` of those from `from` on.
 use mathlib.Core.Path.{_≡_, refl, _∙_}
 use Prim.Native.Nat.{_-_}
 use native.Mathlib.Omega.{arith}
 use borrow.Author.Needs.{needs}
 use denote.Ref.{now}
 use lib.ListN.{length, drop}
 use Rattle.formats.specs.Words.{words, wordAt}
-use Rattle.formats.proofs.ScanLaws.{word-inside, start-turn, start-here, start-over}
-use Rattle.formats.proofs.word_start.Statement.{statement}
-use Rattle.formats.proofs.word_start.Tie as tie
+use Rattle.formats.proofs.ScanLaws.{word-inside}
+use Rattle.format_writers.proofs.StartLaws.{start-turn, start-here, start-over}
+use Rattle.format_writers.proofs.word_start.Statement.{statement}
+use Rattle.format_writers.proofs.word_start.Tie as tie
 
 abbrev Inv-loop : tie.InvT-loop
 Inv-loop table index from₀ left₀ from left = wordAt (words (drop from table)) left ≡ wordAt (words table) index

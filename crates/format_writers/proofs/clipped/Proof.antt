@@ -1,8 +1,8 @@
--- `formats::clipped` meets its contract: at each return, what the calls and tests on the way say picks the case of `Writing`.
+-- `format_writers::clipped` meets its contract: at each return, what the calls and tests on the way say picks the case of `Writing`.
 use borrow.Author.Tests.{lt-ltb, le-ltb}
-use Rattle.formats.specs.Writing.{within}
-use Rattle.formats.proofs.clipped.Statement.{statement}
-use Rattle.formats.proofs.clipped.Tie as tie
+use Rattle.format_writers.specs.Writing.{within}
+use Rattle.format_writers.proofs.clipped.Statement.{statement}
+use Rattle.format_writers.proofs.clipped.Tie as tie
 
 returns : tie.Need-returns
 unfolding within

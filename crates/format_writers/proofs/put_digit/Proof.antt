@@ -1,7 +1,7 @@
--- `formats::put_digit` meets its contract: at each return, what the calls and tests on the way say picks the case of `Writing`.
+-- `format_writers::put_digit` meets its contract: at each return, what the calls and tests on the way say picks the case of `Writing`.
 use borrow.Author.Needs.{needs}
-use Rattle.formats.proofs.put_digit.Statement.{statement}
-use Rattle.formats.proofs.put_digit.Tie as tie
+use Rattle.format_writers.proofs.put_digit.Statement.{statement}
+use Rattle.format_writers.proofs.put_digit.Tie as tie
 
 returns : tie.Need-returns
 returns c =

@@ -1,17 +1,17 @@
--- `formats::put_word` meets its contract. The invariant: to write what is left of the word comes to writing the word.
+-- `format_writers::put_word` meets its contract. The invariant: to write what is left of the word comes to writing the word.
 use mathlib.Core.Path.{_≡_, refl, _∙_}
 use Prim.Native.Nat.{_-_, _≤_}
 use native.Mathlib.Omega.{arith}
 use borrow.Author.Needs.{needs}
 use denote.Ref.{now}
 use lib.ListN.{length, drop}
 use Rattle.formats.specs.Words.{words, wordAt}
-use Rattle.formats.specs.Writing.{written}
 use Rattle.formats.specs.mirror.Scan.{wordOf}
 use Rattle.formats.proofs.ScanLaws.{in-inside, in-turn, in-over}
-use Rattle.formats.proofs.WritingLaws.{wrote-from, wrote-turn, wrote-none, wrote-inside, wrote-length}
-use Rattle.formats.proofs.put_word.Statement.{statement}
-use Rattle.formats.proofs.put_word.Tie as tie
+use Rattle.format_writers.specs.Writing.{written}
+use Rattle.format_writers.proofs.WritingLaws.{wrote-from, wrote-turn, wrote-none, wrote-inside, wrote-length}
+use Rattle.format_writers.proofs.put_word.Statement.{statement}
+use Rattle.format_writers.proofs.put_word.Tie as tie
 
 abbrev Inv-loop : tie.InvT-loop
 Inv-loop out₀ at table index i₀ to₀ out i to =

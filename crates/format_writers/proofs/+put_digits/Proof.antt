@@ -1,16 +1,16 @@
--- `formats::put_digits` meets its contract; it calls itself at the number without its last digit.
+-- `format_writers::put_digits` meets its contract; it calls itself at the number without its last digit.
 use Prim.Native.Nat.{ℕ, _<_}
 use native.Mathlib.Omega.{arith}
 use borrow.Author.Needs.{needs}
 use borrow.Fn.Kinds.{In}
 use borrow.Fn.PlainCycle.{Measures, is, falls, and}
-use Rattle.formats.proofs.DigitLaws.{put-one, put-more, fewer, below-sixteen}
-use Rattle.formats.proofs.put_digits.Reads as reads
-use Rattle.formats.proofs.put_digits.Kinds as kinds
-use Rattle.formats.proofs.+put_digits.Lts-put_digits as lts
-use Rattle.formats.proofs.put_digit.Reads as digit
-use Rattle.formats.proofs.+put_digits.{statement}
-use Rattle.formats.proofs.+put_digits.Tie.{close}
+use Rattle.format_writers.proofs.DigitLaws.{put-one, put-more, fewer, below-sixteen}
+use Rattle.format_writers.proofs.put_digits.Reads as reads
+use Rattle.format_writers.proofs.put_digits.Kinds as kinds
+use Rattle.format_writers.proofs.+put_digits.Lts-put_digits as lts
+use Rattle.format_writers.proofs.put_digit.Reads as digit
+use Rattle.format_writers.proofs.+put_digits.{statement}
+use Rattle.format_writers.proofs.+put_digits.Tie.{close}
 
 -- the number falls
 abbrev μ : Measures 1 kinds.ps ℕ

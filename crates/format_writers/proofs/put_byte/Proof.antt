@@ -1,10 +1,10 @@
--- `formats::put_byte` meets its contract: its two digits are written one after another.
+-- `format_writers::put_byte` meets its contract: its two digits are written one after another.
 use borrow.Author.Needs.{needs}
 use mathlib.Core.Path.{refl}
 use Rattle.hex.specs.Bytes.{hexOf}
-use Rattle.formats.proofs.WritingLaws.{wrote-two}
-use Rattle.formats.proofs.put_byte.Statement.{statement}
-use Rattle.formats.proofs.put_byte.Tie as tie
+use Rattle.format_writers.proofs.WritingLaws.{wrote-two}
+use Rattle.format_writers.proofs.put_byte.Statement.{statement}
+use Rattle.format_writers.proofs.put_byte.Tie as tie
 
 returns : tie.Need-returns
 unfolding hexOf

@@ -1,8 +1,8 @@
--- `formats::put_number` meets its contract: the digits of the base asked for.
+-- `format_writers::put_number` meets its contract: the digits of the base asked for.
 use borrow.Author.Needs.{needs}
 use Rattle.formats.proofs.DigitLaws.{radix-between}
-use Rattle.formats.proofs.put_number.Statement.{statement}
-use Rattle.formats.proofs.put_number.Tie as tie
+use Rattle.format_writers.proofs.put_number.Statement.{statement}
+use Rattle.format_writers.proofs.put_number.Tie as tie
 
 put-digits-requires : tie.Need-put-digits-requires
 put-digits-requires c κs = radix-between (c .before .before .before .args .base) _ (c .radix .ensures)

@@ -1,0 +1,4 @@
+pub mod StartLaws
+pub mod WritingLaws
+pub mod DigitLaws
+pub mod Edges
