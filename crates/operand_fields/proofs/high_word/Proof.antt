@@ -1,8 +1,8 @@
--- `field_groups::high_word` meets its contract: the type picks the case of `highWordAt`.
+-- `operand_fields::high_word` meets its contract: the type picks the case of `highWordAt`.
 use borrow.Author.Needs.{needs}
-use Rattle.field_groups.specs.Reading.{highWordAt}
-use Rattle.field_groups.proofs.high_word.Statement.{statement}
-use Rattle.field_groups.proofs.high_word.Tie as tie
+use Rattle.operand_fields.specs.Reading.{highWordAt}
+use Rattle.operand_fields.proofs.high_word.Statement.{statement}
+use Rattle.operand_fields.proofs.high_word.Tie as tie
 
 returns : tie.Need-returns
 unfolding highWordAt

@@ -1,11 +1,11 @@
--- `field_groups::operand_field` meets its contract: at each return, what the calls and tests on the way say picks the case of `Reading`.
+-- `operand_fields::operand_field` meets its contract: at each return, what the calls and tests on the way say picks the case of `Reading`.
 use mathlib.Core.Path.{ap}
 use borrow.Author.Needs.{needs}
 use borrow.Author.Tests.{eq-eqb, ne-eqb}
 use Rattle.fields.specs.declared.Tag.{Tag}
-use Rattle.field_groups.specs.Reading.{operandAt}
-use Rattle.field_groups.proofs.operand_field.Statement.{statement}
-use Rattle.field_groups.proofs.operand_field.Tie as tie
+use Rattle.operand_fields.specs.Reading.{operandAt}
+use Rattle.operand_fields.proofs.operand_field.Statement.{statement}
+use Rattle.operand_fields.proofs.operand_field.Tie as tie
 
 returns : tie.Need-returns
 unfolding operandAt

@@ -1,8 +1,8 @@
--- `field_groups::scalar_and_raws_field` meets its contract: at each return, what the calls and tests on the way say picks the case of `Reading`.
+-- `operand_fields::scalar_and_raws_field` meets its contract: at each return, what the calls and tests on the way say picks the case of `Reading`.
 use borrow.Author.Needs.{needs}
-use Rattle.field_groups.specs.Reading.{scalarAndRawsAt}
-use Rattle.field_groups.proofs.scalar_and_raws_field.Statement.{statement}
-use Rattle.field_groups.proofs.scalar_and_raws_field.Tie as tie
+use Rattle.operand_fields.specs.Reading.{scalarAndRawsAt}
+use Rattle.operand_fields.proofs.scalar_and_raws_field.Statement.{statement}
+use Rattle.operand_fields.proofs.scalar_and_raws_field.Tie as tie
 
 returns : tie.Need-returns
 unfolding scalarAndRawsAt
