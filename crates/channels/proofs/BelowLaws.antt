@@ -2,10 +2,10 @@
 use Prim.Native.Nat.{ℕ, zero, suc, _+_}
 use mathlib.Core.Path.{_≡_, refl, ap, _∙_}
 use mathlib.Core.Bool.{Bool, true, false, not, _&&_, _||_, Bool·beq}
-use Rattle.channels.specs.Bits.{bit}
-use Rattle.channels.specs.Below.{someBelow, everyBelow}
+use Rattle.bits.specs.Bits.{bit}
+use Rattle.bits.specs.Below.{someBelow, everyBelow}
 use Rattle.channels.specs.Lanes.{anyBit, allBits}
-use Rattle.channels.proofs.BelowAlike.{some-alike}
+use Rattle.bits.proofs.BelowAlike.{some-alike}
 
 not-or : (a b : Bool) → not (a || not b) ≡ (not a && b)
 not-or true b = refl

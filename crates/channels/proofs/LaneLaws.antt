@@ -6,13 +6,13 @@ use borrow.Author.Tests.{le-ltb, ltb-true}
 use Rattle.channels.specs.declared.Predicate.{Predicate}
 use Rattle.channels.specs.declared.Predicate.the-variants as predicate
 use Rattle.channels.specs.declared.Lanes.{Lanes}
-use Rattle.channels.specs.Bits.{bit}
-use Rattle.channels.specs.Exec.{execSize, execOffset, execOf}
-use Rattle.channels.specs.Predicate.{hasPredicate, predicateCombine, predicateInverse, ANY, ALL}
+use Rattle.bits.specs.Bits.{bit}
+use Rattle.exec_byte.specs.Exec.{execSize, execOffset, execOf}
+use Rattle.predicate_field.specs.Predicate.{hasPredicate, predicateCombine, predicateInverse, ANY, ALL}
 use Rattle.channels.specs.Lanes.{anyBit, allBits, combined, inverted, predicateAgrees, maskAllows, laneOn}
 use Rattle.channels.specs.mirror.Prepared.{combinedPredicate, predicateOf, lanesOf, agreesAt, isOn}
 use lib.Dec.{ltb, eqb}
-use Rattle.channels.proofs.All.{left}
+use Rattle.bits.proofs.All.{left}
 
 module _ (bits place : ℕ) (inverse some every : Bool) where
   -- what is prepared: is there a predicate, is it any, is it all

@@ -1,10 +1,5 @@
-pub mod All
-pub mod Every
 pub mod BitLaws
-pub mod BelowAlike
 pub mod BelowLaws
-pub mod ExecLaws
-pub mod ExecTable
 pub mod LaneLaws
 pub mod ReadBits
 pub mod Edges

@@ -5,10 +5,10 @@ use mathlib.Core.Bool.{Bool, true, false, _&&_}
 use native.Mathlib.Omega.{arith}
 use lib.Dec.{ltb}
 use borrow.Author.Tests.{ltb-true}
-use Rattle.channels.specs.Bits.{bit}
-use Rattle.channels.specs.Exec.{execSize, execOffset}
+use Rattle.bits.specs.Bits.{bit}
+use Rattle.exec_byte.specs.Exec.{execSize, execOffset}
 use Rattle.channels.specs.Lanes.{anyBit, allBits, combined, predicateAgrees, maskAllows, laneOn}
-use Rattle.channels.proofs.BelowAlike.{some-alike, every-alike}
+use Rattle.bits.proofs.BelowAlike.{some-alike, every-alike}
 
 module _ (exec a b : ℕ) (alike : (k : ℕ) → k < execOffset exec + execSize exec → bit a k ≡ bit b k) where
   lane-bit : (n : ℕ) → n < execSize exec → bit a (n + execOffset exec) ≡ bit b (n + execOffset exec)

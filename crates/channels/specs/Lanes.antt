@@ -4,10 +4,10 @@
 use Prim.Native.Nat.{ℕ, _+_}
 use mathlib.Core.Bool.{Bool, true, cond, not, _&&_, _||_}
 use lib.Dec.{ltb, eqb}
-use Rattle.channels.specs.Bits.{bit}
-use Rattle.channels.specs.Below.{someBelow, everyBelow}
-use Rattle.channels.specs.Exec.{execSize, execOffset, noMask}
-use Rattle.channels.specs.Predicate.{hasPredicate, predicateCombine, ANY, ALL, predicateInverse}
+use Rattle.bits.specs.Bits.{bit}
+use Rattle.bits.specs.Below.{someBelow, everyBelow}
+use Rattle.exec_byte.specs.Exec.{execSize, execOffset, noMask}
+use Rattle.predicate_field.specs.Predicate.{hasPredicate, predicateCombine, ANY, ALL, predicateInverse}
 
 -- "any, or all, over the ExecSize bits": those from the offset on (page 003: PMask[n] = Pred[n + mask_control_offset])
 unfoldable pub anyBit : ℕ → ℕ → ℕ → Bool

@@ -1,27 +1,16 @@
 // Which lanes of an instruction are on: by its exec byte, its pred word, the execution mask and the predicate's bits.
-mod exec_table;
-
+use exec_byte::Exec;
 ghost use mathlib.Core.Path.{_≡_};
 ghost use mathlib.Core.Bool.{Bool·beq};
 ghost use Prim.Native.Nat.{ℕ, _+_};
-ghost use Rattle.channels.specs.Bits.{bit};
-ghost use Rattle.channels.specs.Below.{someBelow};
-ghost use Rattle.channels.specs.Exec.{execOf};
-ghost use Rattle.channels.specs.Predicate.{hasPredicate, predicateId, predicateCombine, predicateReserved, predicateInverse};
+ghost use Rattle.bits.specs.Bits.{bit};
+ghost use Rattle.bits.specs.Below.{someBelow};
 ghost use Rattle.channels.specs.Lanes.{inverted};
 ghost use Rattle.channels.specs.mirror.Prepared.{combinedPredicate, predicateOf, lanesOf, agreesAt, isOn};
 
 const ANY: u8 = 1;
 
 const ALL: u8 = 2;
-
-// The parts of an exec byte: whether it is reserved, ExecSize, the offset, and whether NM is chosen.
-pub struct Exec {
-    pub reserved: bool,
-    pub size: u8,
-    pub offset: u8,
-    pub unmasked: bool,
-}
 
 // What the predicate says: the same in every lane, or a bit of the word for each lane, inverted or not.
 pub enum Predicate {
@@ -34,51 +23,6 @@ pub struct Lanes {
     pub exec: Exec,
     pub mask: u32,
     pub predicate: Predicate,
-}
-
-// What the exec byte means; decoder, encoder, texts and runs ask it here, and nothing else looks at its bits.
-pub fn split(exec: u8) -> Exec
-    ensures { λ r. ⌜ r ≡ execOf exec ⌝ }
-{
-    let code = exec_table::entry(exec);
-    Exec {
-        reserved: code == 0,
-        size: (code % 64) as u8,
-        offset: (code / 64 % 64) as u8,
-        unmasked: 4096 <= code,
-    }
-}
-
-// What the pred word means is found by the next five; decoder, encoder and runs ask them.
-pub fn has_predicate(pred: u16) -> bool
-    ensures { λ r. ⌜ r ≡ hasPredicate pred ⌝ }
-{
-    pred != 0
-}
-
-pub fn predicate_id(pred: u16) -> u16
-    ensures { λ r. ⌜ r ≡ predicateId pred ⌝ }
-{
-    pred % 4096
-}
-
-pub fn predicate_combine(pred: u16) -> u8
-    ensures { λ r. ⌜ r ≡ predicateCombine pred ⌝ }
-{
-    (pred / 8192 % 4) as u8
-}
-
-// Bit 12 is zero, and code 3 of none, any and all is reserved.
-pub fn predicate_reserved(pred: u16) -> bool
-    ensures { λ r. ⌜ r ≡ predicateReserved pred ⌝ }
-{
-    pred / 4096 % 2 == 1 || predicate_combine(pred) == 3
-}
-
-pub fn predicate_inverse(pred: u16) -> bool
-    ensures { λ r. ⌜ r ≡ predicateInverse pred ⌝ }
-{
-    pred / 32768 % 2 == 1
 }
 
 // Bit n of a word, 0 past its end.
@@ -125,8 +69,13 @@ fn combine(exec: Exec, code: u8, inverse: bool, bits: u32) -> Predicate
 fn predicate_of(exec: Exec, pred: u16, bits: u32) -> Predicate
     ensures { λ r. ⌜ r ≡ predicateOf exec pred bits ⌝ }
 {
-    if has_predicate(pred) {
-        combine(exec, predicate_combine(pred), predicate_inverse(pred), bits)
+    if predicate_field::has_predicate(pred) {
+        combine(
+            exec,
+            predicate_field::predicate_combine(pred),
+            predicate_field::predicate_inverse(pred),
+            bits,
+        )
     } else {
         Predicate::Uniform(true)
     }
@@ -136,7 +85,7 @@ fn predicate_of(exec: Exec, pred: u16, bits: u32) -> Predicate
 pub fn lanes_of(exec: u8, pred: u16, mask: u32, bits: u32) -> Lanes
     ensures { λ r. ⌜ r ≡ lanesOf exec pred mask bits ⌝ }
 {
-    let e = split(exec);
+    let e = exec_byte::split(exec);
     Lanes {
         exec: e,
         mask,

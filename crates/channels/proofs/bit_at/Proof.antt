@@ -1,7 +1,7 @@
 -- `channels::bit_at` meets its contract: past the word's end its bits are 0.
 use borrow.Author.Needs.{needs}
 use mathlib.Core.Path.{refl, sym}
-use Rattle.channels.specs.Bits.{bit}
+use Rattle.bits.specs.Bits.{bit}
 use Rattle.channels.proofs.BitLaws.{bit-past}
 use Rattle.channels.proofs.bit_at.Statement.{statement}
 use Rattle.channels.proofs.bit_at.Tie as tie

@@ -5,8 +5,8 @@ use Prim.Native.Nat.{ℕ, _+_, _-_, _≤_}
 use native.Mathlib.Nat.{le-antisymm}
 use native.Mathlib.Numerals.{add-one}
 use native.Mathlib.Omega.{arith}
-use Rattle.channels.specs.Bits.{bit}
-use Rattle.channels.specs.Below.{someBelow}
+use Rattle.bits.specs.Bits.{bit}
+use Rattle.bits.specs.Below.{someBelow}
 use Rattle.channels.proofs.some_bit.Statement.{statement}
 use Rattle.channels.proofs.some_bit.Tie as tie
 

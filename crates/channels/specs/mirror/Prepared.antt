@@ -2,11 +2,11 @@
 use Prim.Native.Nat.{ℕ, _+_}
 use mathlib.Core.Bool.{Bool, true, cond, _&&_, _||_}
 use lib.Dec.{ltb, eqb}
-use Rattle.channels.specs.Bits.{bit}
-use Rattle.channels.specs.Exec.{execOf}
-use Rattle.channels.specs.Predicate.{hasPredicate, predicateCombine, ANY, ALL, predicateInverse}
+use Rattle.bits.specs.Bits.{bit}
+use Rattle.exec_byte.specs.Exec.{execOf}
+use Rattle.predicate_field.specs.Predicate.{hasPredicate, predicateCombine, ANY, ALL, predicateInverse}
 use Rattle.channels.specs.Lanes.{anyBit, allBits, inverted}
-use Rattle.channels.specs.declared.Exec.{Exec}
+use Rattle.exec_byte.specs.declared.Exec.{Exec}
 use Rattle.channels.specs.declared.Predicate.{Predicate}
 use Rattle.channels.specs.declared.Predicate.the-variants as predicate
 use Rattle.channels.specs.declared.Lanes.{Lanes}

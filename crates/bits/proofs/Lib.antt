@@ -1,0 +1,3 @@
+pub mod All
+pub mod Every
+pub mod BelowAlike

@@ -1,0 +1,3 @@
+pub mod ExecLaws
+pub mod ExecTable
+pub mod Edges
