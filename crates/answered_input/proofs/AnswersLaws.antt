@@ -6,7 +6,7 @@ use Prim.Native.Nat.{ℕ, _≤_}
 use native.Mathlib.Omega.{arith}
 use lib.ListN.{length, take}
 use borrow.Author.Tests.{not-true, not-false}
-use Rattle.frames.specs.mirror.Reading.{Reading}
+use Rattle.tally.specs.mirror.Reading.{Reading}
 use Rattle.feeding.specs.mirror.Feeding.{Machine, fed, finished}
 use Rattle.output.specs.mirror.Page.{written}
 use Rattle.input.specs.Calls.{textOf, endedBy}

@@ -1,8 +1,8 @@
 // A case file on standard input, answered: what the programs share that read one.
 use answering::Form;
-use frames::Case;
-ghost use Rattle.frames.specs.mirror.Reading.{reading, contents};
-ghost use Rattle.frames.specs.mirror.Lent.{lentTables};
+use tally::Case;
+ghost use Rattle.tally.specs.mirror.Reading.{reading, contents};
+ghost use Rattle.tally.specs.mirror.Lent.{lentTables};
 ghost use Rattle.answering.specs.mirror.Puts.{Puts};
 ghost use Rattle.case_file.specs.Forms.{caseFileText};
 ghost use Rattle.answered_input.specs.mirror.Ended.{endedOutput};

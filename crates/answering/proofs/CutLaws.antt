@@ -10,10 +10,10 @@ use lib.ListN.{length, take, replicate, length-replicate}
 use lib.Seq.{length-take-le}
 use Rattle.little_endian.specs.LittleEndian.{Bytes}
 use Rattle.tables.specs.Tables as whole
-use Rattle.frames.specs.declared.Case.{Case}
-use Rattle.frames.specs.mirror.Reading.{contents, Tables, tables}
-use Rattle.frames.specs.mirror.Lines.{metOf, lengthOf}
-use Rattle.frames.specs.mirror.Verdicts.{taintLength}
+use Rattle.tally.specs.declared.Case.{Case}
+use Rattle.tally.specs.mirror.Reading.{contents, Tables, tables}
+use Rattle.tally.specs.mirror.Lines.{metOf, lengthOf}
+use Rattle.tally.specs.mirror.Verdicts.{taintLength}
 use Rattle.step.specs.State.{Setup, setup, State, state}
 use Rattle.run.specs.Run.{Outcome, run}
 use Rattle.run.proofs.Within.{run-within}

@@ -11,9 +11,9 @@ use lib.Seq.{set-out}
 use borrow.Author.Tests.{le-ltb, lt-ltb, ltb-true, ltb-false}
 use Rattle.hex.specs.Storing.{placed}
 use Rattle.hex.proofs.StoringLaws.{placed-none, placed-more}
-use Rattle.formats.specs.Writing as formats
-use Rattle.formats.specs.Writing.{Written, within, wrote}
-use Rattle.formats.proofs.WritingLaws.{within-inside}
+use Rattle.format_writers.specs.Writing as formats
+use Rattle.format_writers.specs.Writing.{Written, within, wrote}
+use Rattle.format_writers.proofs.WritingLaws.{within-inside}
 use Rattle.output.specs.mirror.Page.{page, pushed, written}
 
 -- past the end nothing is written

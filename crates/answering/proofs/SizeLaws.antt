@@ -6,11 +6,11 @@ use Prim.Native.Nat.{ℕ, _≤_, _<_}
 use native.Mathlib.Omega.{arith}
 use lib.Dec.{ltb}
 use lib.ListN.{length, length-append}
-use Rattle.tables.specs.declared.Lengths.{Lengths}
+use Rattle.lengths.specs.declared.Lengths.{Lengths}
 use Rattle.tables.specs.Tables.{tablesGood}
 use Rattle.tables.proofs.Laws.{limited}
-use Rattle.frames.specs.mirror.Reading.{Reading}
-use Rattle.frames.specs.mirror.Verdicts.{verdictOf}
+use Rattle.tally.specs.mirror.Reading.{Reading}
+use Rattle.tally.specs.mirror.Verdicts.{verdictOf}
 use Rattle.feeding.specs.mirror.Text.{textRead}
 use Rattle.output.specs.Output.{answerLine, bufferLines, outputBytes}
 use Rattle.verdict_line.proofs.LineLaws.{verdict-some}

@@ -5,13 +5,13 @@ use Prim.Native.Nat.{ℕ, _<_, _≤_}
 use native.Mathlib.Omega.{arith}
 use borrow.Author.Tests.{lt-ltb, le-ltb}
 use lib.ListN.{length}
-use Rattle.frames.specs.declared.Case.{Case}
-use Rattle.frames.specs.declared.Verdict.{Verdict}
-use Rattle.frames.specs.mirror.Reading.{Contents, Reading, reading, tables}
-use Rattle.frames.specs.mirror.Verdicts.{verdictOf}
+use Rattle.tally.specs.declared.Case.{Case}
+use Rattle.tally.specs.declared.Verdict.{Verdict}
+use Rattle.tally.specs.mirror.Reading.{Contents, Reading, reading, tables}
+use Rattle.tally.specs.mirror.Verdicts.{verdictOf}
 use Rattle.details.specs.declared.Detail.the-variants as detail
-use Rattle.formats.specs.Writing as formats
-use Rattle.formats.specs.Writing.{wrote}
+use Rattle.format_writers.specs.Writing as formats
+use Rattle.format_writers.specs.Writing.{wrote}
 use Rattle.verdict_line.specs.VerdictLine.{verdictLine}
 use Rattle.output.specs.mirror.Page.{page, written}
 use Rattle.output.specs.Output.{answerLine, bufferLines, outputBytes}

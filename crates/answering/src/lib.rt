@@ -1,14 +1,14 @@
 // Answers a case that was read: judges it, runs it, and writes the output's lines or the verdict's.
 use details::Detail;
-use frames::Case;
 use run::Answer;
 use step::Constants;
+use tally::Case;
 ghost use mathlib.Core.Path.{_≡_};
 ghost use Prim.Native.Nat.{_≤_, min};
-ghost use Rattle.frames.specs.mirror.Reading.{contents, reading};
-ghost use Rattle.frames.specs.mirror.Lent.{lentTables};
-ghost use Rattle.frames.specs.mirror.Lines.{lengthOf};
-ghost use Rattle.frames.specs.mirror.Verdicts.{taintLength};
+ghost use Rattle.tally.specs.mirror.Reading.{contents, reading};
+ghost use Rattle.tally.specs.mirror.Lent.{lentTables};
+ghost use Rattle.tally.specs.mirror.Lines.{lengthOf};
+ghost use Rattle.tally.specs.mirror.Verdicts.{taintLength};
 ghost use Rattle.output.specs.mirror.Page.{page, written};
 ghost use Rattle.output.specs.Output.{bufferLines, outputBytes};
 ghost use Rattle.step.specs.Borrowed.{lent};
@@ -28,7 +28,7 @@ pub enum Form {
 fn content_length(kind: u8, case: Case) -> usize
     ensures { λ r. ⌜ r ≡ min (lengthOf kind case) 4096 ⌝ }
 {
-    let n = frames::length_of(kind, case);
+    let n = tally::length_of(kind, case);
     if n < 4096 { n } else { 4096 }
 }
 
@@ -36,7 +36,7 @@ fn content_length(kind: u8, case: Case) -> usize
 fn taint_length(taint: u8, buffer: u8, case: Case) -> usize
     ensures { λ r. ⌜ r ≡ min (taintLength taint buffer case) 4096 ⌝ }
 {
-    let n = frames::taint_length(taint, buffer, case);
+    let n = tally::taint_length(taint, buffer, case);
     if n < 4096 { n } else { 4096 }
 }
 
@@ -44,7 +44,7 @@ fn taint_length(taint: u8, buffer: u8, case: Case) -> usize
 fn taint_or_zeros(kind: u8, case: Case, taint: [u8; 4096]) -> [u8; 4096]
     ensures { λ r. ⌜ r ≡ taintOf 4096 kind case taint ⌝ }
 {
-    if 0 < frames::met_of(kind, case) {
+    if 0 < tally::met_of(kind, case) {
         taint
     } else {
         [0; 4096]
@@ -54,7 +54,7 @@ fn taint_or_zeros(kind: u8, case: Case, taint: [u8; 4096]) -> [u8; 4096]
 fn surface_taint_or_zeros(case: Case, taint: [u8; 8192]) -> [u8; 8192]
     ensures { λ r. ⌜ r ≡ taintOf 8192 9 case taint ⌝ }
 {
-    if 0 < frames::met_of(9, case) {
+    if 0 < tally::met_of(9, case) {
         taint
     } else {
         [0; 8192]
@@ -85,16 +85,16 @@ fn run_case(
         mask: case.settings.mask,
         register_size: case.settings.register_size,
     };
-    let variables = frames::met_of(2, case);
-    let predicates = frames::met_of(3, case);
+    let variables = tally::met_of(2, case);
+    let predicates = tally::met_of(3, case);
     run::run(
-        line_blocks::first_bytes(kernel, frames::length_of(7, case)),
+        line_blocks::first_bytes(kernel, tally::length_of(7, case)),
         line_blocks::first_bytes(types, variables),
         feeding::first_words(starts, variables),
         feeding::first_words(counts, variables),
         feeding::first_dwords(predicate_bits, predicates),
         line_blocks::first_bytes(predicate_counts, predicates),
-        feeding::first_words(surface_lengths, frames::met_of(4, case)),
+        feeding::first_words(surface_lengths, tally::met_of(4, case)),
         constants,
         surfaces,
         surface_taint,
@@ -238,8 +238,8 @@ fn answer_good(
         predicate_bits,
         predicate_counts,
         surface_lengths,
-        line_blocks::first_bytes(surface_bytes, frames::length_of(4, case)),
-        line_blocks::first_bytes(&of_surfaces, frames::taint_length(9, 4, case)),
+        line_blocks::first_bytes(surface_bytes, tally::length_of(4, case)),
+        line_blocks::first_bytes(&of_surfaces, tally::taint_length(9, 4, case)),
         &mut registers[..file],
         &mut of_registers[..file_taint],
         &mut memory[..window],
@@ -270,7 +270,7 @@ pub fn answer(
 ) -> usize
     ensures { λ r. let t = lentTables types starts counts «predicate_bits» «predicate_counts» «surface_bytes» «surface_lengths» in ⌜ Puts (caseOutput form (reading case (contents registers memory (now (kernel .entry)) «register_taint» «surface_taint» «memory_taint») (t .entry))) (now (out .entry)) (now (out .exit)) r ⌝ }
 {
-    let verdict = frames::judge(case);
+    let verdict = tally::judge(case);
     if 0 < verdict.number {
         return write_refusal(verdict.number, verdict.position, form, out);
     }

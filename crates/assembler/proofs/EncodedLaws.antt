@@ -13,7 +13,7 @@ use Rattle.hex.specs.Bytes.{hexOf}
 use Rattle.hex.proofs.ByteLaws.{length-written}
 use Rattle.formats.specs.Text.{text}
 use Rattle.formats.specs.Numerals.{digitsOf}
-use Rattle.formats.specs.Writing.{wrote, written}
+use Rattle.format_writers.specs.Writing.{wrote, written}
 use Rattle.formats.proofs.ShortLaws.{digits-most}
 use Rattle.decoder.specs.declared.Instruction.{Instruction}
 use Rattle.decoder.specs.Format.{instructionBytes, instructionRefusal}

@@ -5,8 +5,8 @@ use mathlib.Core.List.{List, [], _++_, append-assoc, append-nil}
 use Prim.Native.Nat.{ℕ, _+_, _-_, _≤_, _<_}
 use native.Mathlib.Omega.{arith}
 use lib.ListN.{length, take, drop}
-use Rattle.formats.specs.Writing.{wrote, written}
-use Rattle.formats.proofs.WritingLaws.{room-takes}
+use Rattle.format_writers.specs.Writing.{wrote, written}
+use Rattle.format_writers.proofs.WritingLaws.{room-takes}
 use Rattle.line_blocks.specs.mirror.Rows.{Row, row, allPushed, lineLength}
 use Rattle.line_blocks.specs.mirror.TextOut.{cleared, textOut}
 use Rattle.line_blocks.proofs.RowLaws.{Begun, begun-text}

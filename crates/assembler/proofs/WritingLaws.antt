@@ -10,8 +10,8 @@ use Rattle.hex.proofs.ByteLaws.{hex-none, hex-append}
 use Rattle.formats.specs.Text.{text}
 use Rattle.formats.specs.Words.{words, wordAt}
 use Rattle.formats.specs.Numerals.{digitsOf}
-use Rattle.formats.specs.Writing.{wrote, written}
-use Rattle.formats.proofs.WritingLaws.{wrote-then, wrote-none, wrote-inside}
+use Rattle.format_writers.specs.Writing.{wrote, written}
+use Rattle.format_writers.proofs.WritingLaws.{wrote-then, wrote-none, wrote-inside}
 use Rattle.line_blocks.specs.LinesOf.{lineEnd}
 use Rattle.assembler.specs.Assembling.{columnLine}
 

@@ -7,7 +7,7 @@ ghost use mathlib.Core.List.{_++_};
 ghost use Prim.Native.Nat.{_+_, _≤_, _<_};
 ghost use lib.ListN.{length};
 ghost use Rattle.hex.specs.Bytes.{hexOf};
-ghost use Rattle.formats.specs.Writing.{wrote, written};
+ghost use Rattle.format_writers.specs.Writing.{wrote, written};
 ghost use Rattle.line_blocks.specs.LinesOf.{lineEnd};
 ghost use Rattle.assembler.specs.Assembling.{columnLine, assembledLine};
 ghost use Rattle.assembler.specs.mirror.Parts.{Goes, Passes};
@@ -16,19 +16,19 @@ ghost use Rattle.assembler.specs.mirror.Parts.{Goes, Passes};
 fn put_column(out: &mut [u8], at: usize, column: u64) -> usize
     ensures { λ r. ⌜ wrote r (now (out .exit)) ≡ written (now (out .entry)) at (columnLine column) ⌝ }
 {
-    let a = formats::put_word(out, at, b"! 16 |", 0);
-    let b = formats::put_number(out, a, Base::Decimal, column);
-    formats::put_word(out, b, b"\n|", 0)
+    let a = format_writers::put_word(out, at, b"! 16 |", 0);
+    let b = format_writers::put_number(out, a, Base::Decimal, column);
+    format_writers::put_word(out, b, b"\n|", 0)
 }
 
 // Bytes in hex. An empty word is written first, which gives the place, the buffer's end at most.
 fn put_bytes(out: &mut [u8], at: usize, bytes: &[u8]) -> usize
     ensures { λ r. ⌜ wrote r (now (out .exit)) ≡ written (now (out .entry)) at (hexOf (now (bytes .entry))) ⌝ }
 {
-    let mut to = formats::put_word(out, at, b"|", 0);
+    let mut to = format_writers::put_word(out, at, b"|", 0);
     let mut i = 0;
     while i < bytes.len() {
-        let e = formats::put_byte(out, to, bytes[i]);
+        let e = format_writers::put_byte(out, to, bytes[i]);
         to = e;
         i += 1;
     }
@@ -40,7 +40,7 @@ fn put_encoding(out: &mut [u8], at: usize, bytes: &[u8]) -> usize
     ensures { λ r. ⌜ wrote r (now (out .exit)) ≡ written (now (out .entry)) at (hexOf (now (bytes .entry)) ++ lineEnd) ⌝ }
 {
     let a = put_bytes(out, at, bytes);
-    formats::put_word(out, a, b"\n|", 0)
+    format_writers::put_word(out, a, b"\n|", 0)
 }
 
 // No encoding is longer than the buffer here, so that what is refused is refused by 16.

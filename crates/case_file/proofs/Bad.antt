@@ -8,10 +8,10 @@ use lib.ListN.{length}
 use lib.Dec.{eqb, ltb, leb}
 use borrow.Author.Tests.{lt-ltb, ne-eqb, leb-false}
 use Rattle.hex.proofs.DigitLaws.{cond-both}
-use Rattle.frames.specs.mirror.Reading.{Reading}
-use Rattle.frames.specs.mirror.Lines.{KINDS, next, badLine, metOf}
-use Rattle.frames.specs.mirror.Repeated.{variableRead, predicateSized, predicateRead}
-use Rattle.frames.specs.mirror.Once.{Once, memoryRead, maskRead, registerSizeRead, onceRead}
+use Rattle.tally.specs.mirror.Reading.{Reading}
+use Rattle.tally.specs.mirror.Lines.{KINDS, next, badLine, metOf}
+use Rattle.table_frames.specs.mirror.Repeated.{variableRead, predicateSized, predicateRead}
+use Rattle.once_frames.specs.mirror.Once.{Once, memoryRead, maskRead, registerSizeRead, onceRead}
 use Rattle.frames.specs.mirror.Frames.{frameRead}
 use Rattle.case_file.specs.Frames.{kindOf, contentOf}
 use Rattle.case_file.specs.BadLine.{repeats, contentGood}

@@ -8,7 +8,7 @@ use lib.ListN.{length, getD, List·getD-append}
 use lib.Dec.{eqb}
 use Rattle.tables.specs.Tables.{tablesGood}
 use Rattle.tables.proofs.Laws.{limited, counted, surface-small, surfaces-small}
-use Rattle.tables.proofs.SurfacePlaces.{length-is}
+use Rattle.surface_table.proofs.SurfacePlaces.{length-is}
 use Rattle.step.specs.State.{lengthsOf}
 use Rattle.case_file.specs.Frames.{ofKind, firstOf}
 use Rattle.case_file.specs.Case.{typeOf, dwordOf, memoryOf, marksOf, caseSetup, caseState}

@@ -10,11 +10,11 @@ use lib.Dec.{eqb, ltb, leb}
 use borrow.Author.Tests.{lt-ltb, le-ltb, eqb-true, eqb-false}
 use Rattle.hex.specs.Storing.{fits}
 use Rattle.hex.proofs.DigitLaws.{cond-both}
-use Rattle.frames.specs.declared.Case.{Case}
-use Rattle.frames.specs.mirror.Reading.{Reading}
-use Rattle.frames.specs.mirror.Lines.{KINDS, next, goodLine, metOf, lengthOf, counted, sized, based, masked, registersSized}
-use Rattle.frames.specs.mirror.Repeated.{Variables, variableRead, Predicates, predicateSized, predicateRead, Surfaces, surfaceRead}
-use Rattle.frames.specs.mirror.Once.{contentRead, memoryRead, maskRead, registerSizeRead, onceRead}
+use Rattle.tally.specs.declared.Case.{Case}
+use Rattle.tally.specs.mirror.Reading.{Reading}
+use Rattle.tally.specs.mirror.Lines.{KINDS, next, goodLine, metOf, lengthOf, counted, sized, based, masked, registersSized}
+use Rattle.table_frames.specs.mirror.Repeated.{Variables, variableRead, Predicates, predicateSized, predicateRead, Surfaces, surfaceRead}
+use Rattle.once_frames.specs.mirror.Once.{contentRead, memoryRead, maskRead, registerSizeRead, onceRead}
 use Rattle.frames.specs.mirror.Frames.{frameRead}
 use Rattle.case_file.specs.Frames.{kindOf, contentOf}
 use Rattle.case_file.specs.BadLine.{repeats}

@@ -9,8 +9,8 @@ use lib.ListN.{length, getD, length-append}
 use lib.Seq.{getD-append-seam}
 use lib.Dec.{eqb, leb}
 use borrow.Author.Tests.{leb-true, leb-false}
-use Rattle.frames.specs.mirror.Reading.{Contents, Tables, Reading}
-use Rattle.frames.specs.mirror.Lines.{next}
+use Rattle.tally.specs.mirror.Reading.{Contents, Tables, Reading}
+use Rattle.tally.specs.mirror.Lines.{next}
 use Rattle.frames.specs.mirror.Frames.{frameRead}
 use Rattle.case_file.specs.Frames.{kindOf, contentOf, firstOf}
 use Rattle.case_file.specs.BadLine.{repeats}

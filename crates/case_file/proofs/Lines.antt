@@ -11,8 +11,8 @@ use lib.Seq.{append-snoc}
 use lib.Dec.{eqb, ltb, leb}
 use borrow.Author.Tests.{leb-true, leb-false, ltb-true, ltb-false}
 use Rattle.hex.specs.Bytes.{isHex, hexBytes}
-use Rattle.frames.specs.mirror.Reading.{Contents, Tables, Reading}
-use Rattle.frames.specs.mirror.Lines.{next, badLine, longLine}
+use Rattle.tally.specs.mirror.Reading.{Contents, Tables, Reading}
+use Rattle.tally.specs.mirror.Lines.{next, badLine, longLine}
 use Rattle.frames.specs.mirror.Frames.{frameRead, lineRead}
 use Rattle.feeding.specs.mirror.Text.{anyLineRead, linesRead}
 use Rattle.feeding.proofs.StayLaws.{all-stay}

@@ -6,8 +6,8 @@ use Prim.Native.Nat.{ℕ, _<_}
 use native.Mathlib.Omega.{arith}
 use lib.ListN.{length}
 use lib.Dec.{eqb}
-use Rattle.frames.specs.mirror.Lines.{KINDS}
-use Rattle.frames.specs.mirror.Reading.{Contents}
+use Rattle.tally.specs.mirror.Lines.{KINDS}
+use Rattle.tally.specs.mirror.Reading.{Contents}
 use Rattle.case_file.specs.BadLine.{repeats}
 use Rattle.case_file.proofs.ByKind.{none-yet}
 

@@ -8,10 +8,10 @@ use lib.ListN.{length, getD, drop, length-append}
 use lib.Dec.{ltb}
 use borrow.Author.Tests.{lt-ltb, le-leb, le-ltb, lt-leb}
 use Rattle.little_endian.specs.LittleEndian.{numberAt}
-use Rattle.frames.specs.mirror.Reading.{Contents, Tables}
-use Rattle.frames.specs.mirror.Lines.{next, goodLine, metOf, lengthOf, counted, sized, based, masked, registersSized}
-use Rattle.frames.specs.mirror.Repeated.{variableRead, predicateSized, predicateCount, predicateRead, surfaceRead}
-use Rattle.frames.specs.mirror.Once.{contentRead, memoryRead, maskRead, registerSizeRead, onceRead}
+use Rattle.tally.specs.mirror.Reading.{Contents, Tables}
+use Rattle.tally.specs.mirror.Lines.{next, goodLine, metOf, lengthOf, counted, sized, based, masked, registersSized}
+use Rattle.table_frames.specs.mirror.Repeated.{variableRead, predicateSized, predicateCount, predicateRead, surfaceRead}
+use Rattle.once_frames.specs.mirror.Once.{contentRead, memoryRead, maskRead, registerSizeRead, onceRead}
 use Rattle.frames.specs.mirror.Frames.{frameRead}
 use Rattle.case_file.specs.Frames.{firstOf}
 use Rattle.case_file.specs.Case.{typeOf, startOf, countOf, dwordOf, predicateCountOf, baseOf, memoryOf, registerSizeOf}

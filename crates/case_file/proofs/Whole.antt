@@ -11,9 +11,9 @@ use borrow.Author.Tests.{lt-ltb, ltb-true}
 use Rattle.little_endian.specs.LittleEndian.{numberAt}
 use Rattle.hex.specs.Bytes.{hexBytes}
 use Rattle.hex.proofs.DigitLaws.{cond-both}
-use Rattle.frames.specs.mirror.Reading.{Contents, Tables, Reading, reading}
-use Rattle.frames.specs.mirror.Lines.{KINDS, nothing, metOf, lengthOf}
-use Rattle.frames.specs.mirror.Verdicts.{taintLength, verdictOf}
+use Rattle.tally.specs.mirror.Reading.{Contents, Tables, Reading, reading}
+use Rattle.tally.specs.mirror.Lines.{KINDS, nothing, metOf, lengthOf}
+use Rattle.tally.specs.mirror.Verdicts.{taintLength, verdictOf}
 use Rattle.line_blocks.specs.LinesOf.{linesOf}
 use Rattle.feeding.specs.mirror.Text.{linesRead, textRead}
 use Rattle.feeding.specs.mirror.Feeding.{finished}

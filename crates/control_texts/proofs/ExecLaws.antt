@@ -13,8 +13,8 @@ use Rattle.formats.specs.Format.{pair, through}
 use Rattle.formats.specs.Words.{words, oneOf, table, before}
 use Rattle.formats.specs.Numbers.{number}
 use Rattle.formats.specs.mirror.Digits.{isDigit, valueOf}
-use Rattle.channels.specs.Exec.{execReserved, execSize, execOf}
-use Rattle.channels.proofs.ExecLaws.{exec-reserved, exec-size, exec-offset, no-mask}
+use Rattle.exec_byte.specs.Exec.{execReserved, execSize, execOf}
+use Rattle.exec_byte.proofs.ExecLaws.{exec-reserved, exec-size, exec-offset, no-mask}
 use Rattle.formats.proofs.Tests.{both, both-left, both-right}
 use Rattle.formats.proofs.Law.{Lawful, free}
 use Rattle.formats.proofs.Following.{Matches, follows-free, follows-begins}

@@ -4,10 +4,10 @@ use mathlib.Core.Path.{_≡_, refl, sym, _∙_}
 use mathlib.Core.Bool.{Bool, true, false, not, _&&_, _||_}
 use native.Mathlib.Omega.{arith}
 use lib.Dec.{ltb, leb, eqb}
-use Rattle.channels.specs.Bits.{bit, bitField}
-use Rattle.channels.specs.Exec.{execReserved, execSize}
-use Rattle.channels.specs.Predicate.{predicateCombine, predicateReserved}
-use Rattle.channels.proofs.ExecLaws.{exec-reserved, exec-size}
+use Rattle.bits.specs.Bits.{bit, bitField}
+use Rattle.exec_byte.specs.Exec.{execReserved, execSize}
+use Rattle.predicate_field.specs.Predicate.{predicateCombine, predicateReserved}
+use Rattle.exec_byte.proofs.ExecLaws.{exec-reserved, exec-size}
 use Rattle.fields.specs.Rules.{execGood, scatterExecGood, predicateGood}
 
 -- bit 3 and the code of the size

@@ -13,10 +13,10 @@ use Rattle.formats.specs.Format.{pair, through, blank}
 use Rattle.formats.specs.Words.{words, wordAt, oneOf, table, before}
 use Rattle.formats.specs.Numerals.{digits, digitsOf}
 use Rattle.formats.specs.Numbers.{number}
-use Rattle.channels.specs.Bits.{bit, bitField}
-use Rattle.channels.specs.Exec.{execReserved, execSize, maskControl, maskNumber, noMask}
-use Rattle.channels.specs.Predicate.{hasPredicate, predicateId, predicateCombine, predicateInverse}
-use Rattle.channels.proofs.ExecLaws.{exec-size}
+use Rattle.bits.specs.Bits.{bit, bitField}
+use Rattle.exec_byte.specs.Exec.{execReserved, execSize, maskControl, maskNumber, noMask}
+use Rattle.predicate_field.specs.Predicate.{hasPredicate, predicateId, predicateCombine, predicateInverse}
+use Rattle.exec_byte.proofs.ExecLaws.{exec-size}
 use Rattle.formats.proofs.Tests.{both-left, both-right}
 use Rattle.control_texts.specs.mirror.Predicate.{openings, endings, groupEndings, ending, idAndEnding, predicateFits, predicate}
 use Rattle.control_texts.specs.mirror.Exec.{maskEndings, sizes, scatterSizes, maskParts, mask, execFrom, execFits, exec, scatterExecFits, scatterExec}

@@ -5,8 +5,8 @@ use mathlib.Core.Bool.{Bool, cond}
 use lib.Dec.{eqb}
 use Rattle.formats.specs.Text.{text}
 use Rattle.formats.specs.Numerals.{digitsOf}
-use Rattle.channels.specs.Exec.{execSize, maskNumber, noMask}
-use Rattle.channels.specs.Predicate.{hasPredicate, predicateId, predicateCombine, predicateInverse, ANY, ALL}
+use Rattle.exec_byte.specs.Exec.{execSize, maskNumber, noMask}
+use Rattle.predicate_field.specs.Predicate.{hasPredicate, predicateId, predicateCombine, predicateInverse, ANY, ALL}
 
 abbrev pub optional : Bool → List ℕ → List ℕ
 optional b t = cond b t []

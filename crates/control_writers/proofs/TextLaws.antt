@@ -11,8 +11,8 @@ use Rattle.formats.specs.Format.{pair, through, blank}
 use Rattle.formats.specs.Words.{words, wordAt, oneOf, before}
 use Rattle.formats.specs.Numerals.{digitsOf}
 use Rattle.formats.specs.Numbers.{number}
-use Rattle.channels.specs.declared.Exec.{Exec}
-use Rattle.channels.specs.Exec.{execOf}
+use Rattle.exec_byte.specs.declared.Exec.{Exec}
+use Rattle.exec_byte.specs.Exec.{execOf}
 use Rattle.control_texts.specs.mirror.Predicate.{openings, endings, groupEndings, ending, idAndEnding, predicate}
 use Rattle.control_texts.specs.mirror.Exec.{maskEndings, sizes, scatterSizes, maskParts, mask, maskPlace, sizePlace, execFrom, exec, scatterExec}
 

@@ -1,5 +1,5 @@
 // What stands before the operands in an instruction's line, written into a lent buffer: predicate, exec byte. What does not fit is lost.
-use channels::Exec;
+use exec_byte::Exec;
 use formats::Base;
 ghost use mathlib.Core.Path.{_≡_};
 ghost use Rattle.format_writers.specs.Writing.{wrote, written};
@@ -72,7 +72,7 @@ fn size_place(size: u8) -> u64
 pub fn put_exec(out: &mut [u8], at: usize, byte: u8) -> usize
     ensures { λ r. ⌜ wrote r (now (out .exit)) ≡ written (now (out .entry)) at (exec .print byte) ⌝ }
 {
-    let e = channels::split(byte);
+    let e = exec_byte::split(byte);
     let a = put_mask(out, at, mask_place(e));
     format_writers::put_word(out, a, b"1) |2) |4) |8) |16) |32) |", size_place(e.size))
 }
@@ -80,7 +80,7 @@ pub fn put_exec(out: &mut [u8], at: usize, byte: u8) -> usize
 pub fn put_scatter_exec(out: &mut [u8], at: usize, byte: u8) -> usize
     ensures { λ r. ⌜ wrote r (now (out .exit)) ≡ written (now (out .entry)) at (scatterExec .print byte) ⌝ }
 {
-    let e = channels::split(byte);
+    let e = exec_byte::split(byte);
     let a = put_mask(out, at, mask_place(e));
     format_writers::put_word(
         out,

@@ -5,8 +5,8 @@ use mathlib.Core.Bool.{Bool, true, false, cond, not}
 use native.Mathlib.Omega.{arith}
 use lib.Dec.{ltb}
 use borrow.Author.Tests.{ltb-false, le-ltb, not-false}
-use Rattle.tables.specs.declared.PredicateRecord.{PredicateRecord}
-use Rattle.channels.specs.Predicate.{hasPredicate}
+use Rattle.predicate_table.specs.declared.PredicateRecord.{PredicateRecord}
+use Rattle.predicate_field.specs.Predicate.{hasPredicate}
 use Rattle.field_groups.specs.declared.Control.{Control}
 use Rattle.controls.specs.Control.{lanesEnd, predicateRefusal, controlRefusal}
 

@@ -3,10 +3,10 @@
 use Prim.Native.Nat.{ℕ, _+_}
 use mathlib.Core.Bool.{cond, not}
 use lib.Dec.{ltb}
-use Rattle.tables.specs.declared.PredicateRecord.{PredicateRecord}
-use Rattle.tables.specs.Predicates.{Predicates, predicateAt}
-use Rattle.channels.specs.Exec.{execSize, execOffset}
-use Rattle.channels.specs.Predicate.{hasPredicate, predicateId}
+use Rattle.predicate_table.specs.declared.PredicateRecord.{PredicateRecord}
+use Rattle.predicate_table.specs.Predicates.{Predicates, predicateAt}
+use Rattle.exec_byte.specs.Exec.{execSize, execOffset}
+use Rattle.predicate_field.specs.Predicate.{hasPredicate, predicateId}
 use Rattle.field_groups.specs.declared.Control.{Control}
 
 -- "offset + ExecSize"

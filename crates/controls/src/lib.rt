@@ -1,6 +1,6 @@
 // Exec byte and pred word, which every instruction has: their tests, and the bits of the predicate that is named.
 use field_groups::Control;
-use tables::PredicateRecord;
+use predicate_table::PredicateRecord;
 ghost use mathlib.Core.Path.{_≡_};
 ghost use Rattle.controls.specs.Control.{lanesEnd, predicateRefusal, controlRefusal, bitsNamed};
 
@@ -8,7 +8,7 @@ ghost use Rattle.controls.specs.Control.{lanesEnd, predicateRefusal, con
 fn lanes_end(exec: u8) -> u16
     ensures { λ r. ⌜ r ≡ lanesEnd exec ⌝ }
 {
-    let lanes = channels::split(exec);
+    let lanes = exec_byte::split(exec);
     (lanes.offset as u16) + (lanes.size as u16)
 }
 
@@ -33,7 +33,7 @@ pub fn control_refusal(predicate: PredicateRecord, control: Control) -> u8
     if 32 < lanes_end(control.exec) {
         return 8;
     }
-    if channels::has_predicate(control.pred) {
+    if predicate_field::has_predicate(control.pred) {
         return predicate_refusal(predicate, control.exec);
     }
     0
@@ -43,7 +43,7 @@ pub fn control_refusal(predicate: PredicateRecord, control: Control) -> u8
 pub fn bits_named(predicate: PredicateRecord, pred: u16) -> u32
     ensures { λ r. ⌜ r ≡ bitsNamed predicate pred ⌝ }
 {
-    if channels::has_predicate(pred) {
+    if predicate_field::has_predicate(pred) {
         predicate.bits
     } else {
         0

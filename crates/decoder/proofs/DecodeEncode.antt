@@ -15,7 +15,8 @@ use Rattle.fields.specs.declared.ByteRule.the-variants as byte
 use Rattle.fields.specs.declared.WordRule.the-variants as word
 use Rattle.fields.specs.declared.Field.the-variants.{Byte}
 use Rattle.fields.proofs.Laws.{Parsed, parsed-then, ParsedAs, Given, given-then, byte-given, word-given}
-use Rattle.field_groups.proofs.Parsed.{read-as, control-given, operand-given, scalar-and-raws-given, access-given, message-given}
+use Rattle.field_groups.proofs.Parsed.{control-given, access-given, message-given}
+use Rattle.operand_fields.proofs.Parsed.{read-as, operand-given, scalar-and-raws-given}
 use Rattle.decoder.specs.declared.Instruction.{Instruction}
 use Rattle.decoder.specs.Decoding.{shlAt, gatherAt, scatterAt, svmAt, rawSendAt, instructionAt}
 use Rattle.decoder.specs.Format.{shlFields, gatherFields, scatterFields, rawSendFields, instructionFields}

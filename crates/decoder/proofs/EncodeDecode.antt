@@ -11,7 +11,8 @@ use Rattle.fields.specs.declared.WordRule.the-variants as word
 use Rattle.fields.specs.Told.{LayoutTold}
 use Rattle.fields.proofs.Told.{good-told}
 use Rattle.fields.proofs.ReadBack.{Stands, There, there-good, there-refused, there-then, there-last, byte-there, word-there}
-use Rattle.field_groups.proofs.There.{control-there, operand-there, access-there, message-there, scalar-and-raws-there}
+use Rattle.field_groups.proofs.There.{control-there, access-there, message-there}
+use Rattle.operand_fields.proofs.There.{operand-there, scalar-and-raws-there}
 use Rattle.decoder.specs.declared.Instruction.{Instruction}
 use Rattle.decoder.specs.declared.Instruction.the-variants as instruction
 use Rattle.decoder.specs.Decoding.{shlAt, gatherAt, scatterAt, svmAt, rawSendAt, instructionAt}

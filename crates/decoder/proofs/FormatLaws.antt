@@ -16,8 +16,10 @@ use Rattle.decoder.specs.declared.Scatter.{Scatter}
 use Rattle.decoder.specs.declared.RawSend.{RawSend}
 use Rattle.decoder.specs.declared.Instruction.{Instruction}
 use Rattle.decoder.specs.declared.Instruction.the-variants as instruction
-use Rattle.field_groups.specs.Layout.{controlFields, operandFields, rawFields, accessFields, messageFields}
-use Rattle.field_groups.proofs.LayoutLaws.{one-at-most, control-at-most, operand-at-most, raw-at-most, access-at-most, message-at-most}
+use Rattle.field_groups.specs.Layout.{controlFields, accessFields, messageFields}
+use Rattle.operand_fields.specs.Layout.{operandFields, rawFields}
+use Rattle.field_groups.proofs.LayoutLaws.{one-at-most, control-at-most, access-at-most, message-at-most}
+use Rattle.operand_fields.proofs.LayoutLaws.{operand-at-most, raw-at-most}
 use Rattle.decoder.specs.Format.{shlFields, gatherFields, scatterFields, rawSendFields, instructionFields, instructionBytes, instructionRefusal}
 
 -- ---- group by group

@@ -18,7 +18,8 @@ use Rattle.fields.specs.declared.TagRule.the-variants as tag
 use Rattle.fields.specs.Tags.{tagOf, GENERAL, IMMEDIATE}
 use Rattle.fields.specs.Rules.{judged, tagGood, tagRefusal, byteRefusal, wordRefusal}
 use Rattle.fields.specs.Reading.{judgedRead, byteFieldAt, wordFieldAt, dwordFieldAt}
-use Rattle.field_groups.specs.Reading.{controlAt, generalAt, highWordAt, immediateAt, operandAt, rawAt, scalarAndRawsAt, accessAt, messageAt}
+use Rattle.field_groups.specs.Reading.{controlAt, accessAt, messageAt}
+use Rattle.operand_fields.specs.Reading.{generalAt, highWordAt, immediateAt, operandAt, rawAt, scalarAndRawsAt}
 use Rattle.decoder.specs.declared.Instruction.{Instruction}
 use Rattle.decoder.specs.Decoding.{shlAt, gatherAt, scatterAt, svmAt, rawSendAt, instructionAt}
 

@@ -4,7 +4,7 @@ use mathlib.Core.List.{List, [], _∷_}
 use Prim.Native.Nat.{ℕ}
 use Rattle.little_endian.specs.LittleEndian.{Bytes}
 use Rattle.reader.specs.Reply.{got}
-use Rattle.channels.specs.Exec.{execSize}
+use Rattle.exec_byte.specs.Exec.{execSize}
 use Rattle.fields.specs.declared.ByteRule.the-variants as byte
 use Rattle.fields.specs.declared.Field.the-variants.{Byte}
 use Rattle.fields.specs.Layout.{layoutRefusal}

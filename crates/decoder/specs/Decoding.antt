@@ -10,7 +10,8 @@ use Rattle.fields.specs.declared.TagRule.the-variants as tag
 use Rattle.fields.specs.declared.ByteRule.the-variants as byte
 use Rattle.fields.specs.declared.WordRule.the-variants as word
 use Rattle.fields.specs.Reading.{byteFieldAt, wordFieldAt}
-use Rattle.field_groups.specs.Reading.{controlAt, operandAt, scalarAndRawsAt, accessAt, messageAt}
+use Rattle.field_groups.specs.Reading.{controlAt, accessAt, messageAt}
+use Rattle.operand_fields.specs.Reading.{operandAt, scalarAndRawsAt}
 use Rattle.decoder.specs.declared.Instruction.{Instruction}
 use Rattle.decoder.specs.declared.Instruction.the-variants.{Shl, Gather, Scatter, RawSend}
 use Rattle.decoder.specs.declared.Decoded.{Decoded}

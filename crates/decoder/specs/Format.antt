@@ -7,7 +7,8 @@ use Rattle.fields.specs.declared.WordRule.the-variants as word
 use Rattle.fields.specs.declared.Field.{Field}
 use Rattle.fields.specs.declared.Field.the-variants.{Byte, Word}
 use Rattle.fields.specs.Layout.{layoutBytes, layoutRefusal}
-use Rattle.field_groups.specs.Layout.{controlFields, operandFields, rawFields, accessFields, messageFields}
+use Rattle.field_groups.specs.Layout.{controlFields, accessFields, messageFields}
+use Rattle.operand_fields.specs.Layout.{operandFields, rawFields}
 use Rattle.decoder.specs.declared.Shl.{Shl}
 use Rattle.decoder.specs.declared.Gather.{Gather}
 use Rattle.decoder.specs.declared.Scatter.{Scatter}

@@ -5,15 +5,15 @@ use field_groups::Control;
 use field_groups::ControlField;
 use field_groups::Message;
 use field_groups::MessageField;
-use field_groups::Operand;
-use field_groups::OperandField;
-use field_groups::Raw;
-use field_groups::ScalarAndRawsField;
 use fields::ByteField;
 use fields::ByteRule;
 use fields::TagRule;
 use fields::WordField;
 use fields::WordRule;
+use operand_fields::Operand;
+use operand_fields::OperandField;
+use operand_fields::Raw;
+use operand_fields::ScalarAndRawsField;
 use reader::Cursor;
 ghost use mathlib.Core.Path.{_≡_};
 ghost use Rattle.reader.specs.Reply.{numberOf};
@@ -73,11 +73,11 @@ fn shl_fields(kernel: &[u8], cursor: Cursor) -> Decoded
 {
     match field_groups::control_field(kernel, cursor, ByteRule::Exec) {
         ControlField::Got(control, c1) => {
-            match field_groups::operand_field(kernel, c1, TagRule::Destination) {
+            match operand_fields::operand_field(kernel, c1, TagRule::Destination) {
                 OperandField::Got(destination, c2) => {
-                    match field_groups::operand_field(kernel, c2, TagRule::Source) {
+                    match operand_fields::operand_field(kernel, c2, TagRule::Source) {
                         OperandField::Got(source, c3) => {
-                            match field_groups::operand_field(kernel, c3, TagRule::Source) {
+                            match operand_fields::operand_field(kernel, c3, TagRule::Source) {
                                 OperandField::Got(count, c4) => Decoded::Accepted(
                                     Instruction::Shl(Shl {
                                         control,
@@ -108,7 +108,7 @@ fn gather_fields(kernel: &[u8], cursor: Cursor) -> Decoded
         ControlField::Got(control, c1) => {
             match field_groups::access_field(kernel, c1) {
                 AccessField::Got(access, c2) => {
-                    match field_groups::scalar_and_raws_field(kernel, c2) {
+                    match operand_fields::scalar_and_raws_field(kernel, c2) {
                         ScalarAndRawsField::Got(offset, element_offset, destination, c3) =>
                             Decoded::Accepted(
                                 Instruction::Gather(Gather {
@@ -140,7 +140,7 @@ fn scatter_fields(kernel: &[u8], cursor: Cursor) -> Decoded
                 ByteField::Got(channels, c2) => {
                     match fields::word_field(kernel, c2, WordRule::Free) {
                         WordField::Got(scale, c3) => {
-                            match field_groups::scalar_and_raws_field(kernel, c3) {
+                            match operand_fields::scalar_and_raws_field(kernel, c3) {
                                 ScalarAndRawsField::Got(address, element_offset, source, c4) =>
                                     Decoded::Accepted(
                                         Instruction::Scatter(Scatter {
@@ -192,7 +192,7 @@ fn raw_send_fields(kernel: &[u8], cursor: Cursor) -> Decoded
                 ControlField::Got(control, c2) => {
                     match field_groups::message_field(kernel, c2) {
                         MessageField::Got(message, c3) => {
-                            match field_groups::scalar_and_raws_field(kernel, c3) {
+                            match operand_fields::scalar_and_raws_field(kernel, c3) {
                                 ScalarAndRawsField::Got(descriptor, source, destination, c4) =>
                                     Decoded::Accepted(
                                         Instruction::RawSend(RawSend {

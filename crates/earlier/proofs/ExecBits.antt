@@ -5,7 +5,7 @@ use mathlib.Core.Bool.{false}
 use mathlib.Core.List.{List, [], _∷_}
 use Rattle.little_endian.specs.LittleEndian.{Bytes}
 use Rattle.reader.specs.Reply.{got}
-use Rattle.channels.specs.Exec.{execReserved, execSize, execOffset, noMask, execOf}
+use Rattle.exec_byte.specs.Exec.{execReserved, execSize, execOffset, noMask, execOf}
 use Rattle.fields.specs.declared.ByteRule.the-variants as byte
 use Rattle.fields.specs.declared.Field.the-variants.{Byte}
 use Rattle.fields.specs.Layout.{layoutRefusal}

@@ -10,20 +10,20 @@ use Rattle.details.specs.declared.Detail.{Detail}
 use Rattle.details.specs.declared.Detail.the-variants as detail
 use Rattle.details.specs.Details.{namesOperand}
 use Rattle.element_types.specs.Types.{sizeOf}
-use Rattle.channels.specs.Exec.{execSize}
-use Rattle.channels.specs.Predicate.{hasPredicate}
+use Rattle.exec_byte.specs.Exec.{execSize}
+use Rattle.predicate_field.specs.Predicate.{hasPredicate}
 use Rattle.tables.specs.Tables.{Tables}
-use Rattle.tables.specs.declared.PredicateRecord.{PredicateRecord}
+use Rattle.predicate_table.specs.declared.PredicateRecord.{PredicateRecord}
 use Rattle.tables.specs.Variables.{Variables}
 use Rattle.field_groups.specs.declared.Control.{Control}
-use Rattle.field_groups.specs.declared.Immediate.{Immediate}
-use Rattle.field_groups.specs.declared.Operand.the-variants as kind
+use Rattle.operand_fields.specs.declared.Immediate.{Immediate}
+use Rattle.operand_fields.specs.declared.Operand.the-variants as kind
 use Rattle.decoder.specs.declared.Instruction.{Instruction}
 use Rattle.decoder.specs.declared.Instruction.the-variants as instruction
-use Rattle.regions.specs.declared.Role.{Role}
-use Rattle.regions.specs.declared.Role.the-variants as role
+use Rattle.region_rules.specs.declared.Role.{Role}
+use Rattle.region_rules.specs.declared.Role.the-variants as role
 use Rattle.regions.specs.Regions.{elementOf}
-use Rattle.regions.specs.RegionRules.{regionRefusal}
+use Rattle.region_rules.specs.RegionRules.{regionRefusal}
 use Rattle.regions.specs.Reach.{elementsGood}
 use Rattle.operands.specs.declared.TypeRule.{TypeRule}
 use Rattle.operands.specs.Allowed.{typeAllowed}

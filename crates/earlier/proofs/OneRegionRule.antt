@@ -11,21 +11,22 @@ use Rattle.element_types.specs.Types.{sizeOf}
 use Rattle.details.specs.declared.Detail.{Detail}
 use Rattle.details.specs.declared.Detail.the-variants as detail
 use Rattle.details.specs.Details.{namesOperand}
-use Rattle.channels.specs.Exec.{execSize}
-use Rattle.field_groups.specs.declared.General.{General}
-use Rattle.field_groups.specs.declared.Immediate.{Immediate}
-use Rattle.field_groups.specs.declared.Raw.{Raw}
-use Rattle.field_groups.specs.declared.Operand.{Operand}
-use Rattle.field_groups.specs.declared.Operand.the-variants as kind
+use Rattle.exec_byte.specs.Exec.{execSize}
+use Rattle.operand_fields.specs.declared.General.{General}
+use Rattle.operand_fields.specs.declared.Immediate.{Immediate}
+use Rattle.operand_fields.specs.declared.Raw.{Raw}
+use Rattle.operand_fields.specs.declared.Operand.{Operand}
+use Rattle.operand_fields.specs.declared.Operand.the-variants as kind
 use Rattle.tables.specs.Tables.{Tables}
 use Rattle.tables.specs.Variables.{Variables}
 use Rattle.decoder.specs.declared.Instruction.{Instruction}
 use Rattle.decoder.specs.declared.Instruction.the-variants as instruction
-use Rattle.regions.specs.declared.Role.{Role}
-use Rattle.regions.specs.Regions.{regionAllowed, elementOf}
-use Rattle.regions.specs.RegionRules.{regionRefusal}
+use Rattle.region_rules.specs.declared.Role.{Role}
+use Rattle.region_rules.specs.RegionWord.{regionAllowed}
+use Rattle.regions.specs.Regions.{elementOf}
+use Rattle.region_rules.specs.RegionRules.{regionRefusal}
 use Rattle.regions.specs.Reach.{elementsGood}
-use Rattle.regions.proofs.SplitLaws.{split-refuses, unbroken-allowed}
+use Rattle.region_rules.proofs.SplitLaws.{split-refuses, unbroken-allowed}
 use Rattle.operands.specs.declared.TypeRule.{TypeRule}
 use Rattle.operands.specs.Allowed.{typeAllowed}
 use Rattle.operands.specs.Variables.{inTable, variableAt}

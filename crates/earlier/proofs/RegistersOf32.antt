@@ -5,15 +5,15 @@ use mathlib.Core.Bool.{Bool, true, false, cond}
 use native.Mathlib.Omega.{arith}
 use lib.Dec.{ltb}
 use borrow.Author.Tests.{ltb-true, ltb-false}
-use Rattle.channels.specs.Exec.{execSize}
-use Rattle.field_groups.specs.declared.General.{General}
-use Rattle.tables.specs.declared.Lengths.{Lengths}
-use Rattle.tables.specs.Lengths.{registerSizeGood, chosenSize, registersGood, lengthsGood}
+use Rattle.exec_byte.specs.Exec.{execSize}
+use Rattle.operand_fields.specs.declared.General.{General}
+use Rattle.lengths.specs.declared.Lengths.{Lengths}
+use Rattle.lengths.specs.Lengths.{registerSizeGood, chosenSize, registersGood, lengthsGood}
 use Rattle.tables.specs.Variables.{lineGood}
 use Rattle.tables.specs.Tables.{tablesGood}
 use Rattle.regions.specs.Regions.{rowElements, firstElement}
 use Rattle.regions.specs.Reach.{twoRegisters}
-use Rattle.plan.specs.Needed.{channelStride, scatterNeeded, registersNeeded}
+use Rattle.payloads.specs.Needed.{channelStride, scatterNeeded, registersNeeded}
 use Rattle.step.specs.State.{Setup, State, registerBytes}
 use Rattle.run.specs.Run.{stopped, run}
 use Rattle.run.proofs.Whole.{tables-refused}

@@ -12,17 +12,17 @@ use Rattle.cells.specs.Effect.{Effect, refused, unless}
 use Rattle.reader.specs.Reply as reply
 use Rattle.reader.specs.Reply.{Reply, Read, onReply}
 use Rattle.field_groups.specs.declared.Control.{Control}
-use Rattle.field_groups.specs.declared.General.{General}
-use Rattle.field_groups.specs.declared.Operand.{Operand}
-use Rattle.field_groups.specs.declared.Operand.the-variants as operand
+use Rattle.operand_fields.specs.declared.General.{General}
+use Rattle.operand_fields.specs.declared.Operand.{Operand}
+use Rattle.operand_fields.specs.declared.Operand.the-variants as operand
 use Rattle.decoder.specs.declared.Instruction.{Instruction}
 use Rattle.decoder.specs.declared.Instruction.the-variants as instruction
 use Rattle.decoder.specs.Decoding.{instructionAt}
-use Rattle.tables.specs.declared.Lengths.{Lengths}
+use Rattle.lengths.specs.declared.Lengths.{Lengths}
 use Rattle.tables.specs.Variables.{Variables, lineGood, variableGood, variableGoodAt, variablesGood}
 use Rattle.tables.specs.Tables.{Tables, tablesGood}
-use Rattle.regions.specs.declared.Role.{Role}
-use Rattle.regions.specs.declared.Role.the-variants as role
+use Rattle.region_rules.specs.declared.Role.{Role}
+use Rattle.region_rules.specs.declared.Role.the-variants as role
 use Rattle.regions.specs.declared.Variable.{Variable}
 use Rattle.regions.specs.Regions.{rowElements, firstElement, sourceElement, elementOf}
 use Rattle.regions.specs.Reach.{twoRegisters, reachGood, elementsGood}
@@ -31,7 +31,7 @@ use Rattle.operands.specs.Operands.{generalOf, locatedGeneral, locatedVector}
 use Rattle.plan.specs.declared.Plan.{Plan}
 use Rattle.plan.specs.declared.Operation.{Operation}
 use Rattle.plan.specs.declared.Operation.the-variants as operation
-use Rattle.plan.specs.Needed.{registersNeeded}
+use Rattle.payloads.specs.Needed.{registersNeeded}
 use Rattle.plan.specs.Checked.{shlDst, shlSrc0, shlSrc1, checkedShl, gatherOffset, gatherElementOffset, gatherDst, checkedGatherOperands, checkedGather, scatterAddress, scatterElementOffset, scatterSrc, checkedScatter, sendDesc, sendSrc, sendDst, checkedSend, checkedOperands, checked}
 use Rattle.plan.proofs.InstructionLaws.{plan-keeps}
 use Rattle.scatter_effect.specs.Scatter.{Window, scatterPair, scatterEffect, sourceByte}

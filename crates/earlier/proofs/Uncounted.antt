@@ -9,12 +9,12 @@ use lib.ListN.{length, getD}
 use borrow.Author.Tests.{eq-eqb}
 use Rattle.details.specs.declared.Detail.the-variants as detail
 use Rattle.details.specs.Details.{namesOperand}
-use Rattle.channels.specs.Predicate.{hasPredicate, predicateId}
-use Rattle.tables.specs.Predicates.{Predicates, predicateAt}
+use Rattle.predicate_field.specs.Predicate.{hasPredicate, predicateId}
+use Rattle.predicate_table.specs.Predicates.{Predicates, predicateAt}
 use Rattle.tables.specs.Tables.{Tables}
 use Rattle.field_groups.specs.declared.Control.{Control}
 use Rattle.decoder.specs.declared.Instruction.{Instruction}
-use Rattle.regions.proofs.SplitLaws.{at-most}
+use Rattle.region_rules.proofs.SplitLaws.{at-most}
 use Rattle.plan.specs.declared.Plan.{Plan}
 use Rattle.controls.specs.Control.{lanesEnd, predicateFor, predicateRefusal, controlRefusal, bitsNamed}
 use Rattle.plan.specs.Control.{controlOf}

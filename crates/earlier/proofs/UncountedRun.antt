@@ -12,14 +12,14 @@ use Rattle.details.specs.declared.Detail.the-variants as detail
 use Rattle.cells.specs.Effect.{refused, unless}
 use Rattle.reader.specs.Reply as reply
 use Rattle.reader.specs.Reply.{Reply, Read, onReply}
-use Rattle.channels.specs.Below.{everyBelow}
-use Rattle.channels.specs.Predicate.{hasPredicate, predicateId}
-use Rattle.tables.specs.Lengths.{lengthsGood}
+use Rattle.bits.specs.Below.{everyBelow}
+use Rattle.predicate_field.specs.Predicate.{hasPredicate, predicateId}
+use Rattle.lengths.specs.Lengths.{lengthsGood}
 use Rattle.tables.specs.Variables.{variablesGood}
-use Rattle.tables.specs.Surfaces.{surfacesGood}
-use Rattle.tables.specs.Predicates.{Predicates, countGood, countGoodAt, predicatesGood}
+use Rattle.surface_table.specs.Surfaces.{surfacesGood}
+use Rattle.predicate_table.specs.Predicates.{Predicates, countGood, countGoodAt, predicatesGood}
 use Rattle.tables.specs.Tables.{tablesGood}
-use Rattle.channels.proofs.Every.{every-holds}
+use Rattle.bits.proofs.Every.{every-holds}
 use Rattle.field_groups.specs.declared.Control.{Control}
 use Rattle.decoder.specs.declared.Instruction.{Instruction}
 use Rattle.decoder.specs.Decoding.{instructionAt}

@@ -2,9 +2,9 @@
 -- byte none.
 use Prim.Native.Nat.{ℕ, _-_, _*_, _^_}
 use lib.Dec.{leb}
-use Rattle.channels.specs.Bits.{bitField}
-use Rattle.channels.specs.Exec.{execReserved, maskControl, maskNumber}
-use Rattle.channels.specs.declared.Exec.{Exec}
+use Rattle.bits.specs.Bits.{bitField}
+use Rattle.exec_byte.specs.Exec.{execReserved, maskControl, maskNumber}
+use Rattle.exec_byte.specs.declared.Exec.{Exec}
 
 unfoldable pub execByBits : ℕ → Exec
 execByBits exec =

@@ -8,17 +8,18 @@ use lib.Dec.{ltb}
 use lib.ListN.{length}
 use Rattle.details.specs.Details.{namesOperand}
 use Rattle.element_types.specs.Types.{sizeOf}
-use Rattle.channels.specs.Exec.{execSize}
-use Rattle.field_groups.specs.declared.General.{General}
-use Rattle.field_groups.specs.declared.Operand.{Operand}
-use Rattle.field_groups.specs.declared.Operand.the-variants as operand
+use Rattle.exec_byte.specs.Exec.{execSize}
+use Rattle.operand_fields.specs.declared.General.{General}
+use Rattle.operand_fields.specs.declared.Operand.{Operand}
+use Rattle.operand_fields.specs.declared.Operand.the-variants as operand
 use Rattle.tables.specs.Tables.{Tables}
 use Rattle.tables.specs.Variables.{Variables}
 use Rattle.decoder.specs.declared.Instruction.{Instruction}
 use Rattle.decoder.specs.declared.Instruction.the-variants as instruction
-use Rattle.regions.specs.declared.Role.{Role}
+use Rattle.region_rules.specs.declared.Role.{Role}
 use Rattle.regions.specs.declared.Variable.{Variable}
-use Rattle.regions.specs.Regions.{regionAllowed, elementOf}
+use Rattle.region_rules.specs.RegionWord.{regionAllowed}
+use Rattle.regions.specs.Regions.{elementOf}
 use Rattle.regions.specs.Reach.{elementsGood}
 use Rattle.operands.specs.declared.TypeRule.{TypeRule}
 use Rattle.operands.specs.Allowed.{typeAllowed}

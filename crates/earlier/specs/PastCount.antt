@@ -3,9 +3,9 @@ use mathlib.Core.Path.{_≡_}
 use mathlib.Core.Bool.{Bool, _&&_}
 use lib.Dec.{ltb, leb}
 use lib.ListN.{length, getD, replicate}
-use Rattle.channels.specs.Predicate.{hasPredicate, predicateId}
+use Rattle.predicate_field.specs.Predicate.{hasPredicate, predicateId}
 use Rattle.field_groups.specs.declared.Control.{Control}
-use Rattle.tables.specs.Predicates.{Predicates}
+use Rattle.predicate_table.specs.Predicates.{Predicates}
 use Rattle.controls.specs.Control.{lanesEnd}
 
 -- 8 does not stand, a predicate is named and in its table, and "offset plus ExecSize over the count"

@@ -4,12 +4,12 @@ use mathlib.Core.Bool.{Bool, cond, _&&_}
 use lib.Dec.{ltb, leb, eqb}
 use lib.ListN.{getD}
 use Rattle.element_types.specs.Types.{UD, sizeOf}
-use Rattle.channels.specs.Exec.{execSize}
-use Rattle.field_groups.specs.declared.General.{General}
-use Rattle.tables.specs.declared.Lengths.{Lengths}
-use Rattle.tables.specs.Lengths.{addressesGood, taintGood}
+use Rattle.exec_byte.specs.Exec.{execSize}
+use Rattle.operand_fields.specs.declared.General.{General}
+use Rattle.lengths.specs.declared.Lengths.{Lengths}
+use Rattle.lengths.specs.Lengths.{addressesGood, taintGood}
 use Rattle.plan.specs.declared.Plan.{Plan}
-use Rattle.plan.specs.Needed.{enabledBelow}
+use Rattle.payloads.specs.Needed.{enabledBelow}
 
 -- "Register file: multiple of 32, at most 4,096."
 unfoldable pub registersGood32 : ℕ → Bool

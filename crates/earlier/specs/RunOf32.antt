@@ -5,17 +5,17 @@ use mathlib.Core.List.{List, [], _∷_}
 use lib.Dec.{ltb, leb, eqb}
 use lib.ListN.{length, getD}
 use Rattle.element_types.specs.Types.{UD, UQ, sizeOf, isListed}
-use Rattle.channels.specs.Below.{everyBelow}
-use Rattle.channels.specs.Exec.{execSize}
+use Rattle.bits.specs.Below.{everyBelow}
+use Rattle.exec_byte.specs.Exec.{execSize}
 use Rattle.details.specs.declared.Detail.the-variants as detail
 use Rattle.cells.specs.Buffer.{Buffer}
 use Rattle.cells.specs.Writes.{copyWrites}
 use Rattle.cells.specs.Over.{each, some}
 use Rattle.cells.specs.Effect.{Effect, refused, unless, unlessFound, writing}
 use Rattle.reader.specs.Reply.{onReply}
-use Rattle.field_groups.specs.declared.General.{General}
-use Rattle.field_groups.specs.declared.Operand.{Operand}
-use Rattle.field_groups.specs.declared.Operand.the-variants as operand
+use Rattle.operand_fields.specs.declared.General.{General}
+use Rattle.operand_fields.specs.declared.Operand.{Operand}
+use Rattle.operand_fields.specs.declared.Operand.the-variants as operand
 use Rattle.decoder.specs.declared.Shl.{Shl}
 use Rattle.decoder.specs.declared.Gather.{Gather}
 use Rattle.decoder.specs.declared.Scatter.{Scatter}
@@ -23,18 +23,18 @@ use Rattle.decoder.specs.declared.RawSend.{RawSend}
 use Rattle.decoder.specs.declared.Instruction.{Instruction}
 use Rattle.decoder.specs.declared.Instruction.the-variants as instruction
 use Rattle.decoder.specs.Decoding.{instructionAt}
-use Rattle.tables.specs.declared.Lengths.{Lengths}
+use Rattle.lengths.specs.declared.Lengths.{Lengths}
 use Rattle.tables.specs.Variables.{Variables}
-use Rattle.tables.specs.Predicates.{predicatesGood}
-use Rattle.tables.specs.Surfaces.{Surfaces, surfacesGood}
+use Rattle.predicate_table.specs.Predicates.{predicatesGood}
+use Rattle.surface_table.specs.Surfaces.{Surfaces, surfacesGood}
 use Rattle.tables.specs.Tables.{Tables}
-use Rattle.regions.specs.declared.Role.{Role}
-use Rattle.regions.specs.declared.Role.the-variants as role
+use Rattle.region_rules.specs.declared.Role.{Role}
+use Rattle.region_rules.specs.declared.Role.the-variants as role
 use Rattle.regions.specs.declared.Variable.{Variable}
 use Rattle.regions.specs.Positions.{elementByte}
 use Rattle.regions.specs.Reach.{lowest, highest, insideVariable}
-use Rattle.regions.specs.RegionRules.{regionRefusal}
-use Rattle.regions.specs.Regions.{verticalCode, widthCode, horizontalCode, strideOf}
+use Rattle.region_rules.specs.RegionRules.{regionRefusal}
+use Rattle.region_rules.specs.RegionWord.{verticalCode, widthCode, horizontalCode, strideOf}
 use Rattle.operands.specs.declared.TypeRule.{TypeRule}
 use Rattle.operands.specs.declared.TypeRule.the-variants as rule
 use Rattle.operands.specs.declared.Located.{Located}
@@ -48,7 +48,7 @@ use Rattle.plan.specs.declared.Operation.{Operation}
 use Rattle.plan.specs.declared.Operation.the-variants as operation
 use Rattle.plan.specs.Checked.{surfacePart}
 use Rattle.plan.specs.Control.{controlOf}
-use Rattle.plan.specs.Needed.{elementsNeeded, blockBytes}
+use Rattle.payloads.specs.Needed.{elementsNeeded, blockBytes}
 use Rattle.plan.specs.Plans.{refusedPlan, tested, testedFrom, shlPlan, gatherPlan, scatterPlan}
 use Rattle.staging.specs.Lanes.{lanesOn}
 use Rattle.staging.specs.Sources.{eitherTainted}

@@ -8,14 +8,14 @@ use lib.ListN.{length, getD}
 use Rattle.details.specs.declared.Detail.the-variants as detail
 use Rattle.cells.specs.Effect.{refused}
 use Rattle.reader.specs.Reply.{onReply}
-use Rattle.channels.specs.Predicate.{hasPredicate, predicateId}
+use Rattle.predicate_field.specs.Predicate.{hasPredicate, predicateId}
 use Rattle.field_groups.specs.declared.Control.{Control}
 use Rattle.decoder.specs.declared.Instruction.{Instruction}
 use Rattle.decoder.specs.Decoding.{instructionAt}
-use Rattle.tables.specs.declared.Lengths.{Lengths}
-use Rattle.tables.specs.Lengths.{lengthsGood}
+use Rattle.lengths.specs.declared.Lengths.{Lengths}
+use Rattle.lengths.specs.Lengths.{lengthsGood}
 use Rattle.tables.specs.Variables.{variablesGood}
-use Rattle.tables.specs.Surfaces.{surfacesGood}
+use Rattle.surface_table.specs.Surfaces.{surfacesGood}
 use Rattle.tables.specs.Tables.{Tables}
 use Rattle.plan.specs.declared.Plan.{Plan}
 use Rattle.controls.specs.Control.{lanesEnd}

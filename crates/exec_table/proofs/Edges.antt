@@ -5,8 +5,8 @@ use Rattle.hex.specs.Digits.{characterOf}
 use Rattle.hex.specs.Bytes.{hexOf}
 use Rattle.formats.specs.Text.{text}
 use Rattle.formats.specs.Numerals.{digits}
-use Rattle.channels.specs.Bits.{bit, bitField}
-use Rattle.channels.specs.Exec.{execReserved, execSize, maskControl, maskNumber, execOffset, noMask}
+use Rattle.bits.specs.Bits.{bit, bitField}
+use Rattle.exec_byte.specs.Exec.{execReserved, execSize, maskControl, maskNumber, execOffset, noMask}
 use Rattle.exec_table.specs.ExecLines.{meaningText, entryLine}
 
 lines-at-edges :

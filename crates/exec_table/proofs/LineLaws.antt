@@ -13,13 +13,13 @@ use Rattle.hex.specs.Bytes.{hexOf}
 use Rattle.formats.specs.Text.{text}
 use Rattle.formats.specs.Words.{words, wordAt}
 use Rattle.formats.specs.Numerals.{digits, digitsOf}
-use Rattle.formats.specs.Writing.{wrote, written}
-use Rattle.formats.proofs.WritingLaws.{wrote-then, wrote-none, wrote-text}
-use Rattle.channels.specs.declared.Exec.{Exec}
-use Rattle.channels.specs.Bits.{bit, bitField}
-use Rattle.channels.specs.Below.{everyBelow}
-use Rattle.channels.specs.Exec.{execReserved, execSize, maskControl, maskNumber, execOffset, noMask, execOf}
-use Rattle.channels.proofs.Every.{every-each}
+use Rattle.format_writers.specs.Writing.{wrote, written}
+use Rattle.format_writers.proofs.WritingLaws.{wrote-then, wrote-none, wrote-text}
+use Rattle.exec_byte.specs.declared.Exec.{Exec}
+use Rattle.bits.specs.Bits.{bit, bitField}
+use Rattle.bits.specs.Below.{everyBelow}
+use Rattle.exec_byte.specs.Exec.{execReserved, execSize, maskControl, maskNumber, execOffset, noMask, execOf}
+use Rattle.bits.proofs.Every.{every-each}
 use Rattle.exec_table.specs.ExecLines.{meaningText, entryLine, linesBelow, execLines}
 
 -- ---- written

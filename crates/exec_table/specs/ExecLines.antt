@@ -6,8 +6,8 @@ use mathlib.Core.Bool.{cond}
 use Rattle.hex.specs.Bytes.{hexOf}
 use Rattle.formats.specs.Text.{text}
 use Rattle.formats.specs.Numerals.{digitsOf}
-use Rattle.channels.specs.declared.Exec.{Exec}
-use Rattle.channels.specs.Exec.{execOf}
+use Rattle.exec_byte.specs.declared.Exec.{Exec}
+use Rattle.exec_byte.specs.Exec.{execOf}
 
 -- `reserved`, or `SIZE OFFSET` and ` NM` if so, and the line's end
 unfoldable pub meaningText : Exec → List ℕ

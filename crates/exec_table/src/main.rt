@@ -1,10 +1,10 @@
 // The table of exec bytes, a line for each of the 256, to standard output.
-use channels::Exec;
+use exec_byte::Exec;
 use formats::Base;
 ghost use mathlib.Core.Path.{_≡_};
 ghost use Prim.Native.Nat.{_≤_};
 ghost use lib.ListN.{length};
-ghost use Rattle.formats.specs.Writing.{wrote, written};
+ghost use Rattle.format_writers.specs.Writing.{wrote, written};
 ghost use Rattle.exec_table.specs.ExecLines.{meaningText, entryLine, execLines};
 
 // The rest of a byte's line.
@@ -12,24 +12,24 @@ fn put_meaning(out: &mut [u8], at: usize, exec: Exec) -> usize
     ensures { λ r. ⌜ wrote r (now (out .exit)) ≡ written (now (out .entry)) at (meaningText exec) ⌝ }
 {
     if exec.reserved {
-        return formats::put_word(out, at, b"reserved\n|", 0);
+        return format_writers::put_word(out, at, b"reserved\n|", 0);
     }
-    let a = formats::put_number(out, at, Base::Decimal, exec.size as u64);
-    let b = formats::put_word(out, a, b" |", 0);
-    let c = formats::put_number(out, b, Base::Decimal, exec.offset as u64);
+    let a = format_writers::put_number(out, at, Base::Decimal, exec.size as u64);
+    let b = format_writers::put_word(out, a, b" |", 0);
+    let c = format_writers::put_number(out, b, Base::Decimal, exec.offset as u64);
     if exec.unmasked {
-        formats::put_word(out, c, b" NM\n|", 0)
+        format_writers::put_word(out, c, b" NM\n|", 0)
     } else {
-        formats::put_word(out, c, b"\n|", 0)
+        format_writers::put_word(out, c, b"\n|", 0)
     }
 }
 
 fn put_entry(out: &mut [u8], at: usize, byte: u8) -> usize
     ensures { λ r. ⌜ wrote r (now (out .exit)) ≡ written (now (out .entry)) at (entryLine byte) ⌝ }
 {
-    let a = formats::put_byte(out, at, byte);
-    let b = formats::put_word(out, a, b" |", 0);
-    put_meaning(out, b, channels::split(byte))
+    let a = format_writers::put_byte(out, at, byte);
+    let b = format_writers::put_word(out, a, b" |", 0);
+    put_meaning(out, b, exec_byte::split(byte))
 }
 
 fn put_table(out: &mut [u8]) -> usize

@@ -7,12 +7,12 @@ use Rattle.little_endian.specs.LittleEndian.{numberAt}
 use Rattle.hex.specs.Digits.{isDecimal, isLetter, isDigit, digitOf, allDigits}
 use Rattle.hex.specs.Bytes.{isHex, hexBytes}
 use Rattle.hex.specs.Storing.{placed, fits, stored}
-use Rattle.frames.specs.mirror.Reading.{Reading, reading, contents, tables}
-use Rattle.frames.specs.mirror.Lines.{nothing, next, badLine, longLine, goodLine, metOf, lengthOf, counted, sized, based, masked, registersSized}
-use Rattle.frames.specs.mirror.Repeated.{variableRead, predicateSized, predicateCount, predicateRead, surfaceRead}
-use Rattle.frames.specs.mirror.Once.{contentRead, memoryRead, maskRead, registerSizeRead, onceRead}
+use Rattle.tally.specs.mirror.Reading.{Reading, reading, contents, tables}
+use Rattle.tally.specs.mirror.Lines.{nothing, next, badLine, longLine, goodLine, metOf, lengthOf, counted, sized, based, masked, registersSized}
+use Rattle.table_frames.specs.mirror.Repeated.{variableRead, predicateSized, predicateCount, predicateRead, surfaceRead}
+use Rattle.once_frames.specs.mirror.Once.{contentRead, memoryRead, maskRead, registerSizeRead, onceRead}
 use Rattle.frames.specs.mirror.Frames.{frameRead, lineRead}
-use Rattle.frames.specs.mirror.Verdicts.{verdict, verdictOf, taintLength}
+use Rattle.tally.specs.mirror.Verdicts.{verdict, verdictOf, taintLength}
 use Rattle.line_blocks.specs.LinesOf.{linesFrom, linesOf}
 use Rattle.feeding.specs.mirror.Text.{anyLineRead, linesRead, textRead}
 

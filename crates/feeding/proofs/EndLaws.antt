@@ -4,8 +4,8 @@ use mathlib.Core.Bool.{Bool, true, false, true≢false, cond, not}
 use mathlib.Core.List.{List, []}
 use Prim.Native.Nat.{ℕ}
 use lib.ListN.{take}
-use Rattle.frames.specs.mirror.Reading.{Reading, only}
-use Rattle.frames.specs.mirror.Lines.{longLine}
+use Rattle.tally.specs.mirror.Reading.{Reading, only}
+use Rattle.tally.specs.mirror.Lines.{longLine}
 use Rattle.frames.specs.mirror.Frames.{lineRead}
 use Rattle.frames.proofs.FrameLaws.{empty-is-long}
 use Rattle.line_blocks.specs.mirror.Rows.{row, isBegun}

@@ -11,7 +11,7 @@ use lib.Seq.{drop-cons, drop-drop}
 use mir.Val.{Fits}
 use mir.Syntax.{w64}
 use borrow.Author.Tests.{eq-eqb}
-use Rattle.frames.specs.mirror.Reading.{Reading}
+use Rattle.tally.specs.mirror.Reading.{Reading}
 use Rattle.frames.specs.mirror.Frames.{lineRead}
 use Rattle.line_blocks.specs.mirror.Rows.{Row, allPushed, lineLength}
 use Rattle.line_blocks.proofs.PartLaws.{part-inside}

@@ -1,8 +1,8 @@
 -- Buffers that keep their lengths.
 use mathlib.Core.Path.{_≡_, refl, _∙_}
 use lib.ListN.{length}
-use Rattle.frames.specs.declared.Case.{Case}
-use Rattle.frames.specs.mirror.Reading.{Reading, only}
+use Rattle.tally.specs.declared.Case.{Case}
+use Rattle.tally.specs.mirror.Reading.{Reading, only}
 
 pub record Kept (r s : Reading) : Type 0 where
   pub registers : length (s .contents .registers) ≡ length (r .contents .registers)

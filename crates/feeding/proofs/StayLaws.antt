@@ -5,9 +5,9 @@ use Prim.Native.Nat.{ℕ, _<_}
 use lib.Dec.{leb}
 use lib.ListN.{length, take}
 use Rattle.hex.proofs.DigitLaws.{cond-both}
-use Rattle.frames.specs.declared.Case.{Case}
-use Rattle.frames.specs.mirror.Reading.{Reading, only}
-use Rattle.frames.specs.mirror.Lines.{longLine}
+use Rattle.tally.specs.declared.Case.{Case}
+use Rattle.tally.specs.mirror.Reading.{Reading, only}
+use Rattle.tally.specs.mirror.Lines.{longLine}
 use Rattle.frames.proofs.Stays.{line-stays, long-stays}
 use Rattle.line_blocks.specs.mirror.Rows.{isBegun}
 use Rattle.feeding.specs.mirror.Feeding.{Machine, ended, finished}

@@ -8,8 +8,8 @@ use native.Mathlib.Omega.{arith}
 use lib.ListN.{length}
 use lib.Dec.{eqb, ltb, eqb·suc-zero}
 use borrow.Author.Tests.{lt-ltb, le-leb, lt-leb, ltb-true}
-use Rattle.frames.specs.mirror.Reading.{Contents, Tables, Reading, reading}
-use Rattle.frames.specs.mirror.Lines.{nothing}
+use Rattle.tally.specs.mirror.Reading.{Contents, Tables, Reading, reading}
+use Rattle.tally.specs.mirror.Lines.{nothing}
 use Rattle.line_blocks.specs.LinesOf.{linesFrom, linesOf}
 use Rattle.line_blocks.specs.mirror.Rows.{isBegun, pushed}
 use Rattle.line_blocks.proofs.RowLaws.{Begun, begun-none, begun-more}

@@ -1,10 +1,10 @@
 // A case file, fed in blocks of bytes: the line begun stands in a buffer of the caller's until it is whole.
-use frames::Case;
+use tally::Case;
 ghost use mathlib.Core.Path.{_≡_};
 ghost use mathlib.Core.Bool.{cond};
 ghost use mathlib.Core.List.{[]};
 ghost use lib.ListN.{take};
-ghost use Rattle.frames.specs.mirror.Lent.{lentContents, lentTables};
+ghost use Rattle.tally.specs.mirror.Lent.{lentContents, lentTables};
 ghost use Rattle.line_blocks.specs.mirror.Rows.{isBegun};
 ghost use Rattle.feeding.specs.mirror.Feeding.{machine, fresh, readOn, fed, finished};
 
@@ -21,7 +21,7 @@ pub fn start() -> State
     State {
         used: 0,
         long: false,
-        case: frames::start(),
+        case: tally::start(),
     }
 }
 

@@ -6,8 +6,8 @@ use Prim.Native.Nat.{ℕ}
 use native.Mathlib.Omega.{arith}
 use lib.Dec.{eqb}
 use borrow.Author.Tests.{eqb-true, not-true}
-use Rattle.channels.specs.Exec.{execReserved, execSize}
-use Rattle.channels.proofs.All.{left, right}
+use Rattle.exec_byte.specs.Exec.{execReserved, execSize}
+use Rattle.bits.proofs.All.{left, right}
 use Rattle.fields.specs.declared.ByteRule.the-variants as byte
 use Rattle.fields.specs.Rules.{judged, execGood, scatterExecGood, byteRefusal}
 

@@ -4,8 +4,8 @@ use Prim.Native.Nat.{ℕ, _/_, _%_}
 use mathlib.Core.Bool.{Bool, cond, not, _&&_, _||_}
 use lib.Dec.{ltb, leb, eqb}
 use Rattle.element_types.specs.Types.{isListed}
-use Rattle.channels.specs.Exec.{execReserved, execSize}
-use Rattle.channels.specs.Predicate.{predicateReserved}
+use Rattle.exec_byte.specs.Exec.{execReserved, execSize}
+use Rattle.predicate_field.specs.Predicate.{predicateReserved}
 use Rattle.fields.specs.declared.TagRule.{TagRule}
 use Rattle.fields.specs.declared.TagRule.the-variants as tag
 use Rattle.fields.specs.declared.ByteRule.{ByteRule}

@@ -76,14 +76,14 @@ pub fn judge(good: bool, number: u8) -> u8
 fn exec_good(v: u8) -> bool
     ensures { λ r. ⌜ r ≡ execGood v ⌝ }
 {
-    let exec = channels::split(v);
+    let exec = exec_byte::split(v);
     !exec.reserved
 }
 
 fn scatter_exec_good(v: u8) -> bool
     ensures { λ r. ⌜ r ≡ scatterExecGood v ⌝ }
 {
-    let exec = channels::split(v);
+    let exec = exec_byte::split(v);
     if exec.reserved {
         return false;
     }
@@ -149,7 +149,7 @@ fn tag_refusal(rule: TagRule, v: u8) -> u8
 fn predicate_good(v: u16) -> bool
     ensures { λ r. ⌜ r ≡ predicateGood v ⌝ }
 {
-    !channels::predicate_reserved(v)
+    !predicate_field::predicate_reserved(v)
 }
 
 fn region_good(v: u16) -> bool

@@ -10,7 +10,7 @@ use Rattle.gather.specs.Results.{LanesHold, laneAddress, laneByte, laneD
 use Rattle.cells.specs.Buffer.{Buffer}
 use Rattle.cells.specs.Writes.{Write, writtenAll}
 use Rattle.cells.proofs.RowLaws.{row, row-none, row-next}
-use Rattle.channels.specs.Exec.{execSize}
+use Rattle.exec_byte.specs.Exec.{execSize}
 use Rattle.plan.specs.declared.Plan.{Plan}
 use Rattle.plan.proofs.PlanLaws.{GatherSound}
 use Rattle.staging.specs.Lanes.{lanesOn}

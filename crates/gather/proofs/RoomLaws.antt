@@ -8,8 +8,8 @@ use lib.ListN.{getD}
 use Rattle.little_endian.specs.LittleEndian.{Bytes}
 use Rattle.cells.specs.Buffer.{Buffer}
 use Rattle.cells.specs.Writes.{writtenAll}
-use Rattle.channels.specs.Exec.{execSize, execOf}
-use Rattle.channels.specs.declared.Exec.{Exec}
+use Rattle.exec_byte.specs.Exec.{execSize, execOf}
+use Rattle.exec_byte.specs.declared.Exec.{Exec}
 use Rattle.plan.specs.declared.Plan.{Plan}
 use Rattle.staging.specs.declared.Layout.{Layout}
 use Rattle.staging.specs.Sources.{elementValue, eitherTainted}

@@ -3,7 +3,7 @@ use Prim.Native.Nat.{_≤_}
 use mathlib.Core.Path.{_≡_}
 use mathlib.Core.Bool.{true}
 use native.Mathlib.Omega.{arith}
-use Rattle.channels.specs.Exec.{execSize}
+use Rattle.exec_byte.specs.Exec.{execSize}
 use Rattle.field_groups.specs.declared.Control.{Control}
 use Rattle.operands.specs.declared.TypeRule.the-variants as rule
 use Rattle.plan.specs.declared.Plan.{Plan}

@@ -18,7 +18,7 @@ ghost use Rattle.gather.specs.mirror.Guarded.{gatherFits, gatherGuarded}
 fn fits(plan: Plan) -> bool
     ensures { λ r. ⌜ r ≡ gatherFits plan ⌝ }
 {
-    let lanes = channels::split(plan.control.exec).size;
+    let lanes = exec_byte::split(plan.control.exec).size;
     let left = plan.left;
     let right = plan.right;
     staging::elements_fit(4, left, lanes) & staging::elements_fit(4, right, lanes)
@@ -38,7 +38,7 @@ fn shape_of(plan: Plan) -> Shape
 {
     let left = plan.left;
     let right = plan.right;
-    let lanes = channels::split(plan.control.exec).size;
+    let lanes = exec_byte::split(plan.control.exec).size;
     Shape {
         layout: staging::layout_of(left, right, lanes),
         start: plan.start,

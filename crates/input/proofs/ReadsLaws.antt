@@ -12,7 +12,7 @@ use mir.Val.{hbits, toZ, ofZ}
 use mir.Facts.{toZ-ofZ}
 use borrow.Author.Needs.{sfits-of}
 use Rattle.libc.specs.Io.{Moved}
-use Rattle.frames.specs.mirror.Reading.{Contents, Tables, reading}
+use Rattle.tally.specs.mirror.Reading.{Contents, Tables, reading}
 use Rattle.feeding.specs.declared.State.{State}
 use Rattle.feeding.specs.mirror.Feeding.{Machine, machine, fresh, fed}
 use Rattle.feeding.proofs.FeedingLaws.{fed-none, fed-append}

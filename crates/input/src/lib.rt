@@ -3,7 +3,7 @@ use feeding::State;
 ghost use mathlib.Core.Path.{_≡_};
 ghost use lib.ListN.{length};
 ghost use Rattle.libc.specs.Io.{Moved};
-ghost use Rattle.frames.specs.mirror.Lent.{lentContents, lentTables};
+ghost use Rattle.tally.specs.mirror.Lent.{lentContents, lentTables};
 ghost use Rattle.feeding.specs.mirror.Feeding.{machine, fresh};
 ghost use Rattle.input.specs.Answers.{answerOf, metEnd};
 ghost use Rattle.input.specs.Calls.{call, bytesOf};

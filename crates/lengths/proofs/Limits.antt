@@ -7,7 +7,7 @@ use lib.Dec.{leb, eqb}
 use borrow.Author.Tests.{leb-true, eqb-true}
 use Rattle.lengths.specs.declared.Lengths.{Lengths}
 use Rattle.lengths.specs.Lengths.{registerSizeGood, chosenSize, registersGood, addressesGood, taintGood, lengthsGood}
-use Rattle.channels.proofs.All.{left, right, all3, all4}
+use Rattle.bits.proofs.All.{left, right, all3, all4}
 
 either-size : (P : ℕ → Type 0) (b : Bool) {x y : ℕ} → P x → P y → P (cond b x y)
 either-size P true p q = p

@@ -12,20 +12,20 @@ use Rattle.formats.specs.Words.{words, wordAt, oneOf, table, before, after}
 use Rattle.formats.specs.Numerals.{digitsOf}
 use Rattle.formats.specs.Numbers.{number}
 use Rattle.formats.proofs.Tests.{both-left, both-right}
-use Rattle.field_groups.specs.declared.General.{General}
-use Rattle.field_groups.specs.declared.Immediate.{Immediate}
+use Rattle.operand_fields.specs.declared.General.{General}
+use Rattle.operand_fields.specs.declared.Immediate.{Immediate}
 use Rattle.field_groups.specs.declared.Message.{Message}
-use Rattle.field_groups.specs.declared.Raw.{Raw}
-use Rattle.field_groups.specs.declared.Operand.{Operand}
-use Rattle.field_groups.specs.declared.Operand.the-variants as operand
+use Rattle.operand_fields.specs.declared.Raw.{Raw}
+use Rattle.operand_fields.specs.declared.Operand.{Operand}
+use Rattle.operand_fields.specs.declared.Operand.the-variants as operand
 use Rattle.decoder.specs.declared.Shl.{Shl}
 use Rattle.decoder.specs.declared.Gather.{Gather}
 use Rattle.decoder.specs.declared.Scatter.{Scatter}
 use Rattle.decoder.specs.declared.RawSend.{RawSend}
 use Rattle.decoder.specs.declared.Instruction.{Instruction}
 use Rattle.decoder.specs.declared.Instruction.the-variants as instruction
-use Rattle.text_parts.specs.mirror.Predicate.{zeros, predicate}
-use Rattle.text_parts.specs.mirror.Exec.{exec, scatterExec}
+use Rattle.control_texts.specs.mirror.Predicate.{zeros, predicate}
+use Rattle.control_texts.specs.mirror.Exec.{exec, scatterExec}
 use Rattle.text_parts.specs.mirror.Fields.{decimal, hexadecimal}
 use Rattle.text_parts.specs.mirror.Raw.{raw}
 use Rattle.text_parts.specs.mirror.Immediate.{immediate}

@@ -4,16 +4,16 @@ use decoder::Instruction;
 use decoder::RawSend;
 use decoder::Scatter;
 use decoder::Shl;
-use field_groups::General;
 use field_groups::Message;
-use field_groups::Operand;
-use field_groups::Raw;
+use operand_fields::General;
+use operand_fields::Operand;
+use operand_fields::Raw;
 ghost use mathlib.Core.Path.{_≡_};
 ghost use mathlib.Core.List.{_++_};
 ghost use Rattle.decoder.specs.declared.Instruction.the-variants as instruction;
 ghost use Rattle.formats.specs.Words.{words, wordAt, after};
-ghost use Rattle.formats.specs.Writing.{wrote, written};
-ghost use Rattle.text_parts.specs.mirror.Predicate.{zeros, predicate};
+ghost use Rattle.format_writers.specs.Writing.{wrote, written};
+ghost use Rattle.control_texts.specs.mirror.Predicate.{zeros, predicate};
 ghost use Rattle.operand_texts.specs.mirror.Region.{sourceRegion, destinationRegionFrom, destinationRegion};
 ghost use Rattle.operand_texts.specs.mirror.Operand.{asGeneral, source, destination};
 ghost use Rattle.operand_texts.specs.Texts.{generalText};
@@ -25,9 +25,9 @@ fn put_source_region(out: &mut [u8], at: usize, region: u16) -> usize
     ensures { λ r. ⌜ wrote r (now (out .exit)) ≡ written (now (out .entry)) at (sourceRegion .print region) ⌝ }
 {
     let word = region as u64;
-    let a = formats::put_word(out, at, b"<n;|<0;|<1;|<2;|<4;|<8;|<16;|<32;|", word % 16);
-    let b = formats::put_word(out, a, b"n,|0,|1,|2,|4,|8,|16,|32,|", word / 16 % 16);
-    formats::put_word(out, b, b"n>|0>|1>|2>|4>|8>|16>|32>|", word / 256 % 16)
+    let a = format_writers::put_word(out, at, b"<n;|<0;|<1;|<2;|<4;|<8;|<16;|<32;|", word % 16);
+    let b = format_writers::put_word(out, a, b"n,|0,|1,|2,|4,|8,|16,|32,|", word / 16 % 16);
+    format_writers::put_word(out, b, b"n>|0>|1>|2>|4>|8>|16>|32>|", word / 256 % 16)
 }
 
 // How a destination's region begins, by its number in the table: V, or H alone where V and W are Null and H is not.
@@ -50,15 +50,15 @@ fn put_destination_region(out: &mut [u8], at: usize, region: u16) -> usize
 {
     let word = region as u64;
     let first = region_opening(word);
-    let a = formats::put_word(
+    let a = format_writers::put_word(
         out,
         at,
         b"<n;|<0;|<1;|<2;|<4;|<8;|<16;|<32;|<0>|<1>|<2>|<4>|<8>|<16>|<32>|",
         first,
     );
     if first < 8 {
-        let b = formats::put_word(out, a, b"n,|0,|1,|2,|4,|8,|16,|32,|", word / 16 % 16);
-        formats::put_word(out, b, b"n>|0>|1>|2>|4>|8>|16>|32>|", word / 256 % 16)
+        let b = format_writers::put_word(out, a, b"n,|0,|1,|2,|4,|8,|16,|32,|", word / 16 % 16);
+        format_writers::put_word(out, b, b"n>|0>|1>|2>|4>|8>|16>|32>|", word / 256 % 16)
     } else {
         a
     }
@@ -71,7 +71,7 @@ fn put_general(out: &mut [u8], at: usize, g: General) -> usize
     let index = g.index as u64;
     let row = g.row as u64;
     let column = g.column as u64;
-    let a = formats::put_word(out, at, b"v|", 0);
+    let a = format_writers::put_word(out, at, b"v|", 0);
     let b = part_writers::put_decimal(out, a, b"(|", index);
     let d = part_writers::put_decimal(out, b, b",|", row);
     part_writers::put_decimal(out, d, b")|", column)
@@ -86,7 +86,7 @@ fn put_source(out: &mut [u8], at: usize, o: Operand) -> usize
             put_source_region(out, a, g.region)
         }
         Operand::Immediate(i) => {
-            let a = formats::put_word(out, at, b"v|0x|", 1);
+            let a = format_writers::put_word(out, at, b"v|0x|", 1);
             part_writers::put_immediate(out, a, i)
         }
     }
@@ -119,7 +119,7 @@ fn put_spaced_source(out: &mut [u8], at: usize, o: Operand) -> usize
     ensures { λ r. ⌜ wrote r (now (out .exit)) ≡ written (now (out .entry)) at (after source space .print o) ⌝ }
 {
     let a = put_source(out, at, o);
-    formats::put_word(out, a, b" |", 0)
+    format_writers::put_word(out, a, b" |", 0)
 }
 
 fn put_scalar_and_raws(out: &mut [u8], at: usize, scalar: Operand, first: Raw, second: Raw) -> usize
@@ -127,7 +127,7 @@ fn put_scalar_and_raws(out: &mut [u8], at: usize, scalar: Operand, first: Raw, s
 {
     let a = put_spaced_source(out, at, scalar);
     let b = part_writers::put_raw(out, a, first);
-    let d = formats::put_word(out, b, b" |", 0);
+    let d = format_writers::put_word(out, b, b" |", 0);
     part_writers::put_raw(out, d, second)
 }
 
@@ -144,9 +144,9 @@ fn put_gather_braces(out: &mut [u8], at: usize, size: u8, scale: u16) -> usize
     let first = size as u64;
     let second = scale as u64;
     if carries_nothing(first, second) {
-        return formats::put_word(out, at, b"| {|", 0);
+        return format_writers::put_word(out, at, b"| {|", 0);
     }
-    let a = formats::put_word(out, at, b"| {|", 1);
+    let a = format_writers::put_word(out, at, b"| {|", 1);
     let b = part_writers::put_decimal(out, a, b",|", first);
     part_writers::put_decimal(out, b, b"}|", second)
 }
@@ -156,9 +156,9 @@ fn put_scatter_braces(out: &mut [u8], at: usize, scale: u16) -> usize
     ensures { λ r. ⌜ wrote r (now (out .exit)) ≡ written (now (out .entry)) at (scatterBraces .print scale) ⌝ }
 {
     if scale == 0 {
-        return formats::put_word(out, at, b"| {|", 0);
+        return format_writers::put_word(out, at, b"| {|", 0);
     }
-    let a = formats::put_word(out, at, b"| {|", 1);
+    let a = format_writers::put_word(out, at, b"| {|", 1);
     part_writers::put_decimal(out, a, b"}|", scale as u64)
 }
 
@@ -168,9 +168,9 @@ fn put_shl(out: &mut [u8], at: usize, x: Shl) -> usize
     let to = x.destination;
     let from = x.source;
     let count = x.count;
-    let a = part_writers::put_exec(out, at, x.control.exec);
+    let a = control_writers::put_exec(out, at, x.control.exec);
     let b = put_destination(out, a, to);
-    let d = formats::put_word(out, b, b" |", 0);
+    let d = format_writers::put_word(out, b, b" |", 0);
     let e = put_spaced_source(out, d, from);
     put_source(out, e, count)
 }
@@ -178,7 +178,7 @@ fn put_shl(out: &mut [u8], at: usize, x: Shl) -> usize
 fn put_surface(out: &mut [u8], at: usize, number: u8) -> usize
     ensures { λ r. ⌜ wrote r (now (out .exit)) ≡ written (now (out .entry)) at (surface .print number) ⌝ }
 {
-    let a = formats::put_word(out, at, b"T|", 0);
+    let a = format_writers::put_word(out, at, b"T|", 0);
     part_writers::put_decimal(out, a, b" |", number as u64)
 }
 
@@ -186,8 +186,8 @@ fn put_gather(out: &mut [u8], at: usize, x: Gather) -> usize
     ensures { λ r. ⌜ wrote r (now (out .exit)) ≡ written (now (out .entry)) at (gather (x .control .pred) .print (instruction.Gather x)) ⌝ }
 {
     let offset = x.offset;
-    let a = formats::put_word(out, at, b"1 |2 |4 |", x.access.num_blocks as u64);
-    let b = part_writers::put_exec(out, a, x.control.exec);
+    let a = format_writers::put_word(out, at, b"1 |2 |4 |", x.access.num_blocks as u64);
+    let b = control_writers::put_exec(out, a, x.control.exec);
     let d = put_surface(out, b, x.access.surface);
     let e = put_scalar_and_raws(out, d, offset, x.element_offset, x.destination);
     put_gather_braces(out, e, x.access.block_size, x.access.scale)
@@ -199,13 +199,13 @@ fn put_scatter(out: &mut [u8], at: usize, x: Scatter) -> usize
 {
     let address = x.address;
     let letters = part_writers::above(x.channels as u64, 1);
-    let a = formats::put_word(
+    let a = format_writers::put_word(
         out,
         at,
         b"R |G |RG |B |RB |GB |RGB |A |RA |GA |RGA |BA |RBA |GBA |RGBA |",
         letters,
     );
-    let b = part_writers::put_scatter_exec(out, a, x.control.exec);
+    let b = control_writers::put_scatter_exec(out, a, x.control.exec);
     let d = put_scalar_and_raws(out, b, address, x.element_offset, x.source);
     put_scatter_braces(out, d, x.scale)
 }
@@ -224,8 +224,8 @@ fn put_raw_send(out: &mut [u8], at: usize, x: RawSend) -> usize
     ensures { λ r. ⌜ wrote r (now (out .exit)) ≡ written (now (out .entry)) at (rawSend (x .control .pred) .print (instruction.RawSend x)) ⌝ }
 {
     let descriptor = x.descriptor;
-    let a = formats::put_word(out, at, b" |c |", x.modifiers as u64);
-    let b = part_writers::put_exec(out, a, x.control.exec);
+    let a = format_writers::put_word(out, at, b" |c |", x.modifiers as u64);
+    let b = control_writers::put_exec(out, a, x.control.exec);
     let d = put_message(out, b, x.message);
     put_scalar_and_raws(out, d, descriptor, x.source, x.destination)
 }
@@ -234,8 +234,8 @@ fn put_raw_send(out: &mut [u8], at: usize, x: RawSend) -> usize
 fn put_opening(out: &mut [u8], at: usize, pred: u16, name: u64) -> usize
     ensures { λ r. ⌜ wrote r (now (out .exit)) ≡ written (now (out .entry)) at (predicate .print pred ++ wordAt (words names) name) ⌝ }
 {
-    let a = part_writers::put_predicate(out, at, pred);
-    formats::put_word(
+    let a = control_writers::put_predicate(out, at, pred);
+    format_writers::put_word(
         out,
         a,
         b"SHL |GATHER_SCALED.|SVM_SCATTER4_SCALED.|raw_send|",

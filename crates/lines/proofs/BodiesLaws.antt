@@ -19,14 +19,14 @@ use Rattle.formats.proofs.TableTests.{sound, opens, single, size, table-good}
 use Rattle.formats.proofs.WordLaws.{table-lawful}
 use Rattle.formats.proofs.AroundLaws.{before-lawful, after-lawful}
 use Rattle.fields.specs.Rules.{channelsGood, sourceCountGood}
-use Rattle.field_groups.specs.declared.Raw.{Raw}
-use Rattle.field_groups.specs.declared.Operand.{Operand}
+use Rattle.operand_fields.specs.declared.Raw.{Raw}
+use Rattle.operand_fields.specs.declared.Operand.{Operand}
 use Rattle.decoder.specs.declared.Instruction.{Instruction}
 use Rattle.decoder.specs.declared.Instruction.the-variants as instruction
-use Rattle.text_parts.specs.mirror.Exec.{execFrom, exec, scatterExecFits, scatterExec}
+use Rattle.control_texts.specs.mirror.Exec.{execFrom, exec, scatterExecFits, scatterExec}
 use Rattle.text_parts.specs.mirror.Fields.{decimal, hexadecimal}
 use Rattle.text_parts.specs.mirror.Raw.{raw}
-use Rattle.text_parts.proofs.ExecLaws.{exec-lawful, scatter-exec-lawful}
+use Rattle.control_texts.proofs.ExecLaws.{exec-lawful, scatter-exec-lawful}
 use Rattle.text_parts.proofs.FieldLaws.{decimal-lawful, hexadecimal-lawful}
 use Rattle.text_parts.proofs.RawLaws.{raw-lawful}
 use Rattle.operand_texts.specs.mirror.Operand.{generalOperand, source, destination}

@@ -21,11 +21,11 @@ use Rattle.formats.proofs.TableTests.{sound, opens, single, size, table-under}
 use Rattle.formats.proofs.WordLaws.{table-lawful}
 use Rattle.formats.proofs.AroundLaws.{begins-after}
 use Rattle.formats.proofs.NumberLaws.{begins-number, decimal-characters}
-use Rattle.text_parts.specs.mirror.Predicate.{zeros, nothing}
+use Rattle.control_texts.specs.mirror.Predicate.{zeros, nothing}
 use Rattle.text_parts.specs.mirror.Fields.{decimal}
-use Rattle.text_parts.proofs.PartLaws.{in-table, in-range}
+use Rattle.formats.proofs.PartLaws.{in-table, in-range}
 use Rattle.text_parts.proofs.FieldLaws.{decimal-lawful, decimal-between}
-use Rattle.text_parts.proofs.PredicateLaws.{nothing-lawful}
+use Rattle.control_texts.proofs.PredicateLaws.{nothing-lawful}
 use Rattle.lines.specs.mirror.Braces.{bracing, scaleBehind, sizeAndScale, gatherBracesFit, gatherBraces, scaleAlone, scatterBraces}
 use Rattle.lines.proofs.EndLaws.{isSpace, goesOn, no-digit, no-space}
 

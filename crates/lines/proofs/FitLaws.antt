@@ -9,8 +9,8 @@ use Rattle.decoder.specs.declared.Gather.{Gather}
 use Rattle.decoder.specs.declared.Scatter.{Scatter}
 use Rattle.decoder.specs.declared.RawSend.{RawSend}
 use Rattle.formats.proofs.Tests.{both, both-left, both-right}
-use Rattle.text_parts.specs.mirror.Predicate.{predicateFits}
-use Rattle.text_parts.specs.mirror.Exec.{execFits, scatterExecFits}
+use Rattle.control_texts.specs.mirror.Predicate.{predicateFits}
+use Rattle.control_texts.specs.mirror.Exec.{execFits, scatterExecFits}
 use Rattle.operand_texts.specs.mirror.Operand.{generalOperandFits, operandFits}
 use Rattle.lines.specs.mirror.Braces.{gatherBracesFit}
 use Rattle.lines.specs.mirror.Bodies.{scalarAndRawsFit, messageFits}

@@ -7,9 +7,10 @@ use lib.Dec.{eqb}
 use Rattle.formats.specs.Text.{text}
 use Rattle.formats.proofs.TableTests.{single}
 use Rattle.formats.proofs.ShortLaws.{Short, short-more, short-pair, short-through, short-blank, short-cond, narrow, short-table, short-number, short-before, short-after}
-use Rattle.text_parts.specs.mirror.Predicate.{zeros}
+use Rattle.control_texts.specs.mirror.Predicate.{zeros}
 use Rattle.text_parts.specs.mirror.Fields.{decimal, hexadecimal}
-use Rattle.text_parts.proofs.LengthLaws.{predicate-short, exec-short, scatter-exec-short, raw-short}
+use Rattle.control_texts.proofs.LengthLaws.{predicate-short, exec-short, scatter-exec-short}
+use Rattle.text_parts.proofs.LengthLaws.{raw-short}
 use Rattle.lines.specs.mirror.Braces.{bracing, scaleBehind, sizeAndScale, gatherBraces, scaleAlone, scatterBraces}
 use Rattle.lines.specs.mirror.Bodies.{space, shlParts, shl, scalarAndRaws, blocks, surface, gatherParts, gather, letters, scatterParts, scatter, sendEndings, message, rawSendParts, rawSend}
 use Rattle.lines.specs.mirror.Line.{names, body, named, line}

@@ -15,9 +15,9 @@ use Rattle.formats.proofs.TableTests.{sound, opens, size, table-under}
 use Rattle.formats.proofs.WordLaws.{table-lawful, begins-table}
 use Rattle.decoder.specs.declared.Instruction.{Instruction}
 use Rattle.decoder.specs.declared.Instruction.the-variants as instruction
-use Rattle.text_parts.specs.mirror.Predicate.{predicateFits, predicate}
-use Rattle.text_parts.proofs.PartLaws.{in-table}
-use Rattle.text_parts.proofs.PredicateLaws.{bracket, predicate-lawful}
+use Rattle.control_texts.specs.mirror.Predicate.{predicateFits, predicate}
+use Rattle.formats.proofs.PartLaws.{in-table}
+use Rattle.control_texts.proofs.PredicateLaws.{bracket, predicate-lawful}
 use Rattle.lines.specs.mirror.Bodies.{shlFits, shl, gatherFits, gather, scatterFits, scatter, rawSendFits, rawSend}
 use Rattle.lines.specs.mirror.Line.{names, nameOf, predOf, body, named, bodyFits, lineFits, line}
 use Rattle.lines.proofs.EndLaws.{goesOn}

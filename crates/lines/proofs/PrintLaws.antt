@@ -13,23 +13,25 @@ use Rattle.formats.specs.Words.{words, wordAt, oneOf, before, after}
 use Rattle.formats.specs.Numerals.{digits, digitsOf}
 use Rattle.formats.specs.Numbers.{number}
 use Rattle.formats.proofs.Tests.{both-left, both-right}
-use Rattle.channels.specs.Bits.{bit}
+use Rattle.bits.specs.Bits.{bit}
 use Rattle.fields.specs.Rules.{channelsGood}
-use Rattle.field_groups.specs.declared.Raw.{Raw}
+use Rattle.operand_fields.specs.declared.Raw.{Raw}
 use Rattle.field_groups.specs.declared.Access.{Access}
-use Rattle.field_groups.specs.declared.Operand.{Operand}
+use Rattle.operand_fields.specs.declared.Operand.{Operand}
 use Rattle.decoder.specs.declared.Shl.{Shl}
 use Rattle.decoder.specs.declared.Gather.{Gather}
 use Rattle.decoder.specs.declared.Scatter.{Scatter}
 use Rattle.decoder.specs.declared.RawSend.{RawSend}
 use Rattle.decoder.specs.declared.Instruction.{Instruction}
 use Rattle.decoder.specs.declared.Instruction.the-variants as instruction
-use Rattle.text_parts.specs.mirror.Predicate.{zeros, predicate}
-use Rattle.text_parts.specs.mirror.Exec.{exec, scatterExec}
+use Rattle.control_texts.specs.mirror.Predicate.{zeros, predicate}
+use Rattle.control_texts.specs.mirror.Exec.{exec, scatterExec}
 use Rattle.text_parts.specs.mirror.Fields.{decimal, hexadecimal}
 use Rattle.text_parts.specs.mirror.Raw.{raw}
-use Rattle.text_parts.specs.Texts.{optional, predicateText, execText, rawText}
-use Rattle.text_parts.proofs.PrintLaws.{predicate-prints, exec-prints, scatter-exec-prints, raw-prints}
+use Rattle.control_texts.specs.Texts.{optional, predicateText, execText}
+use Rattle.text_parts.specs.Texts.{rawText}
+use Rattle.control_texts.proofs.PrintLaws.{predicate-prints, exec-prints, scatter-exec-prints}
+use Rattle.text_parts.proofs.PrintLaws.{raw-prints}
 use Rattle.operand_texts.specs.mirror.Operand.{source, destination}
 use Rattle.operand_texts.specs.Texts.{operandText}
 use Rattle.lines.specs.mirror.Braces.{bracing, scaleBehind, sizeAndScale, gatherBraces, scaleAlone, scatterBraces}

@@ -20,18 +20,19 @@ use Rattle.fields.proofs.ExecGood.{judged-good}
 use Rattle.fields.proofs.FirstRefusal.{none-refused, good-append, good-one}
 use Rattle.fields.specs.Told.{AllGood}
 use Rattle.fields.proofs.FieldLaws.{FieldFits, LayoutFits, layout-fits, fits-layout}
-use Rattle.field_groups.specs.declared.General.{General}
-use Rattle.field_groups.specs.declared.Immediate.{Immediate}
-use Rattle.field_groups.specs.declared.Operand.{Operand}
-use Rattle.field_groups.specs.declared.Operand.the-variants as operand
+use Rattle.operand_fields.specs.declared.General.{General}
+use Rattle.operand_fields.specs.declared.Immediate.{Immediate}
+use Rattle.operand_fields.specs.declared.Operand.{Operand}
+use Rattle.operand_fields.specs.declared.Operand.the-variants as operand
 use Rattle.field_groups.specs.declared.Control.{Control}
-use Rattle.field_groups.specs.declared.Raw.{Raw}
+use Rattle.operand_fields.specs.declared.Raw.{Raw}
 use Rattle.field_groups.specs.declared.Access.{Access}
 use Rattle.field_groups.specs.declared.Message.{Message}
-use Rattle.field_groups.specs.Layout.{controlFields, highField, operandFields, rawFields, accessFields, messageFields}
+use Rattle.field_groups.specs.Layout.{controlFields, accessFields, messageFields}
+use Rattle.operand_fields.specs.Layout.{highField, operandFields, rawFields}
 use Rattle.formats.proofs.Tests.{both, both-left, both-right}
-use Rattle.text_parts.specs.mirror.Predicate.{predicateFits}
-use Rattle.text_parts.specs.mirror.Exec.{execFits, scatterExecFits}
+use Rattle.control_texts.specs.mirror.Predicate.{predicateFits}
+use Rattle.control_texts.specs.mirror.Exec.{execFits, scatterExecFits}
 use Rattle.text_parts.specs.mirror.Raw.{rawFits}
 use Rattle.text_parts.specs.mirror.Immediate.{immediateFits}
 use Rattle.text_parts.proofs.ImmediateLaws.{Code, listed-code}

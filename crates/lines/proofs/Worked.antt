@@ -11,15 +11,15 @@ use Rattle.formats.specs.Numbers.{number}
 use Rattle.formats.specs.Whole.{whole}
 use Rattle.formats.specs.mirror.Scan.{common, better, scan, chosen, wordIn}
 use Rattle.formats.specs.mirror.Digits.{valueOf, goesOn, moreDigits, begins, numberIn}
-use Rattle.field_groups.specs.declared.Raw.{Raw}
+use Rattle.operand_fields.specs.declared.Raw.{Raw}
 use Rattle.field_groups.specs.declared.Access.{Access}
 use Rattle.field_groups.specs.declared.Message.{Message}
-use Rattle.field_groups.specs.declared.Operand.{Operand}
-use Rattle.field_groups.specs.declared.Operand.the-variants as operand
+use Rattle.operand_fields.specs.declared.Operand.{Operand}
+use Rattle.operand_fields.specs.declared.Operand.the-variants as operand
 use Rattle.decoder.specs.declared.Instruction.{Instruction}
 use Rattle.decoder.specs.declared.Instruction.the-variants as instruction
-use Rattle.text_parts.specs.mirror.Predicate.{ending, idAndEnding, predicate}
-use Rattle.text_parts.specs.mirror.Exec.{maskParts, mask, execFrom, exec, scatterExec}
+use Rattle.control_texts.specs.mirror.Predicate.{ending, idAndEnding, predicate}
+use Rattle.control_texts.specs.mirror.Exec.{maskParts, mask, execFrom, exec, scatterExec}
 use Rattle.text_parts.specs.mirror.Fields.{decimal, hexadecimal}
 use Rattle.text_parts.specs.mirror.Raw.{rawParts, raw}
 use Rattle.text_parts.specs.mirror.Immediate.{typeBehind, codeAt, immediateParts, immediate}

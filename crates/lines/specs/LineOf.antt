@@ -6,7 +6,7 @@ use mathlib.Core.Bool.{not, _&&_}
 use lib.Dec.{eqb}
 use Rattle.formats.specs.Text.{text}
 use Rattle.formats.specs.Numerals.{digitsOf}
-use Rattle.channels.specs.Bits.{bit}
+use Rattle.bits.specs.Bits.{bit}
 use Rattle.field_groups.specs.declared.Access.{Access}
 use Rattle.decoder.specs.declared.Shl.{Shl}
 use Rattle.decoder.specs.declared.Gather.{Gather}
@@ -14,7 +14,8 @@ use Rattle.decoder.specs.declared.Scatter.{Scatter}
 use Rattle.decoder.specs.declared.RawSend.{RawSend}
 use Rattle.decoder.specs.declared.Instruction.{Instruction}
 use Rattle.decoder.specs.declared.Instruction.the-variants as instruction
-use Rattle.text_parts.specs.Texts.{optional, predicateText, execText, rawText}
+use Rattle.control_texts.specs.Texts.{optional, predicateText, execText}
+use Rattle.text_parts.specs.Texts.{rawText}
 use Rattle.operand_texts.specs.Texts.{operandText, destinationText}
 
 -- a part with the space that follows it

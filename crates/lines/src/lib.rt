@@ -1,4 +1,6 @@
 // Lines of instructions, read from a text: what stands behind each name, the line, and a whole text.
+use control_texts::ByteRead;
+use control_texts::WordRead;
 use decoder::Gather;
 use decoder::Instruction;
 use decoder::RawSend;
@@ -7,20 +9,19 @@ use decoder::Shl;
 use field_groups::Access;
 use field_groups::Control;
 use field_groups::Message;
-use field_groups::Operand;
-use field_groups::Raw;
 use formats::Cursor;
 use formats::NumberRead;
+use operand_fields::Operand;
+use operand_fields::Raw;
 use operand_texts::OperandRead;
-use text_parts::ByteRead;
 use text_parts::RawRead;
-use text_parts::WordRead;
 ghost use mathlib.Core.Path.{_≡_};
 ghost use Prim.Native.Nat.{suc, _+_, _≤_, _<_};
 ghost use Rattle.formats.specs.Words.{after};
 ghost use Rattle.formats.specs.Told.{told};
 ghost use Rattle.text_parts.specs.mirror.Raw.{raw};
-ghost use Rattle.text_parts.specs.Told.{toldByte, toldWord, toldRaw};
+ghost use Rattle.control_texts.specs.Told.{toldByte, toldWord};
+ghost use Rattle.text_parts.specs.Told.{toldRaw};
 ghost use Rattle.operand_texts.specs.mirror.Operand.{source, destination};
 ghost use Rattle.operand_texts.specs.Told.{toldOperand};
 ghost use Rattle.lines.specs.mirror.Braces.{scaleBehind, gatherBraces, scatterBraces};
@@ -188,7 +189,7 @@ fn scalar_and_raws_at(text: &[u8], c: Cursor) -> ScalarAndRawsRead
 fn shl_at(text: &[u8], c: Cursor, pred: u16) -> LineRead
     ensures { λ r. ⌜ toldLine r ≡ shl pred .read (now (text .entry)) (c .at) ⌝ }
 {
-    match text_parts::exec_at(text, c) {
+    match control_texts::exec_at(text, c) {
         ByteRead::Got(exec, c1) => match spaced_destination_at(text, c1) {
             OperandRead::Got(destination, c2) => match spaced_source_at(text, c2) {
                 OperandRead::Got(source, c3) => match operand_texts::source_at(text, c3) {
@@ -232,7 +233,7 @@ fn gather_at(text: &[u8], c: Cursor, pred: u16) -> LineRead
     ensures { λ r. ⌜ toldLine r ≡ gather pred .read (now (text .entry)) (c .at) ⌝ }
 {
     match c.one_of(text, b"1 |2 |4 |") {
-        NumberRead::Got(blocks, c1) => match text_parts::exec_at(text, c1) {
+        NumberRead::Got(blocks, c1) => match control_texts::exec_at(text, c1) {
             ByteRead::Got(exec, c2) => match surface_at(text, c2) {
                 ByteRead::Got(surface, c3) => match scalar_and_raws_at(text, c3) {
                     ScalarAndRawsRead::Got(offset, element_offset, destination, c4) => {
@@ -284,7 +285,7 @@ fn scatter_at(text: &[u8], c: Cursor, pred: u16) -> LineRead
         text,
         b"R |G |RG |B |RB |GB |RGB |A |RA |GA |RGA |BA |RBA |GBA |RGBA |",
     ) {
-        NumberRead::Got(letters, c1) => match text_parts::scatter_exec_at(text, c1) {
+        NumberRead::Got(letters, c1) => match control_texts::scatter_exec_at(text, c1) {
             ByteRead::Got(exec, c2) => match scalar_and_raws_at(text, c2) {
                 ScalarAndRawsRead::Got(address, element_offset, source, c3) => {
                     match scatter_braces_at(text, c3) {
@@ -341,7 +342,7 @@ fn raw_send_at(text: &[u8], c: Cursor, pred: u16) -> LineRead
     ensures { λ r. ⌜ toldLine r ≡ rawSend pred .read (now (text .entry)) (c .at) ⌝ }
 {
     match c.one_of(text, b" |c |") {
-        NumberRead::Got(modifiers, c1) => match text_parts::exec_at(text, c1) {
+        NumberRead::Got(modifiers, c1) => match control_texts::exec_at(text, c1) {
             ByteRead::Got(exec, c2) => match message_at(text, c2) {
                 MessageRead::Got(message, c3) => match scalar_and_raws_at(text, c3) {
                     ScalarAndRawsRead::Got(descriptor, source, destination, c4) => LineRead::Got(
@@ -388,7 +389,7 @@ fn body_at(text: &[u8], c: Cursor, pred: u16, name: u64) -> LineRead
 fn line_at(text: &[u8], c: Cursor) -> LineRead
     ensures { λ r. ⌜ toldLine r ≡ line .read (now (text .entry)) (c .at) ⌝ }
 {
-    match text_parts::predicate_at(text, c) {
+    match control_texts::predicate_at(text, c) {
         WordRead::Got(pred, c1) => match c1.one_of(
             text,
             b"SHL |GATHER_SCALED.|SVM_SCATTER4_SCALED.|raw_send|",

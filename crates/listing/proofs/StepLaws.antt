@@ -13,9 +13,9 @@ use Rattle.formats.specs.Text.{text}
 use Rattle.formats.specs.Words.{words, wordAt}
 use Rattle.formats.specs.Numerals.{digitsOf}
 use Rattle.formats.specs.Numbers.{number}
-use Rattle.formats.specs.Writing.{wrote, written}
+use Rattle.format_writers.specs.Writing.{wrote, written}
 use Rattle.formats.proofs.ShortLaws.{digits-most}
-use Rattle.formats.proofs.WritingLaws.{wrote-then}
+use Rattle.format_writers.proofs.WritingLaws.{wrote-then}
 use Rattle.decoder.specs.declared.Instruction.{Instruction}
 use Rattle.decoder.specs.Decoding.{instructionAt}
 use Rattle.decoder.proofs.Laws.{accepted-within}

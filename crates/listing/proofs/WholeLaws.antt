@@ -10,8 +10,8 @@ use lib.ListN.{length, take, drop}
 use borrow.Author.Tests.{le-leb, lt-leb, ltb-false}
 use Rattle.little_endian.specs.LittleEndian.{Bytes}
 use Rattle.hex.specs.Bytes.{hexBytes}
-use Rattle.formats.specs.Writing.{wrote, written}
-use Rattle.formats.proofs.WritingLaws.{room-takes}
+use Rattle.format_writers.specs.Writing.{wrote, written}
+use Rattle.format_writers.proofs.WritingLaws.{room-takes}
 use Rattle.line_blocks.specs.mirror.Rows.{Row, row, allPushed, lineLength}
 use Rattle.line_blocks.specs.mirror.TextOut.{cleared, textOut}
 use Rattle.line_blocks.proofs.RowLaws.{Begun}

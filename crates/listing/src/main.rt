@@ -8,7 +8,7 @@ ghost use mathlib.Core.List.{_++_};
 ghost use Prim.Native.Nat.{_+_, _*_, _≤_, _<_};
 ghost use lib.Dec.{ltb};
 ghost use lib.ListN.{length, take};
-ghost use Rattle.formats.specs.Writing.{wrote, written};
+ghost use Rattle.format_writers.specs.Writing.{wrote, written};
 ghost use Rattle.lines.specs.mirror.Line.{line};
 ghost use Rattle.line_blocks.specs.LinesOf.{lineEnd};
 ghost use Rattle.line_blocks.specs.mirror.Rows.{row};
@@ -19,11 +19,11 @@ ghost use Rattle.listing.specs.mirror.Parts.{isKernelIn, kernelIn, rowLi
 fn put_refusal(out: &mut [u8], at: usize, number: u64, position: u64) -> usize
     ensures { λ r. ⌜ wrote r (now (out .exit)) ≡ written (now (out .entry)) at (refusalLine number position) ⌝ }
 {
-    let a = formats::put_word(out, at, b"! |", 0);
-    let b = formats::put_number(out, a, Base::Decimal, number);
-    let c = formats::put_word(out, b, b" |", 0);
-    let d = formats::put_number(out, c, Base::Decimal, position);
-    formats::put_word(out, d, b"\n|", 0)
+    let a = format_writers::put_word(out, at, b"! |", 0);
+    let b = format_writers::put_number(out, a, Base::Decimal, number);
+    let c = format_writers::put_word(out, b, b" |", 0);
+    let d = format_writers::put_number(out, c, Base::Decimal, position);
+    format_writers::put_word(out, d, b"\n|", 0)
 }
 
 // The line of an instruction, with its end.
@@ -31,7 +31,7 @@ fn put_instruction(out: &mut [u8], at: usize, instruction: Instruction) -> usize
     ensures { λ r. ⌜ wrote r (now (out .exit)) ≡ written (now (out .entry)) at (line .print instruction ++ lineEnd) ⌝ }
 {
     let a = line_writers::put_line(out, at, instruction);
-    formats::put_word(out, a, b"\n|", 0)
+    format_writers::put_word(out, a, b"\n|", 0)
 }
 
 // How much of the output buffer is used, and where listing goes on.

@@ -11,8 +11,8 @@ use Rattle.formats.specs.Numbers.{number}
 use Rattle.formats.specs.Whole.{whole}
 use Rattle.formats.specs.mirror.Scan.{common, better, scan, chosen, wordIn}
 use Rattle.formats.specs.mirror.Digits.{valueOf, goesOn, moreDigits, begins, numberIn}
-use Rattle.field_groups.specs.declared.Operand.{Operand}
-use Rattle.field_groups.specs.declared.Operand.the-variants as operand
+use Rattle.operand_fields.specs.declared.Operand.{Operand}
+use Rattle.operand_fields.specs.declared.Operand.the-variants as operand
 use Rattle.text_parts.specs.mirror.Fields.{decimal}
 use Rattle.text_parts.specs.mirror.Immediate.{typeBehind, codeAt, immediateParts, immediate}
 use Rattle.operand_texts.specs.mirror.Region.{sourceRegion, strideBehind, widthAndStride, destinationRegion}

@@ -17,9 +17,9 @@ use Rattle.formats.proofs.Following.{Matches, follows-free}
 use Rattle.formats.proofs.Combining.{pair-lawful, through-lawful}
 use Rattle.formats.proofs.TableTests.{sound, opens, single}
 use Rattle.formats.proofs.NumberLaws.{number-under}
-use Rattle.field_groups.specs.declared.General.{General}
+use Rattle.operand_fields.specs.declared.General.{General}
 use Rattle.text_parts.specs.mirror.Fields.{decimal}
-use Rattle.text_parts.proofs.PartLaws.{in-range}
+use Rattle.formats.proofs.PartLaws.{in-range}
 use Rattle.text_parts.proofs.FieldLaws.{decimal-lawful}
 use Rattle.operand_texts.specs.mirror.Region.{regionFits}
 use Rattle.operand_texts.specs.mirror.General.{generalTo, generalFrom, generalParts, generalFits, general}

@@ -9,7 +9,7 @@ use Rattle.formats.specs.Format.{Format}
 use Rattle.formats.proofs.Law.{Lawful, free}
 use Rattle.formats.proofs.TableTests.{single}
 use Rattle.formats.proofs.ShortLaws.{Short, short-more, short-pair, short-through, short-blank, short-cond, narrow, short-table, short-number, short-before, short-after}
-use Rattle.text_parts.specs.mirror.Predicate.{zeros}
+use Rattle.control_texts.specs.mirror.Predicate.{zeros}
 use Rattle.text_parts.specs.mirror.Fields.{decimal}
 use Rattle.text_parts.proofs.LengthLaws.{immediate-short}
 use Rattle.operand_texts.specs.mirror.Region.{verticals, widths, strides, regionFits, sourceRegion, firsts, nullStride, strideBehind, widthAndStride, destinationRegion}

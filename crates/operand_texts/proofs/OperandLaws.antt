@@ -15,10 +15,10 @@ use Rattle.formats.proofs.Combining.{pair-lawful, through-lawful, cond-lawful}
 use Rattle.formats.proofs.TableTests.{sound, size, single, table-under}
 use Rattle.formats.proofs.WordLaws.{table-lawful}
 use Rattle.formats.proofs.AroundLaws.{before-lawful}
-use Rattle.field_groups.specs.declared.Operand.{Operand}
-use Rattle.field_groups.specs.declared.Operand.the-variants as operand
+use Rattle.operand_fields.specs.declared.Operand.{Operand}
+use Rattle.operand_fields.specs.declared.Operand.the-variants as operand
 use Rattle.text_parts.specs.mirror.Immediate.{immediate}
-use Rattle.text_parts.proofs.PartLaws.{in-table}
+use Rattle.formats.proofs.PartLaws.{in-table}
 use Rattle.text_parts.proofs.ImmediateLaws.{immediate-lawful}
 use Rattle.operand_texts.specs.mirror.Region.{regionFits, sourceRegion, destinationRegion}
 use Rattle.operand_texts.specs.mirror.General.{general}

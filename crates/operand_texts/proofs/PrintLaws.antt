@@ -13,9 +13,9 @@ use Rattle.formats.specs.Words.{words, wordAt, oneOf, table, before, after}
 use Rattle.formats.specs.Numerals.{digits, digitsOf}
 use Rattle.formats.specs.Numbers.{number}
 use Rattle.formats.proofs.Tests.{both-left, both-right}
-use Rattle.field_groups.specs.declared.General.{General}
-use Rattle.field_groups.specs.declared.Operand.{Operand}
-use Rattle.field_groups.specs.declared.Operand.the-variants as operand
+use Rattle.operand_fields.specs.declared.General.{General}
+use Rattle.operand_fields.specs.declared.Operand.{Operand}
+use Rattle.operand_fields.specs.declared.Operand.the-variants as operand
 use Rattle.text_parts.specs.mirror.Fields.{decimal}
 use Rattle.text_parts.proofs.PrintLaws.{immediate-prints}
 use Rattle.operand_texts.specs.mirror.Region.{verticals, widths, strides, regionFits, sourceRegion, firsts, nullStride, strideBehind, widthAndStride, destinationRegion}

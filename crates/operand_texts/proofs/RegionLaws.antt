@@ -14,9 +14,9 @@ use Rattle.formats.proofs.Combining.{pair-lawful, through-lawful, cond-lawful}
 use Rattle.formats.proofs.TableTests.{sound, size, table-under}
 use Rattle.formats.proofs.WordLaws.{table-lawful}
 use Rattle.fields.specs.Rules.{regionGood}
-use Rattle.text_parts.specs.mirror.Predicate.{nothing}
-use Rattle.text_parts.proofs.PartLaws.{in-table}
-use Rattle.text_parts.proofs.PredicateLaws.{both-zero, nothing-lawful}
+use Rattle.control_texts.specs.mirror.Predicate.{nothing}
+use Rattle.formats.proofs.PartLaws.{in-table}
+use Rattle.control_texts.proofs.PredicateLaws.{both-zero, nothing-lawful}
 use Rattle.operand_texts.specs.mirror.Region.{verticals, widths, strides, regionTo, regionFrom, regionFits, sourceRegion, firsts, nullStride, strideBehind, widthAndStride, destinationRegionTo, destinationRegionFrom, destinationRegion}
 
 -- ---- the words that the encoder takes

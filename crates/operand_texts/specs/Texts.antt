@@ -5,9 +5,9 @@ use mathlib.Core.Bool.{cond, _&&_, not}
 use lib.Dec.{eqb}
 use Rattle.formats.specs.Text.{text}
 use Rattle.formats.specs.Numerals.{digitsOf}
-use Rattle.field_groups.specs.declared.General.{General}
-use Rattle.field_groups.specs.declared.Operand.{Operand}
-use Rattle.field_groups.specs.declared.Operand.the-variants as operand
+use Rattle.operand_fields.specs.declared.General.{General}
+use Rattle.operand_fields.specs.declared.Operand.{Operand}
+use Rattle.operand_fields.specs.declared.Operand.the-variants as operand
 use Rattle.text_parts.specs.Texts.{immediateText}
 
 -- "codes 0 Null, 1..7": n, 0, 1, 2, 4, 8, 16, 32

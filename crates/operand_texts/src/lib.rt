@@ -1,16 +1,16 @@
 // Operands of an instruction's line, read from a text: regions, General operands, sources and destinations.
-use field_groups::General;
-use field_groups::Operand;
+use control_texts::WordRead;
 use formats::Cursor;
 use formats::NumberRead;
+use operand_fields::General;
+use operand_fields::Operand;
 use text_parts::ImmediateRead;
-use text_parts::WordRead;
 ghost use mathlib.Core.Path.{_≡_};
 ghost use mathlib.Core.Bool.{_&&_};
 ghost use Prim.Native.Nat.{_+_, _*_, _-_, _≤_, _<_};
 ghost use lib.Dec.{eqb};
 ghost use Rattle.formats.specs.Told.{told};
-ghost use Rattle.text_parts.specs.Told.{toldWord};
+ghost use Rattle.control_texts.specs.Told.{toldWord};
 ghost use Rattle.operand_texts.specs.mirror.Region.{sourceRegion, strideBehind, destinationRegion};
 ghost use Rattle.operand_texts.specs.mirror.Operand.{generalOperand, source, destination};
 ghost use Rattle.operand_texts.specs.Told.{toldOperand};

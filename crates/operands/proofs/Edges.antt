@@ -5,8 +5,8 @@ use Prim.Native.Nat.{ℕ, _+_, _*_, _%_}
 use lib.Dec.{leb, eqb}
 use Rattle.element_types.specs.Types.{UD, UW, F, sizeOf}
 use Rattle.element_types.proofs.Sizes.{sizes}
-use Rattle.field_groups.specs.declared.General.{General}
-use Rattle.regions.specs.declared.Role.{Role}
+use Rattle.operand_fields.specs.declared.General.{General}
+use Rattle.region_rules.specs.declared.Role.{Role}
 use Rattle.regions.specs.declared.Variable.{Variable}
 use Rattle.regions.proofs.Edges.{regionNumber, words, Edges, regions-at-edges}
 use Rattle.operands.specs.declared.TypeRule.{TypeRule}

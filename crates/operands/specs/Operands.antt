@@ -4,17 +4,17 @@ use Prim.Native.Nat.{ℕ, _+_, _*_, _%_, _^_}
 use mathlib.Core.Bool.{Bool, cond, not, _&&_}
 use lib.Dec.{ltb, leb, eqb}
 use Rattle.element_types.specs.Types.{sizeOf}
-use Rattle.channels.specs.Exec.{execSize}
-use Rattle.field_groups.specs.declared.General.{General}
-use Rattle.field_groups.specs.declared.Immediate.{Immediate}
-use Rattle.field_groups.specs.declared.Raw.{Raw}
-use Rattle.field_groups.specs.declared.Operand.{Operand}
-use Rattle.field_groups.specs.declared.Operand.the-variants as operand
-use Rattle.regions.specs.declared.Role.{Role}
-use Rattle.regions.specs.declared.Role.the-variants as role
+use Rattle.exec_byte.specs.Exec.{execSize}
+use Rattle.operand_fields.specs.declared.General.{General}
+use Rattle.operand_fields.specs.declared.Immediate.{Immediate}
+use Rattle.operand_fields.specs.declared.Raw.{Raw}
+use Rattle.operand_fields.specs.declared.Operand.{Operand}
+use Rattle.operand_fields.specs.declared.Operand.the-variants as operand
+use Rattle.region_rules.specs.declared.Role.{Role}
+use Rattle.region_rules.specs.declared.Role.the-variants as role
 use Rattle.regions.specs.declared.Variable.{Variable}
 use Rattle.regions.specs.Regions.{elementOf}
-use Rattle.regions.specs.RegionRules.{regionRefusal}
+use Rattle.region_rules.specs.RegionRules.{regionRefusal}
 use Rattle.regions.specs.Reach.{elementsGood}
 use Rattle.regions.specs.Positions.{elementByte}
 use Rattle.operands.specs.declared.TypeRule.{TypeRule}

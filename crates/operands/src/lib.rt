@@ -1,9 +1,9 @@
 // One operand of an instruction: refused by its tests, or where its elements are.
-use field_groups::General;
-use field_groups::Immediate;
-use field_groups::Operand;
-use field_groups::Raw;
-use regions::Role;
+use operand_fields::General;
+use operand_fields::Immediate;
+use operand_fields::Operand;
+use operand_fields::Raw;
+use region_rules::Role;
 use regions::Variable;
 ghost use mathlib.Core.Path.{_≡_};
 ghost use Prim.Native.Nat.{_<_};
@@ -125,7 +125,7 @@ fn locate_general(
     if !type_allowed(rule, code) {
         return refused(4);
     }
-    let broken = regions::region_refusal(role, general.region, lanes);
+    let broken = region_rules::region_refusal(role, general.region, lanes);
     if 0 < broken {
         return refused(broken);
     }
@@ -205,7 +205,7 @@ fn general_in(
     if !((general.index as usize) < types.len()) {
         return refused(5);
     }
-    let lanes = channels::split(exec).size;
+    let lanes = exec_byte::split(exec).size;
     let variable = variable_at(types, starts, counts, general.index);
     locate_general(register_size, role, rule, lanes, general, variable)
 }

@@ -8,8 +8,8 @@ use Rattle.formats.specs.Format.{pair, through}
 use Rattle.formats.specs.Words.{words, wordAt, oneOf, before, after}
 use Rattle.formats.specs.Numerals.{digitsOf}
 use Rattle.formats.specs.Numbers.{number}
-use Rattle.field_groups.specs.declared.Raw.{Raw}
-use Rattle.field_groups.specs.declared.Immediate.{Immediate}
+use Rattle.operand_fields.specs.declared.Raw.{Raw}
+use Rattle.operand_fields.specs.declared.Immediate.{Immediate}
 use Rattle.text_parts.specs.mirror.Fields.{decimal}
 use Rattle.text_parts.specs.mirror.Raw.{rawParts, raw}
 use Rattle.text_parts.specs.mirror.Immediate.{types, wideTypes, typeBehind, placeOf, immediateParts, immediate}

@@ -1,7 +1,7 @@
 // Parts of an instruction's line, written into a lent buffer. What does not fit is lost.
-use field_groups::Immediate;
-use field_groups::Raw;
 use formats::Base;
+use operand_fields::Immediate;
+use operand_fields::Raw;
 ghost use mathlib.Core.Path.{_≡_};
 ghost use Prim.Native.Nat.{_+_, _*_, _-_, _≤_};
 ghost use mathlib.Core.List.{_++_};

@@ -3,7 +3,7 @@ use Prim.Native.Nat.{ℕ, zero, suc, _+_, _/_, _%_, _^_, _≤_}
 use mathlib.Core.Path.{_≡_, refl}
 use native.Mathlib.Numerals.{add-one}
 use native.Mathlib.Omega.{arith}
-use Rattle.channels.specs.Exec.{execSize}
+use Rattle.exec_byte.specs.Exec.{execSize}
 use Rattle.payloads.specs.Needed.{enabledBelow, channelStride}
 
 pub enabled-none : (channels : ℕ) → enabledBelow channels 0 ≡ 0

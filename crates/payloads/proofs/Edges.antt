@@ -3,8 +3,8 @@
 use mathlib.Core.Path.{_≡_, refl}
 use Prim.Native.Nat.{ℕ, _*_}
 use Rattle.element_types.proofs.Sizes.{sizes}
-use Rattle.channels.specs.Bits.{bit, bitField}
-use Rattle.channels.specs.Exec.{execReserved, execSize}
+use Rattle.bits.specs.Bits.{bit, bitField}
+use Rattle.exec_byte.specs.Exec.{execReserved, execSize}
 use Rattle.payloads.specs.Needed.{enabledBelow, channelStride, scatterNeeded}
 
 sixteen-lanes : execSize 4 ≡ 16

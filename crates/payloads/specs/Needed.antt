@@ -3,7 +3,7 @@ use Prim.Native.Nat.{ℕ, zero, suc, _+_, _*_, _-_, _/_, _%_, _^_, max}
 use mathlib.Core.Bool.{cond}
 use lib.Dec.{eqb}
 use Rattle.element_types.specs.Types.{UD, sizeOf}
-use Rattle.channels.specs.Exec.{execSize}
+use Rattle.exec_byte.specs.Exec.{execSize}
 
 -- all ExecSize elements, of the type with this code
 unfoldable pub elementsNeeded : ℕ → ℕ → ℕ

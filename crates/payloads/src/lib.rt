@@ -6,7 +6,7 @@ ghost use Rattle.payloads.specs.Needed.{elementsNeeded, enabledBelow, ch
 pub fn elements_needed(exec: u8, code: u8) -> u32
     ensures { λ r. ⌜ r ≡ elementsNeeded exec code ⌝ }
 {
-    (channels::split(exec).size as u32) * (element_types::size_of(code) as u32)
+    (exec_byte::split(exec).size as u32) * (element_types::size_of(code) as u32)
 }
 
 fn enabled_channels(channels: u8) -> u8
@@ -19,7 +19,7 @@ fn enabled_channels(channels: u8) -> u8
 pub fn channel_stride(register_size: u8, exec: u8) -> u8
     ensures { λ r. ⌜ r ≡ channelStride «register_size» exec ⌝ }
 {
-    let lanes = channels::split(exec).size;
+    let lanes = exec_byte::split(exec).size;
     let dwords = register_size / 4;
     if lanes < dwords { dwords } else { lanes }
 }
@@ -28,7 +28,7 @@ pub fn channel_stride(register_size: u8, exec: u8) -> u8
 pub fn scatter_needed(stride: u8, exec: u8, channels: u8) -> u32
     ensures { λ r. ⌜ r ≡ scatterNeeded stride exec channels ⌝ }
 {
-    let size = channels::split(exec).size as u32;
+    let size = exec_byte::split(exec).size as u32;
     let dword = element_types::size_of(element_types::UD) as u32;
     let enabled = enabled_channels(channels) as u32;
     if 0 < enabled {

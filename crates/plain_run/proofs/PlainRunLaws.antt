@@ -9,7 +9,7 @@ use lib.Seq.{length-take-le}
 use lib.Dec.{ltb}
 use borrow.Author.Tests.{ltb-false, le-ltb}
 use Rattle.details.specs.declared.Detail.the-variants as detail
-use Rattle.tables.specs.declared.Lengths.{Lengths}
+use Rattle.lengths.specs.declared.Lengths.{Lengths}
 use Rattle.tables.specs.Tables.{Tables, tablesGood}
 use Rattle.tables.proofs.Laws.{limited, surfaces-small}
 use Rattle.step.specs.State.{Setup, State, state, lengthsOf}

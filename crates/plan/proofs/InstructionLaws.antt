@@ -7,7 +7,7 @@ use native.Mathlib.Omega.{arith}
 use lib.Dec.{ltb}
 use lib.ListN.{length}
 use Rattle.element_types.specs.Types.{UD, UQ}
-use Rattle.channels.specs.Exec.{execSize}
+use Rattle.exec_byte.specs.Exec.{execSize}
 use Rattle.tables.specs.Tables.{Tables}
 use Rattle.field_groups.specs.declared.Control.{Control}
 use Rattle.details.specs.declared.Detail.{Detail}

@@ -5,12 +5,12 @@ use mathlib.Core.Bool.{Bool, true, false, cond, not, false≢true}
 use lib.Dec.{ltb}
 use Rattle.element_types.specs.Types.{sizeOf}
 use Rattle.details.specs.Details.{namesOperand}
-use Rattle.channels.specs.Exec.{execSize}
+use Rattle.exec_byte.specs.Exec.{execSize}
 use Rattle.tables.specs.Variables.{Variables}
-use Rattle.field_groups.specs.declared.General.{General}
-use Rattle.field_groups.specs.declared.Immediate.{Immediate}
-use Rattle.field_groups.specs.declared.Raw.{Raw}
-use Rattle.field_groups.specs.declared.Operand.the-variants as kind
+use Rattle.operand_fields.specs.declared.General.{General}
+use Rattle.operand_fields.specs.declared.Immediate.{Immediate}
+use Rattle.operand_fields.specs.declared.Raw.{Raw}
+use Rattle.operand_fields.specs.declared.Operand.the-variants as kind
 use Rattle.region_rules.specs.declared.Role.{Role}
 use Rattle.region_rules.specs.declared.Role.the-variants as role
 use Rattle.regions.specs.declared.Variable.{Variable}

@@ -11,8 +11,8 @@ use Rattle.details.specs.declared.Detail.the-variants as detail
 use Rattle.details.specs.Details.{namesOperand, operandDetail}
 use Rattle.tables.specs.Tables.{Tables}
 use Rattle.tables.specs.Variables.{Variables}
-use Rattle.tables.specs.declared.PredicateRecord.{PredicateRecord}
-use Rattle.channels.specs.Predicate.{hasPredicate}
+use Rattle.predicate_table.specs.declared.PredicateRecord.{PredicateRecord}
+use Rattle.predicate_field.specs.Predicate.{hasPredicate}
 use Rattle.field_groups.specs.declared.Control.{Control}
 use Rattle.decoder.specs.declared.Instruction.{Instruction}
 use Rattle.decoder.specs.declared.Instruction.the-variants as instruction

@@ -9,10 +9,10 @@ use lib.ListN.{length}
 use borrow.Author.Tests.{ltb-true, not-false}
 use Rattle.element_types.specs.Types.{UD, UQ}
 use Rattle.element_types.proofs.Sizes.{sizes}
-use Rattle.tables.specs.declared.Lengths.{Lengths}
+use Rattle.lengths.specs.declared.Lengths.{Lengths}
 use Rattle.tables.specs.Tables.{Tables, tablesGood}
 use Rattle.tables.proofs.Laws.{placed, surface-inside}
-use Rattle.channels.specs.Exec.{execSize, execOffset}
+use Rattle.exec_byte.specs.Exec.{execSize, execOffset}
 use Rattle.details.specs.declared.Detail.the-variants as detail
 use Rattle.decoder.specs.declared.Shl.{Shl}
 use Rattle.decoder.specs.declared.Gather.{Gather}

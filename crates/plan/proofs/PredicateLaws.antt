@@ -4,8 +4,8 @@ use mathlib.Core.Bool.{true}
 use Prim.Native.Nat.{ℕ, _≤_, _<_}
 use lib.ListN.{length, getD}
 use borrow.Author.Tests.{ltb-true}
-use Rattle.channels.specs.Predicate.{hasPredicate, predicateId}
-use Rattle.tables.specs.Predicates.{Predicates, predicateAt}
+use Rattle.predicate_field.specs.Predicate.{hasPredicate, predicateId}
+use Rattle.predicate_table.specs.Predicates.{Predicates, predicateAt}
 use Rattle.tables.specs.Tables.{Tables}
 use Rattle.field_groups.specs.declared.Control.{Control}
 use Rattle.decoder.specs.declared.Instruction.{Instruction}

@@ -10,7 +10,7 @@ use lib.Dec.{ltb}
 use lib.ListN.{length}
 use Rattle.element_types.specs.Types.{UD, UQ}
 use Rattle.tables.specs.Tables.{Tables}
-use Rattle.tables.specs.Surfaces.{Surfaces, surfaceLength, surfaceStart}
+use Rattle.surface_table.specs.Surfaces.{Surfaces, surfaceLength, surfaceStart}
 use Rattle.details.specs.declared.Detail.the-variants as detail
 use Rattle.decoder.specs.declared.Shl.{Shl}
 use Rattle.decoder.specs.declared.Gather.{Gather}

@@ -7,13 +7,13 @@ use mathlib.Core.List.{List, [], _∷_}
 use Rattle.details.specs.declared.Detail.the-variants as detail
 use Rattle.details.specs.Details.{namesOperand}
 use Rattle.element_types.specs.Types.{UD, UQ}
-use Rattle.channels.specs.Exec.{execSize}
+use Rattle.exec_byte.specs.Exec.{execSize}
 use Rattle.tables.specs.Tables.{Tables}
 use Rattle.tables.specs.Variables.{Variables}
-use Rattle.field_groups.specs.declared.General.{General}
-use Rattle.field_groups.specs.declared.Raw.{Raw}
-use Rattle.field_groups.specs.declared.Operand.{Operand}
-use Rattle.field_groups.specs.declared.Operand.the-variants as kind
+use Rattle.operand_fields.specs.declared.General.{General}
+use Rattle.operand_fields.specs.declared.Raw.{Raw}
+use Rattle.operand_fields.specs.declared.Operand.{Operand}
+use Rattle.operand_fields.specs.declared.Operand.the-variants as kind
 use Rattle.decoder.specs.declared.Instruction.{Instruction}
 use Rattle.decoder.specs.declared.Instruction.the-variants as instruction
 use Rattle.region_rules.specs.declared.Role.{Role}

@@ -12,7 +12,9 @@ use region_rules::Role;
 ghost use mathlib.Core.Path.{_≡_};
 ghost use Rattle.details.specs.Details.{operandDetail};
 ghost use Rattle.tables.specs.Tables.{tables};
-ghost use Rattle.tables.specs.Borrowed.{variableTable, predicateTable, surfaceTable};
+ghost use Rattle.tables.specs.Borrowed.{variableTable};
+ghost use Rattle.predicate_table.specs.Borrowed.{predicateTable};
+ghost use Rattle.surface_table.specs.Borrowed.{surfaceTable};
 ghost use Rattle.plan.specs.Control.{controlOf};
 ghost use Rattle.plan.specs.Plans.{refusedPlan, shlPlan, gatherPlan, scatterPlan};
 ghost use Rattle.plan.specs.Checked.{checkedShl, checkedGatherOperands, surfacePart, checkedGather, checkedScatter, checkedSend, checked};
@@ -104,8 +106,8 @@ fn surface_part(surfaces: &[u16], index: u8) -> Part
     ensures { λ r. ⌜ r ≡ surfacePart (surfaceTable surfaces) index ⌝ }
 {
     Part {
-        start: tables::surface_start(surfaces, index) as u32,
-        length: tables::surface_length(surfaces, index) as u32,
+        start: surface_table::surface_start(surfaces, index) as u32,
+        length: surface_table::surface_length(surfaces, index) as u32,
     }
 }
 
@@ -461,8 +463,8 @@ pub fn check(
     ensures { λ r. ⌜ r ≡ checked «register_size» (tables (variableTable types starts counts) (predicateTable «predicate_bits» «predicate_counts») (surfaceTable surfaces)) instruction ⌝ }
 {
     let control = control_of(instruction);
-    let id = channels::predicate_id(control.pred);
-    let predicate = tables::predicate_at(predicate_bits, predicate_counts, id);
+    let id = predicate_field::predicate_id(control.pred);
+    let predicate = predicate_table::predicate_at(predicate_bits, predicate_counts, id);
     let number = controls::control_refusal(predicate, control);
     if 0 < number {
         return refused(number, Detail::None);

@@ -5,10 +5,10 @@ use channels::Lanes;
 use decoder::Decoded;
 use decoder::Instruction;
 use details::Detail;
+use lengths::Lengths;
+use lengths::TaintLengths;
 use operands::Elements;
 use plan::Plan;
-use tables::Lengths;
-use tables::TaintLengths;
 ghost use Prim.Native.Nat.{_≤_};
 
 fn top_bit(on: bool) -> u32
@@ -132,7 +132,7 @@ fn others(bits: u32, bytes: u8, channels: u8, stride: u8, start: u32, length: u3
 }
 
 fn accepted(plan: Plan) {
-    let lanes = channels::split(plan.control.exec).size as usize;
+    let lanes = exec_byte::split(plan.control.exec).size as usize;
     elements(plan.left, lanes);
     elements(plan.right, lanes);
     elements(plan.payload, lanes);

@@ -5,10 +5,10 @@ use Prim.Native.Nat.{ℕ, _≤_, _<_}
 use lib.Dec.{leb, eqb}
 use lib.ListN.{length, getD}
 use borrow.Author.Tests.{leb-true, eqb-true, le-leb, eq-eqb}
-use Rattle.channels.specs.Below.{everyBelow}
+use Rattle.bits.specs.Below.{everyBelow}
 use Rattle.predicate_table.specs.Predicates.{Predicates, countGood, countGoodAt, predicatesGood}
-use Rattle.channels.proofs.All.{All3, left, right, all3}
-use Rattle.channels.proofs.Every.{every-each, every-holds}
+use Rattle.bits.proofs.All.{All3, left, right, all3}
+use Rattle.bits.proofs.Every.{every-each, every-holds}
 
 pub good-count : (count : ℕ) → countGood count ≡ true → (1 ≤ count) × (count ≤ 32)
 unfolding countGood

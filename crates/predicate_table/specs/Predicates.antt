@@ -5,7 +5,7 @@ use mathlib.Core.Bool.{Bool, _&&_}
 use mathlib.Core.List.{List}
 use lib.Dec.{ltb, leb, eqb}
 use lib.ListN.{length, getD}
-use Rattle.channels.specs.Below.{everyBelow}
+use Rattle.bits.specs.Below.{everyBelow}
 use Rattle.predicate_table.specs.declared.PredicateRecord.{PredicateRecord}
 
 -- predicate k has the k-th bits and count

@@ -1,7 +1,7 @@
 // The table of predicates: what it must satisfy before a run begins (refusal 13), and a predicate looked up.
 ghost use mathlib.Core.Path.{_≡_};
 ghost use lib.ListN.{length, getD};
-ghost use Rattle.channels.specs.Below.{everyBelow};
+ghost use Rattle.bits.specs.Below.{everyBelow};
 ghost use Rattle.predicate_table.specs.Predicates.{predicateAt, countGood, countGoodAt, predicatesGood};
 ghost use Rattle.predicate_table.specs.Borrowed.{predicateTable};
 

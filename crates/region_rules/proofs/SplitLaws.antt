@@ -6,8 +6,8 @@ use Prim.Native.Nat.{ℕ, _<_}
 use native.Mathlib.Omega.{arith}
 use lib.Dec.{ltb, leb, eqb}
 use borrow.Author.Tests.{ltb-true, ltb-false, le-leb, lt-leb, eq-eqb}
-use Rattle.channels.specs.Below.{everyBelow}
-use Rattle.channels.proofs.Every.{every-each}
+use Rattle.bits.specs.Below.{everyBelow}
+use Rattle.bits.proofs.Every.{every-each}
 use Rattle.region_rules.specs.declared.Role.{Role}
 use Rattle.region_rules.specs.declared.Role.the-variants as role
 use Rattle.region_rules.specs.RegionWord.{verticalCode, widthCode, horizontalCode, strideOf, between, sourceRegionGood, scalarRegionGood, destinationRegionGood, regionAllowed}

@@ -5,7 +5,7 @@ use Prim.Native.Nat.{ℕ, _+_, _*_}
 use lib.Dec.{ltb, eqb}
 use Rattle.element_types.specs.Types.{UW, sizeOf}
 use Rattle.element_types.proofs.Sizes.{sizes}
-use Rattle.field_groups.specs.declared.General.{General}
+use Rattle.operand_fields.specs.declared.General.{General}
 use Rattle.region_rules.specs.declared.Role.{Role}
 use Rattle.region_rules.specs.declared.Role.the-variants as role
 use Rattle.regions.specs.declared.Variable.{Variable}

@@ -5,7 +5,7 @@ use native.Mathlib.Omega.{arith}
 use native.Mathlib.Nat.{div-one, mod-one}
 use lib.Dec.{eqb}
 use borrow.Author.Tests.{eqb-false}
-use Rattle.field_groups.specs.declared.General.{General}
+use Rattle.operand_fields.specs.declared.General.{General}
 use Rattle.region_rules.specs.declared.Role.{Role}
 use Rattle.region_rules.specs.declared.Role.the-variants as role
 use Rattle.regions.specs.declared.Grid.{Grid}

@@ -8,9 +8,9 @@ use native.Mathlib.Nat.{not-suc-le-zero, le-max-left, le-max-right}
 use lib.Dec.{ltb, eqb}
 use borrow.Author.Tests.{ltb-true, ltb-false, lt-ltb, le-ltb, ne-eqb}
 use borrow.Author.Count.{below-more}
-use Rattle.channels.specs.Below.{everyBelow}
-use Rattle.channels.proofs.All.{left}
-use Rattle.channels.proofs.Every.{every-none, every-next, every-each, every-fails}
+use Rattle.bits.specs.Below.{everyBelow}
+use Rattle.bits.proofs.All.{left}
+use Rattle.bits.proofs.Every.{every-none, every-next, every-each, every-fails}
 use Rattle.regions.specs.declared.Variable.{Variable}
 use Rattle.regions.specs.Reach.{lowest, highest, insideVariable, elementsGood}
 

@@ -8,8 +8,8 @@ use lib.Dec.{leb}
 use borrow.Author.Tests.{leb-true}
 use Rattle.element_types.specs.Types.{sizeOf, isListed}
 use Rattle.element_types.proofs.Sizes.{register-whole}
-use Rattle.channels.proofs.All.{left, right, all3, all4}
-use Rattle.field_groups.specs.declared.General.{General}
+use Rattle.bits.proofs.All.{left, right, all3, all4}
+use Rattle.operand_fields.specs.declared.General.{General}
 use Rattle.region_rules.specs.declared.Role.the-variants as role
 use Rattle.region_rules.specs.RegionWord.{widthCode, horizontalCode, strideOf, between, sourceRegionGood, destinationRegionGood, regionAllowed}
 use Rattle.regions.specs.Regions.{rowElements, firstElement, sourceElement, elementOf}

@@ -4,7 +4,7 @@ use Prim.Native.Nat.{ℕ, zero, suc, _+_, _*_, _-_, _/_, min, max}
 use mathlib.Core.Bool.{Bool, _&&_}
 use lib.Dec.{ltb, leb}
 use Rattle.element_types.specs.Types.{sizeOf}
-use Rattle.channels.specs.Below.{everyBelow}
+use Rattle.bits.specs.Below.{everyBelow}
 use Rattle.regions.specs.declared.Variable.{Variable}
 
 -- the lowest and the highest of element 0, 1, .., lanes - 1

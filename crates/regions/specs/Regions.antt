@@ -1,6 +1,6 @@
 -- Regions: which element of its variable each lane takes. Document 01, "Regions"; document 02, request 5: "Row offsets .. follow the chosen size".
 use Prim.Native.Nat.{ℕ, _+_, _*_, _/_, _%_}
-use Rattle.field_groups.specs.declared.General.{General}
+use Rattle.operand_fields.specs.declared.General.{General}
 use Rattle.region_rules.specs.declared.Role.{Role}
 use Rattle.region_rules.specs.declared.Role.the-variants as role
 use Rattle.region_rules.specs.RegionWord.{verticalCode, widthCode, horizontalCode, strideOf}

@@ -1,5 +1,5 @@
 // Regions: which element of its variable each lane takes, and where that is.
-use field_groups::General;
+use operand_fields::General;
 use region_rules::Role;
 ghost use mathlib.Core.Path.{_≡_};
 ghost use Prim.Native.Nat.{_+_, _-_, _/_, _%_, _≤_, _<_, min, max};

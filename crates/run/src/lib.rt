@@ -1,11 +1,13 @@
 // The run: instruction by instruction through the kernel, over the caller's buffers.
 use details::Detail;
+use lengths::Lengths;
+use lengths::TaintLengths;
 use step::Constants;
-use tables::Lengths;
-use tables::TaintLengths;
 ghost use mathlib.Core.Path.{_≡_};
 ghost use Rattle.tables.specs.Tables.{tables};
-ghost use Rattle.tables.specs.Borrowed.{variableTable, predicateTable, surfaceTable};
+ghost use Rattle.tables.specs.Borrowed.{variableTable};
+ghost use Rattle.predicate_table.specs.Borrowed.{predicateTable};
+ghost use Rattle.surface_table.specs.Borrowed.{surfaceTable};
 ghost use Rattle.step.specs.State.{setup};
 ghost use Rattle.step.specs.Borrowed.{lent};
 ghost use Rattle.run.specs.Run.{outcome, runThrough, run};

@@ -6,10 +6,10 @@ use native.Mathlib.Nat.{mul-le-mul-right}
 use native.Mathlib.Omega.{arith}
 use borrow.Author.Tests.{eqb-true}
 use Rattle.element_types.specs.Types.{sizeOf}
-use Rattle.channels.specs.Bits.{bit}
-use Rattle.channels.specs.Exec.{execSize}
-use Rattle.plan.specs.Needed.{enabledBelow, scatterNeeded}
-use Rattle.plan.proofs.ChannelLaws.{enabled-next, enabled-at-most}
+use Rattle.bits.specs.Bits.{bit}
+use Rattle.exec_byte.specs.Exec.{execSize}
+use Rattle.payloads.specs.Needed.{enabledBelow, scatterNeeded}
+use Rattle.payloads.proofs.ChannelLaws.{enabled-next, enabled-at-most}
 
 module _ (channels : ℕ) where
   enabled-more : (c d : ℕ) → enabledBelow channels c ≤ enabledBelow channels (c + d)

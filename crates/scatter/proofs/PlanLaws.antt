@@ -3,9 +3,9 @@ use Prim.Native.Nat.{ℕ}
 use mathlib.Core.Path.{_≡_}
 use lib.ListN.{getD}
 use Rattle.cells.specs.Buffer.{Buffer}
-use Rattle.channels.specs.Exec.{execSize}
+use Rattle.exec_byte.specs.Exec.{execSize}
 use Rattle.plan.specs.declared.Plan.{Plan}
-use Rattle.plan.specs.Needed.{scatterNeeded}
+use Rattle.payloads.specs.Needed.{scatterNeeded}
 use Rattle.staging.specs.declared.Layout.{Layout}
 use Rattle.staging.specs.mirror.Room.{layoutOf, dataPlace, dataStaged}
 use Rattle.scatter_pairs.specs.declared.Pairs.{Pairs}

@@ -15,14 +15,14 @@ use Rattle.cells.proofs.CopyLaws.{Copied}
 use Rattle.cells.proofs.LaneLaws.{lanes-alike}
 use Rattle.cells.proofs.SearchLaws.{some-alike}
 use Rattle.cells.proofs.FirstLaws.{pairs-alike}
-use Rattle.channels.specs.Bits.{bit}
-use Rattle.channels.specs.Exec.{execSize}
+use Rattle.bits.specs.Bits.{bit}
+use Rattle.exec_byte.specs.Exec.{execSize}
 use Rattle.channels.specs.Lanes.{laneOn}
 use Rattle.channels.specs.mirror.Prepared.{lanesOf}
 use Rattle.channels.specs.declared.Lanes.{Lanes}
 use Rattle.channels.proofs.LaneLaws.{lane-told}
 use Rattle.plan.specs.declared.Plan.{Plan}
-use Rattle.plan.specs.Needed.{enabledBelow, scatterNeeded}
+use Rattle.payloads.specs.Needed.{enabledBelow, scatterNeeded}
 use Rattle.staging.specs.Lanes.{lanesOn}
 use Rattle.staging.specs.Sources.{elementValue, eitherTainted}
 use Rattle.staging.specs.mirror.Room.{dataPlace, eitherStaged, elementsFit}

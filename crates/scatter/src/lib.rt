@@ -22,14 +22,14 @@ fn layout_for(plan: Plan) -> Layout
 {
     let left = plan.left;
     let right = plan.right;
-    staging::layout_of(left, right, channels::split(plan.control.exec).size)
+    staging::layout_of(left, right, exec_byte::split(plan.control.exec).size)
 }
 
 fn pairs_of(plan: Plan) -> Pairs
     ensures { λ r. ⌜ r ≡ pairsOf plan ⌝ }
 {
     Pairs {
-        lanes: channels::split(plan.control.exec).size,
+        lanes: exec_byte::split(plan.control.exec).size,
         channels: plan.channels,
         stride: plan.stride,
         first: staging::data_place(layout_for(plan)),
@@ -122,7 +122,7 @@ fn from_room(
 fn fits(plan: Plan) -> bool
     ensures { λ r. ⌜ r ≡ scatterFits plan ⌝ }
 {
-    let lanes = channels::split(plan.control.exec).size;
+    let lanes = exec_byte::split(plan.control.exec).size;
     let left = plan.left;
     let right = plan.right;
     ((lanes <= 16) & (plan.stride <= 16))
@@ -141,12 +141,12 @@ fn first_byte(elements: Elements) -> u32
 fn stage_sources(registers: &[u8], register_taint: &[u8], plan: Plan) -> Room
     ensures { λ r. ⌜ buffer (r .bytes) (r .taint) ≡ sourcesStaged (buffer (now (registers .entry)) (now («register_taint» .entry))) plan ⌝ }
 {
-    let lanes = channels::split(plan.control.exec).size;
+    let lanes = exec_byte::split(plan.control.exec).size;
     let left = plan.left;
     let right = plan.right;
     let source = plan.payload;
     let from = first_byte(source) as usize;
-    let needed = plan::scatter_needed(plan.stride, plan.control.exec, plan.channels) as usize;
+    let needed = payloads::scatter_needed(plan.stride, plan.control.exec, plan.channels) as usize;
     staging::stage_with_data(registers, register_taint, left, right, lanes, from, needed)
 }
 

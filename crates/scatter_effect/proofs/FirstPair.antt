@@ -12,8 +12,8 @@ use Rattle.cells.specs.Buffer.{Buffer}
 use Rattle.cells.specs.Over.{among, each, some, firstPair}
 use Rattle.cells.specs.Effect.{Effect, unless, unlessFound, writing}
 use Rattle.cells.proofs.FirstFound.{FoundPair, NoPair, pairs-found}
-use Rattle.channels.specs.Bits.{bit}
-use Rattle.channels.specs.Exec.{execSize}
+use Rattle.bits.specs.Bits.{bit}
+use Rattle.exec_byte.specs.Exec.{execSize}
 use Rattle.channels.specs.Lanes.{laneOn}
 use Rattle.channels.proofs.LaneLaws.{on-below-size}
 use Rattle.plan.specs.declared.Plan.{Plan}

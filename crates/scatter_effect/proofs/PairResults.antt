@@ -23,8 +23,8 @@ use Rattle.cells.proofs.CopyLaws.{copy-writes-outside, copy-holds}
 use Rattle.cells.proofs.LaneStayLaws.{lanes-outside, lane-stays}
 use Rattle.cells.proofs.SearchLaws.{some-none}
 use Rattle.cells.proofs.EffectLaws.{unless-done, unless-passed}
-use Rattle.channels.specs.Bits.{bit}
-use Rattle.channels.specs.Exec.{execSize}
+use Rattle.bits.specs.Bits.{bit}
+use Rattle.exec_byte.specs.Exec.{execSize}
 use Rattle.channels.specs.Lanes.{laneOn}
 use Rattle.channels.proofs.LaneLaws.{on-below-size}
 use Rattle.plan.specs.declared.Plan.{Plan}

@@ -7,7 +7,7 @@ use mathlib.Core.Bool.{true}
 use lib.ListN.{getD}
 use Rattle.cells.specs.Buffer.{Buffer, isTainted, markOf}
 use Rattle.cells.specs.Results.{Kept, Holds, Outside}
-use Rattle.channels.specs.Bits.{bit}
+use Rattle.bits.specs.Bits.{bit}
 use Rattle.plan.specs.declared.Plan.{Plan}
 use Rattle.staging.specs.Results.{Enabled}
 use Rattle.scatter_effect.specs.Scatter.{Window, target, sourceByte}

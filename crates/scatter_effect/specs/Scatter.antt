@@ -10,9 +10,9 @@ use Rattle.cells.specs.Buffer.{Buffer}
 use Rattle.cells.specs.Writes.{Write, copyWrites}
 use Rattle.cells.specs.Over.{among, each, some, firstPair}
 use Rattle.cells.specs.Effect.{Effect, unless, unlessFound, writing}
-use Rattle.channels.specs.Bits.{bit}
+use Rattle.bits.specs.Bits.{bit}
 use Rattle.plan.specs.declared.Plan.{Plan}
-use Rattle.plan.specs.Needed.{enabledBelow}
+use Rattle.payloads.specs.Needed.{enabledBelow}
 use Rattle.staging.specs.Sources.{elementValue, eitherTainted}
 
 -- the memory window: its first address and its length

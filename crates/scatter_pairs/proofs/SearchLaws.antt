@@ -9,7 +9,7 @@ use Rattle.cells.specs.Over.{amongFrom, some, firstLane, firstPair}
 use Rattle.cells.proofs.SearchLaws.{some-begun}
 use Rattle.cells.proofs.AmongLaws.{among-begun}
 use Rattle.cells.proofs.FirstLaws.{lane-turn, lane-hit, lane-over, pairs-begun, pairs-enter, pairs-off, pairs-over}
-use Rattle.channels.specs.Bits.{bit}
+use Rattle.bits.specs.Bits.{bit}
 use Rattle.staging.specs.declared.Layout.{Layout}
 use Rattle.staging.specs.mirror.Room.{eitherStaged}
 use Rattle.scatter_pairs.specs.declared.Rule.{Rule}

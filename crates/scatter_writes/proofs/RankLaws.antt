@@ -2,8 +2,8 @@
 use Prim.Native.Nat.{ℕ, _+_, _/_, _%_, _^_, _≤_}
 use mathlib.Core.Path.{_≡_, sym, ap, _∙_}
 use native.Mathlib.Omega.{arith}
-use Rattle.plan.specs.Needed.{enabledBelow}
-use Rattle.plan.proofs.ChannelLaws.{enabled-next}
+use Rattle.payloads.specs.Needed.{enabledBelow}
+use Rattle.payloads.proofs.ChannelLaws.{enabled-next}
 
 pub rank-turn : (channels k count : ℕ) → count ≡ enabledBelow channels k → count + channels / 2 ^ k % 2 ≡ enabledBelow channels (k + 1)
 rank-turn channels k count e = ap (λ (n : ℕ). n + channels / 2 ^ k % 2) e ∙ sym (enabled-next channels k)

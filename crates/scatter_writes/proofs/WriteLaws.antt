@@ -9,8 +9,8 @@ use Rattle.cells.specs.Writes.{Write, writtenAll, copyWrites}
 use Rattle.cells.specs.Over.{amongFrom, each}
 use Rattle.cells.proofs.EffectLaws.{nothing-written}
 use Rattle.cells.proofs.LaneLaws.{lanes-begun, lanes-turn}
-use Rattle.channels.specs.Bits.{bit}
-use Rattle.plan.specs.Needed.{enabledBelow}
+use Rattle.bits.specs.Bits.{bit}
+use Rattle.payloads.specs.Needed.{enabledBelow}
 use Rattle.scatter_pairs.specs.declared.Pairs.{Pairs}
 use Rattle.scatter_pairs.specs.mirror.Search.{enabledLanes, targetFrom}
 use Rattle.scatter_writes.specs.mirror.Writes.{rowPlace, pairWrites, rowWrites, allWrites}

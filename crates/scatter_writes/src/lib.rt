@@ -7,8 +7,8 @@ ghost use Prim.Native.Nat.{_-_, _≤_};
 ghost use lib.ListN.{getD};
 ghost use Rattle.cells.specs.Buffer.{buffer};
 ghost use Rattle.cells.specs.Writes.{writtenAll};
-ghost use Rattle.channels.specs.Bits.{bit};
-ghost use Rattle.plan.specs.Needed.{enabledBelow};
+ghost use Rattle.bits.specs.Bits.{bit};
+ghost use Rattle.payloads.specs.Needed.{enabledBelow};
 ghost use Rattle.scatter_writes.specs.mirror.Writes.{rowPlace, pairWrites, rowWrites, allWrites};
 
 // The number of enabled channels below one.

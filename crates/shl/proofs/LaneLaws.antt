@@ -5,8 +5,8 @@ use mathlib.Core.Bool.{Bool, true, cond}
 use mathlib.Core.List.{[]}
 use Rattle.cells.specs.Buffer.{Buffer, markOf}
 use Rattle.cells.specs.Writes.{writtenAll, numberWrites}
-use Rattle.channels.specs.Exec.{execOf}
-use Rattle.channels.specs.declared.Exec.{Exec}
+use Rattle.exec_byte.specs.Exec.{execOf}
+use Rattle.exec_byte.specs.declared.Exec.{Exec}
 use Rattle.plan.specs.declared.Plan.{Plan}
 use Rattle.staging.specs.declared.Layout.{Layout}
 use Rattle.staging.specs.mirror.Room.{layoutOf, eitherStaged}

@@ -14,7 +14,7 @@ use Rattle.cells.proofs.NumberLaws.{element-is}
 use Rattle.cells.specs.Results.{Holds}
 use Rattle.cells.proofs.RowLaws.{row, number-row}
 use Rattle.cells.proofs.NumberWriteLaws.{number-held}
-use Rattle.channels.specs.Exec.{execSize}
+use Rattle.exec_byte.specs.Exec.{execSize}
 use Rattle.shift.proofs.SpanLaws.{span-bytes}
 use Rattle.shift.proofs.ShiftLaws.{shifted-small}
 use Rattle.plan.specs.declared.Plan.{Plan}

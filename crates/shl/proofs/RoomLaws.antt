@@ -8,8 +8,8 @@ use lib.ListN.{getD}
 use borrow.Author.Tests.{leb-true}
 use Rattle.cells.specs.Buffer.{Buffer, markOf}
 use Rattle.cells.specs.Writes.{numberWrites}
-use Rattle.channels.specs.Exec.{execSize, execOf}
-use Rattle.channels.specs.declared.Exec.{Exec}
+use Rattle.exec_byte.specs.Exec.{execSize, execOf}
+use Rattle.exec_byte.specs.declared.Exec.{Exec}
 use Rattle.shift.proofs.ShiftLaws.{total-is}
 use Rattle.plan.specs.declared.Plan.{Plan}
 use Rattle.staging.specs.Sources.{elementValue}

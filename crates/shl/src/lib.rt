@@ -18,7 +18,7 @@ ghost use Rattle.shl.specs.mirror.Guarded.{shlFits, shlGuarded};
 fn fits(plan: Plan) -> bool
     ensures { λ r. ⌜ r ≡ shlFits plan ⌝ }
 {
-    let lanes = channels::split(plan.control.exec).size;
+    let lanes = exec_byte::split(plan.control.exec).size;
     let left = plan.left;
     let right = plan.right;
     staging::elements_fit(4, left, lanes)
@@ -38,7 +38,7 @@ fn shape_of(plan: Plan) -> Shape
 {
     let left = plan.left;
     let right = plan.right;
-    let lanes = channels::split(plan.control.exec).size;
+    let lanes = exec_byte::split(plan.control.exec).size;
     Shape {
         layout: staging::layout_of(left, right, lanes),
         signed: left.signed,

@@ -3,7 +3,7 @@ use Prim.Native.Nat.{ℕ}
 use mathlib.Core.Path.{_≡_, refl, ap, fun-ext}
 use mathlib.Core.Bool.{Bool}
 use Rattle.cells.specs.Over.{among}
-use Rattle.channels.specs.Exec.{execSize}
+use Rattle.exec_byte.specs.Exec.{execSize}
 use Rattle.channels.specs.Lanes.{laneOn}
 use Rattle.channels.specs.mirror.Prepared.{lanesOf, isOn}
 use Rattle.channels.proofs.LaneLaws.{on-lanes}

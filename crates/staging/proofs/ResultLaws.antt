@@ -15,7 +15,7 @@ use Rattle.cells.specs.Results.{Kept, Outside, Holds}
 use Rattle.cells.proofs.StayLaws.{writesAt, stays}
 use Rattle.cells.proofs.RowLaws.{Room, row, row-outside, row-holds, kept-holds}
 use Rattle.cells.proofs.LaneStayLaws.{lanes-outside, lane-stays}
-use Rattle.channels.specs.Exec.{execSize}
+use Rattle.exec_byte.specs.Exec.{execSize}
 use Rattle.channels.specs.Lanes.{laneOn}
 use Rattle.channels.proofs.LaneLaws.{on-below-size}
 use Rattle.plan.specs.declared.Plan.{Plan}

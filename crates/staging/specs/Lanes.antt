@@ -2,7 +2,7 @@
 use Prim.Native.Nat.{ℕ}
 use mathlib.Core.List.{List}
 use Rattle.cells.specs.Over.{among}
-use Rattle.channels.specs.Exec.{execSize}
+use Rattle.exec_byte.specs.Exec.{execSize}
 use Rattle.channels.specs.Lanes.{laneOn}
 use Rattle.plan.specs.declared.Plan.{Plan}
 

@@ -16,14 +16,14 @@ use Rattle.decoder.specs.declared.Decoded.{Decoded}
 use Rattle.decoder.specs.declared.Decoded.the-variants as decoded
 use Rattle.decoder.specs.Decoding.{instructionAt, decodedReply}
 use Rattle.decoder.proofs.ScatterLaws.{decoded-scatter}
-use Rattle.channels.specs.Exec.{execSize}
-use Rattle.tables.specs.Lengths.{chosenSize}
+use Rattle.exec_byte.specs.Exec.{execSize}
+use Rattle.lengths.specs.Lengths.{chosenSize}
 use Rattle.tables.specs.Tables.{Tables}
-use Rattle.tables.proofs.Limits.{chosen-either}
+use Rattle.lengths.proofs.Limits.{chosen-either}
 use Rattle.plan.specs.declared.Plan.{Plan}
 use Rattle.plan.specs.declared.Operation.{Operation}
 use Rattle.plan.specs.Checked.{checked}
-use Rattle.plan.proofs.ChannelLaws.{stride-at-most}
+use Rattle.payloads.proofs.ChannelLaws.{stride-at-most}
 use Rattle.plan.proofs.InstructionLaws.{plan-keeps}
 use Rattle.shl.proofs.SoundLaws as shl
 use Rattle.gather.proofs.SoundLaws as gather

@@ -10,13 +10,13 @@ use Rattle.little_endian.specs.LittleEndian.{Bytes}
 use Rattle.reader.specs.Reply as reply
 use Rattle.reader.specs.Reply.{Reply, Read, got}
 use Rattle.cells.specs.Effect.{Effect}
-use Rattle.channels.specs.Exec.{execSize}
+use Rattle.exec_byte.specs.Exec.{execSize}
 use Rattle.decoder.specs.declared.Instruction.{Instruction}
 use Rattle.decoder.specs.Decoding.{instructionAt}
 use Rattle.decoder.proofs.DecodeEncode.{refusal-not-zero}
 use Rattle.tables.specs.Tables.{tablesGood}
 use Rattle.tables.proofs.Laws.{limited}
-use Rattle.tables.proofs.Limits.{chosen-good}
+use Rattle.lengths.proofs.Limits.{chosen-good}
 use Rattle.plan.specs.declared.Plan.{Plan}
 use Rattle.plan.specs.declared.Operation.{Operation}
 use Rattle.plan.specs.declared.Operation.the-variants as operation

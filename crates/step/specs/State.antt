@@ -4,8 +4,8 @@ use Prim.Native.Nat.{ℕ}
 use mathlib.Core.List.{List}
 use lib.ListN.{length}
 use Rattle.cells.specs.Buffer.{Buffer, buffer}
-use Rattle.tables.specs.Lengths.{chosenSize}
-use Rattle.tables.specs.declared.Lengths.{Lengths}
+use Rattle.lengths.specs.Lengths.{chosenSize}
+use Rattle.lengths.specs.declared.Lengths.{Lengths}
 use Rattle.tables.specs.Tables.{Tables}
 use Rattle.step.specs.declared.Constants.{Constants}
 

@@ -6,7 +6,9 @@ use plan::Operation;
 use plan::Plan;
 ghost use mathlib.Core.Path.{_≡_};
 ghost use Rattle.tables.specs.Tables.{tables};
-ghost use Rattle.tables.specs.Borrowed.{variableTable, predicateTable, surfaceTable};
+ghost use Rattle.tables.specs.Borrowed.{variableTable};
+ghost use Rattle.predicate_table.specs.Borrowed.{predicateTable};
+ghost use Rattle.surface_table.specs.Borrowed.{surfaceTable};
 ghost use Rattle.step.specs.State.{setup};
 ghost use Rattle.step.specs.Borrowed.{lent};
 ghost use Rattle.step.specs.Step.{planEffect, stepAt, after};
@@ -111,7 +113,7 @@ pub fn step(
     match decoder::decode(kernel, at) {
         Decoded::Accepted(instruction, cursor) => {
             let plan = plan::check(
-                tables::chosen_size(constants.register_size),
+                lengths::chosen_size(constants.register_size),
                 types,
                 starts,
                 counts,

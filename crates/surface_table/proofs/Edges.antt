@@ -4,7 +4,7 @@ use mathlib.Core.Bool.{Bool, true, false}
 use mathlib.Core.List.{List, [], _∷_}
 use Prim.Native.Nat.{ℕ}
 use lib.ListN.{replicate}
-use Rattle.channels.specs.Below.{everyBelow}
+use Rattle.bits.specs.Below.{everyBelow}
 use Rattle.surface_table.specs.Surfaces.{surfaces, surfaceLength, surfaceStart, surfaceGoodAt, surfacesGood}
 
 surfacesIn : ℕ → List ℕ → Bool

@@ -9,10 +9,10 @@ use lib.Dec.{leb, eqb}
 use lib.ListN.{length, getD}
 use borrow.Author.Tests.{leb-true, eqb-true}
 use borrow.Author.Count.{below-more}
-use Rattle.channels.specs.Below.{everyBelow}
+use Rattle.bits.specs.Below.{everyBelow}
 use Rattle.surface_table.specs.Surfaces.{Surfaces, surfaceLength, surfaceStart, surfaceGoodAt, surfacesGood}
-use Rattle.channels.proofs.All.{All3, all3}
-use Rattle.channels.proofs.Every.{every-each}
+use Rattle.bits.proofs.All.{All3, all3}
+use Rattle.bits.proofs.Every.{every-each}
 
 -- a surface ends where a later one begins, or before
 pub ends-before : (t : Surfaces) (n k : ℕ) → k < n → surfaceStart t k + surfaceLength t k ≤ surfaceStart t n

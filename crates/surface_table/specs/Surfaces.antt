@@ -4,7 +4,7 @@ use mathlib.Core.Bool.{Bool, _&&_}
 use mathlib.Core.List.{List}
 use lib.Dec.{leb, eqb}
 use lib.ListN.{length, getD}
-use Rattle.channels.specs.Below.{everyBelow}
+use Rattle.bits.specs.Below.{everyBelow}
 
 pub record Surfaces : Type 0 where
   pub lengths : List ℕ

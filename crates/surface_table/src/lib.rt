@@ -1,7 +1,7 @@
 // The table of surfaces: what it must satisfy before a run begins (refusal 13), and where a surface lies.
 ghost use mathlib.Core.Path.{_≡_};
 ghost use lib.ListN.{length};
-ghost use Rattle.channels.specs.Below.{everyBelow};
+ghost use Rattle.bits.specs.Below.{everyBelow};
 ghost use Rattle.surface_table.specs.Surfaces.{surfaceLength, surfaceStart, surfaceGoodAt, surfacesGood};
 ghost use Rattle.surface_table.specs.Borrowed.{surfaceTable};
 

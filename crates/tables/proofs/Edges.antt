@@ -9,7 +9,7 @@ use Rattle.element_types.specs.Types.{UD, UW, UB, F, UQ, sizeOf, isListed}
 use Rattle.element_types.proofs.Sizes.{sizes, size-listed, unlisted}
 use Rattle.lengths.specs.declared.Lengths.{Lengths}
 use Rattle.lengths.specs.Lengths.{registerSizeGood, registersGood, addressesGood, taintGood, lengthsGood}
-use Rattle.channels.specs.Below.{everyBelow}
+use Rattle.bits.specs.Below.{everyBelow}
 use Rattle.tables.specs.Variables.{Variables, variables, lineGood, variableGood, variableGoodAt, variablesGood}
 use Rattle.predicate_table.specs.Predicates.{predicates, countGood, countGoodAt, predicatesGood}
 use Rattle.surface_table.specs.Surfaces.{surfaces, surfaceLength, surfaceStart, surfaceGoodAt, surfacesGood}

@@ -9,7 +9,7 @@ use Rattle.tables.specs.Variables.{variablesGood}
 use Rattle.predicate_table.specs.Predicates.{predicatesGood}
 use Rattle.surface_table.specs.Surfaces.{surfaceLength, surfaceStart, surfacesGood}
 use Rattle.tables.specs.Tables.{Tables, tablesGood}
-use Rattle.channels.proofs.All.{All4, all4}
+use Rattle.bits.proofs.All.{All4, all4}
 use Rattle.lengths.proofs.Limits.{Limited, lengths-limited}
 use Rattle.tables.proofs.Placement as placement
 use Rattle.tables.proofs.Placement.{Placed}

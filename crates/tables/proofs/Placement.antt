@@ -7,10 +7,10 @@ use lib.ListN.{length, getD}
 use borrow.Author.Tests.{leb-true, eqb-true, le-leb, lt-leb}
 use Rattle.element_types.specs.Types.{sizeOf, isListed}
 use Rattle.element_types.proofs.Sizes.{listed-size}
-use Rattle.channels.specs.Below.{everyBelow}
+use Rattle.bits.specs.Below.{everyBelow}
 use Rattle.tables.specs.Variables.{Variables, lineGood, variableGood, variableGoodAt, variablesGood}
-use Rattle.channels.proofs.All.{All4, left, right, all4}
-use Rattle.channels.proofs.Every.{every-each}
+use Rattle.bits.proofs.All.{All4, left, right, all4}
+use Rattle.bits.proofs.Every.{every-each}
 
 pub record Placed (registerSize registers code start count : ℕ) : Type 0 where
   pub listed : isListed code ≡ true

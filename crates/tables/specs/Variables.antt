@@ -6,7 +6,7 @@ use mathlib.Core.List.{List}
 use lib.Dec.{leb, eqb}
 use lib.ListN.{length, getD}
 use Rattle.element_types.specs.Types.{sizeOf, isListed}
-use Rattle.channels.specs.Below.{everyBelow}
+use Rattle.bits.specs.Below.{everyBelow}
 
 -- variable k has the k-th type, start byte and element count
 pub record Variables : Type 0 where

@@ -3,7 +3,7 @@ use lengths::Lengths;
 ghost use mathlib.Core.Path.{_≡_};
 ghost use Prim.Native.Nat.{_+_, _<_, _≤_};
 ghost use lib.ListN.{length};
-ghost use Rattle.channels.specs.Below.{everyBelow};
+ghost use Rattle.bits.specs.Below.{everyBelow};
 ghost use Rattle.tables.specs.Variables.{lineGood, variableGood, variableGoodAt, variablesGood};
 ghost use Rattle.tables.specs.Tables.{tables, tablesGood};
 ghost use Rattle.tables.specs.Borrowed.{variableTable};

@@ -11,9 +11,9 @@ use Rattle.little_endian.specs.LittleEndian.{Bytes}
 use Rattle.little_endian.proofs.Parts.{bytes-before}
 use Rattle.hex.specs.Storing.{fits, stored}
 use Rattle.formats.specs.Format.{through}
-use Rattle.formats.specs.Writing.{wrote, written}
+use Rattle.format_writers.specs.Writing.{wrote, written}
 use Rattle.formats.proofs.Tests.{cond-then}
-use Rattle.formats.proofs.WritingLaws.{wrote-text}
+use Rattle.format_writers.proofs.WritingLaws.{wrote-text}
 use Rattle.part_writers.proofs.WholeLaws.{whole-text, whole-not}
 use Rattle.reader.specs.Reply.{Reply, refused, done, onReply}
 use Rattle.decoder.specs.declared.Instruction.{Instruction}

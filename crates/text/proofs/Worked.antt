@@ -7,20 +7,22 @@ use Rattle.little_endian.specs.LittleEndian.{bytesOf}
 use Rattle.element_types.specs.Types.{sizeOf, isListed, hasHighWord}
 use Rattle.hex.specs.Digits.{characterOf}
 use Rattle.reader.specs.Reply.{Reply, refused, done, onReply}
-use Rattle.channels.specs.Bits.{bit, bitField}
-use Rattle.channels.specs.Exec.{execReserved, execSize, maskControl, maskNumber, noMask}
-use Rattle.channels.specs.Predicate.{hasPredicate, predicateCombine, predicateReserved}
+use Rattle.bits.specs.Bits.{bit, bitField}
+use Rattle.exec_byte.specs.Exec.{execReserved, execSize, maskControl, maskNumber, noMask}
+use Rattle.predicate_field.specs.Predicate.{hasPredicate, predicateCombine, predicateReserved}
 use Rattle.fields.specs.Rules.{judged, execGood, predicateGood, regionGood, classGood, tagGood, tagRefusal, byteRefusal, wordRefusal}
 use Rattle.fields.specs.Layout.{fieldBytes, fieldRefusal, layoutBytes, layoutRefusal}
-use Rattle.field_groups.specs.Layout.{controlFields, highField, operandFields}
-use Rattle.field_groups.specs.declared.Operand.{Operand}
-use Rattle.field_groups.specs.declared.Operand.the-variants as operand
+use Rattle.field_groups.specs.Layout.{controlFields}
+use Rattle.operand_fields.specs.Layout.{highField, operandFields}
+use Rattle.operand_fields.specs.declared.Operand.{Operand}
+use Rattle.operand_fields.specs.declared.Operand.the-variants as operand
 use Rattle.decoder.specs.declared.Instruction.{Instruction}
 use Rattle.decoder.specs.declared.Instruction.the-variants as instruction
 use Rattle.decoder.specs.Format.{shlFields, instructionFields, instructionBytes, instructionRefusal}
 use Rattle.formats.specs.Text.{text}
 use Rattle.formats.specs.Numerals.{digits}
-use Rattle.text_parts.specs.Texts.{predicateText, execText, typeText, immediateText}
+use Rattle.control_texts.specs.Texts.{predicateText, execText}
+use Rattle.text_parts.specs.Texts.{typeText, immediateText}
 use Rattle.operand_texts.specs.Texts.{codeText, regionText, destinationRegionText, generalText, operandText, destinationText}
 use Rattle.lines.specs.LineOf.{shlLine, lineOf}
 use Rattle.lines.specs.Reading.{Reading, isLine, noLine, onReading}

@@ -10,8 +10,8 @@ use Rattle.formats.specs.Numbers.{number}
 use Rattle.formats.specs.Whole.{whole}
 use Rattle.formats.specs.mirror.Scan.{common, better, scan, chosen, wordIn}
 use Rattle.formats.specs.mirror.Digits.{valueOf, goesOn, moreDigits, begins, numberIn}
-use Rattle.field_groups.specs.declared.Raw.{Raw}
-use Rattle.field_groups.specs.declared.Immediate.{Immediate}
+use Rattle.operand_fields.specs.declared.Raw.{Raw}
+use Rattle.operand_fields.specs.declared.Immediate.{Immediate}
 use Rattle.text_parts.specs.mirror.Fields.{decimal, hexadecimal}
 use Rattle.text_parts.specs.mirror.Raw.{rawParts, raw}
 use Rattle.text_parts.specs.mirror.Immediate.{typeBehind, codeAt, immediateParts, immediate}

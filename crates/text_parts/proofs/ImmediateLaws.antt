@@ -20,7 +20,7 @@ use Rattle.formats.proofs.TableTests.{sound, opens, size, table-under}
 use Rattle.formats.proofs.WordLaws.{table-lawful, begins-table}
 use Rattle.formats.proofs.NumberLaws.{number-lawful, number-under}
 use Rattle.element_types.specs.Types.{sizeOf, isListed, hasHighWord}
-use Rattle.field_groups.specs.declared.Immediate.{Immediate}
+use Rattle.operand_fields.specs.declared.Immediate.{Immediate}
 use Rattle.text_parts.specs.mirror.Immediate.{types, wideTypes, typeBehind, codeAt, placeOf, immediateTo, immediateFrom, immediateParts, immediateFits, immediate}
 use Rattle.formats.proofs.PartLaws.{in-table, in-range}
 

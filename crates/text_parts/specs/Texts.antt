@@ -6,8 +6,8 @@ use lib.Dec.{eqb}
 use Rattle.formats.specs.Text.{text}
 use Rattle.formats.specs.Numerals.{digitsOf}
 use Rattle.element_types.specs.Types.{UD, D, UW, W, UB, B, F, UQ}
-use Rattle.field_groups.specs.declared.Raw.{Raw}
-use Rattle.field_groups.specs.declared.Immediate.{Immediate}
+use Rattle.operand_fields.specs.declared.Raw.{Raw}
+use Rattle.operand_fields.specs.declared.Immediate.{Immediate}
 
 -- `v1.8`
 unfoldable pub rawText : Raw → List ℕ

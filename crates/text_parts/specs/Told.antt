@@ -1,7 +1,7 @@
 -- What the answers of the parts tell: a value with the position past its text, or the position at which reading stops.
 use Rattle.formats.specs.Format.{Out, got, stop}
-use Rattle.field_groups.specs.declared.Raw.{Raw}
-use Rattle.field_groups.specs.declared.Immediate.{Immediate}
+use Rattle.operand_fields.specs.declared.Raw.{Raw}
+use Rattle.operand_fields.specs.declared.Immediate.{Immediate}
 use Rattle.text_parts.specs.declared.RawRead.{RawRead}
 use Rattle.text_parts.specs.declared.RawRead.the-variants as raw
 use Rattle.text_parts.specs.declared.ImmediateRead.{ImmediateRead}

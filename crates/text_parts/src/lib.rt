@@ -1,9 +1,9 @@
 // Parts of an instruction's line, read from a text: numbers, raw operand, immediate.
-use field_groups::Immediate;
-use field_groups::Raw;
 use formats::Base;
 use formats::Cursor;
 use formats::NumberRead;
+use operand_fields::Immediate;
+use operand_fields::Raw;
 ghost use mathlib.Core.Path.{_≡_};
 ghost use Prim.Native.Nat.{_/_, _%_, _≤_, _<_};
 ghost use Rattle.formats.specs.Told.{told};

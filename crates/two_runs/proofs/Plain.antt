@@ -9,7 +9,7 @@ use lib.ListN.{length, getD, replicate, length-replicate}
 use Rattle.cells.specs.Buffer.{Buffer}
 use Rattle.cells.proofs.Plain.{Plainly, bytes-same}
 use Rattle.tables.specs.Tables.{tablesGood}
-use Rattle.tables.proofs.Limits.{Limited}
+use Rattle.lengths.proofs.Limits.{Limited}
 use Rattle.tables.proofs.Laws.{limited}
 use Rattle.step.specs.State.{Setup, State, lengthsOf}
 use Rattle.step.specs.Step.{stepAt, after}

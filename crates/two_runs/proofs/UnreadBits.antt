@@ -14,13 +14,13 @@ use Rattle.cells.specs.Over.{among}
 use Rattle.cells.specs.Effect.{Effect, unless}
 use Rattle.reader.specs.Reply as reply
 use Rattle.reader.specs.Reply.{Reply, Read}
-use Rattle.channels.specs.Bits.{bit}
-use Rattle.channels.specs.Exec.{execSize}
-use Rattle.channels.specs.Predicate.{hasPredicate, predicateId}
+use Rattle.bits.specs.Bits.{bit}
+use Rattle.exec_byte.specs.Exec.{execSize}
+use Rattle.predicate_field.specs.Predicate.{hasPredicate, predicateId}
 use Rattle.channels.specs.Lanes.{laneOn}
 use Rattle.channels.proofs.ReadBits.{lane-alike}
-use Rattle.tables.specs.Predicates.{Predicates, predicateAt, predicatesGood}
-use Rattle.tables.specs.Surfaces.{Surfaces}
+use Rattle.predicate_table.specs.Predicates.{Predicates, predicateAt, predicatesGood}
+use Rattle.surface_table.specs.Surfaces.{Surfaces}
 use Rattle.tables.specs.Tables.{Tables, tables, tablesGood}
 use Rattle.field_groups.specs.declared.Control.{Control}
 use Rattle.decoder.specs.declared.Instruction.{Instruction}

@@ -4,8 +4,8 @@ use mathlib.Core.Path.{_≡_}
 use Prim.Native.Nat.{ℕ, _<_}
 use lib.ListN.{length, getD}
 use Rattle.cells.specs.Buffer.{Buffer}
-use Rattle.channels.specs.Bits.{bit}
-use Rattle.tables.specs.Predicates.{Predicates}
+use Rattle.bits.specs.Bits.{bit}
+use Rattle.predicate_table.specs.Predicates.{Predicates}
 use Rattle.step.specs.State.{Setup, State}
 use Rattle.run.specs.Run.{Outcome, run}
 

@@ -10,10 +10,10 @@ use Rattle.formats.specs.Text.{text}
 use Rattle.formats.specs.Words.{words, wordAt}
 use Rattle.formats.specs.Numerals.{digitsOf}
 use Rattle.formats.specs.Numbers.{number}
-use Rattle.formats.specs.Writing.{wrote, written}
+use Rattle.format_writers.specs.Writing.{wrote, written}
 use Rattle.formats.proofs.Tests.{both}
 use Rattle.formats.proofs.ShortLaws.{short-number, digits-most}
-use Rattle.formats.proofs.WritingLaws.{wrote-then}
+use Rattle.format_writers.proofs.WritingLaws.{wrote-then}
 use Rattle.details.specs.declared.Detail.{Detail}
 use Rattle.details.specs.declared.Detail.the-variants as detail
 use Rattle.verdict_line.specs.VerdictLine.{detailText, verdictLine}

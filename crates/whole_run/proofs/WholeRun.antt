@@ -5,7 +5,7 @@ use Prim.Native.Nat.{ℕ, zero, suc, _<_}
 use native.Mathlib.Omega.{arith}
 use lib.ListN.{length}
 use Rattle.little_endian.specs.LittleEndian.{Bytes}
-use Rattle.tables.specs.declared.Lengths.{Lengths}
+use Rattle.lengths.specs.declared.Lengths.{Lengths}
 use Rattle.tables.specs.Tables.{tablesGood}
 use Rattle.step.specs.State.{Setup, State, lengthsOf}
 use Rattle.step.specs.Step.{stepAt, after}

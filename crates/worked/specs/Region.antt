@@ -1,7 +1,7 @@
 -- How far a region of UW elements reaches from byte 0 on.
 use Prim.Native.Nat.{ℕ, _+_, _*_, _-_, _/_}
-use Rattle.field_groups.specs.declared.General.{General}
-use Rattle.regions.specs.declared.Role.the-variants as role
+use Rattle.operand_fields.specs.declared.General.{General}
+use Rattle.region_rules.specs.declared.Role.the-variants as role
 use Rattle.regions.specs.Regions.{elementOf}
 use Rattle.regions.specs.Reach.{lowest, highest}
 

@@ -2,11 +2,11 @@
 -- bits and counts of the predicates, and lengths of the surfaces.
 use mathlib.Core.List.{List, [], _∷_}
 use Rattle.tables.specs.Variables.{variables}
-use Rattle.tables.specs.Predicates.{predicates}
-use Rattle.tables.specs.Surfaces.{surfaces}
+use Rattle.predicate_table.specs.Predicates.{predicates}
+use Rattle.surface_table.specs.Surfaces.{surfaces}
 use Rattle.tables.specs.Tables.{tables}
-use Rattle.channels.specs.Exec.{execSize, execOffset}
-use Rattle.channels.specs.Predicate.{predicateId}
+use Rattle.exec_byte.specs.Exec.{execSize, execOffset}
+use Rattle.predicate_field.specs.Predicate.{predicateId}
 use Rattle.worked.specs.Region.{wordRegion, lastByte, registersTouched}
 use Rattle.worked.specs.Case.{hex, zeros, Row, is, runs, overRegisters, completes, refuses}
 

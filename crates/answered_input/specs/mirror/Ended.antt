@@ -2,7 +2,7 @@
 use mathlib.Core.Bool.{Bool, cond}
 use mathlib.Core.List.{List, []}
 use Prim.Native.Nat.{ℕ}
-use Rattle.frames.specs.mirror.Reading.{Reading}
+use Rattle.tally.specs.mirror.Reading.{Reading}
 use Rattle.answering.specs.declared.Form.{Form}
 use Rattle.answering.specs.mirror.Bench.{caseOutput}
 

@@ -5,9 +5,9 @@ use mathlib.Core.Bool.{cond}
 use mathlib.Core.List.{List}
 use lib.Dec.{ltb}
 use lib.ListN.{replicate}
-use Rattle.frames.specs.mirror.Reading.{Reading, reading, contents, tables}
-use Rattle.frames.specs.mirror.Lines.{nothing}
-use Rattle.frames.specs.mirror.Verdicts.{verdictOf}
+use Rattle.tally.specs.mirror.Reading.{Reading, reading, contents, tables}
+use Rattle.tally.specs.mirror.Lines.{nothing}
+use Rattle.tally.specs.mirror.Verdicts.{verdictOf}
 use Rattle.feeding.specs.mirror.Text.{textRead}
 use Rattle.run.specs.Run.{run}
 use Rattle.answering.specs.declared.Form.{Form}

@@ -5,13 +5,13 @@ use mathlib.Core.List.{List}
 use lib.Dec.{ltb}
 use lib.ListN.{take, replicate}
 use Rattle.tables.specs.Variables.{variables}
-use Rattle.tables.specs.Predicates.{predicates}
-use Rattle.tables.specs.Surfaces.{surfaces}
+use Rattle.predicate_table.specs.Predicates.{predicates}
+use Rattle.surface_table.specs.Surfaces.{surfaces}
 use Rattle.tables.specs.Tables.{tables}
-use Rattle.frames.specs.declared.Case.{Case}
-use Rattle.frames.specs.mirror.Reading.{Contents, Tables}
-use Rattle.frames.specs.mirror.Lines.{metOf, lengthOf}
-use Rattle.frames.specs.mirror.Verdicts.{taintLength}
+use Rattle.tally.specs.declared.Case.{Case}
+use Rattle.tally.specs.mirror.Reading.{Contents, Tables}
+use Rattle.tally.specs.mirror.Lines.{metOf, lengthOf}
+use Rattle.tally.specs.mirror.Verdicts.{taintLength}
 use Rattle.step.specs.State.{Setup, setup, State, state}
 
 -- what does not change: each buffer up to where its frames filled it

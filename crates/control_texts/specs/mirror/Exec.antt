@@ -7,8 +7,8 @@ use Rattle.formats.specs.Text.{text}
 use Rattle.formats.specs.Format.{Format, pair, through}
 use Rattle.formats.specs.Words.{table, before}
 use Rattle.formats.specs.Numbers.{number}
-use Rattle.channels.specs.declared.Exec.{Exec}
-use Rattle.channels.specs.Exec.{execSize, execOf}
+use Rattle.exec_byte.specs.declared.Exec.{Exec}
+use Rattle.exec_byte.specs.Exec.{execSize, execOf}
 use Rattle.fields.specs.Rules.{execGood, scatterExecGood}
 
 abbrev pub maskEndings : List ℕ

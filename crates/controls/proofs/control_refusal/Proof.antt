@@ -3,7 +3,7 @@ use mathlib.Core.Path.{_≡_, sym, _∙_}
 use mathlib.Core.Bool.{true, false}
 use borrow.Author.Needs.{needs}
 use borrow.Author.Tests.{lt-ltb, le-ltb}
-use Rattle.channels.specs.Predicate.{hasPredicate}
+use Rattle.predicate_field.specs.Predicate.{hasPredicate}
 use Rattle.controls.specs.Control.{controlRefusal}
 use Rattle.controls.proofs.control_refusal.Statement.{statement}
 use Rattle.controls.proofs.control_refusal.Tie as tie

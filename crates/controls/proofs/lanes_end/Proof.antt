@@ -1,7 +1,7 @@
 -- `controls::lanes_end` meets its contract: the sum of the two parts that `split` gives.
 use mathlib.Core.Path.{ap}
 use borrow.Author.Needs.{needs}
-use Rattle.channels.specs.declared.Exec.{Exec}
+use Rattle.exec_byte.specs.declared.Exec.{Exec}
 use Rattle.controls.proofs.lanes_end.Statement.{statement}
 use Rattle.controls.proofs.lanes_end.Tie as tie
 

@@ -1,5 +1,5 @@
 -- `encoder::high_field` meets its contract: each branch is a case of `highField`.
-use Rattle.field_groups.proofs.LayoutLaws.{high-field}
+use Rattle.operand_fields.proofs.LayoutLaws.{high-field}
 use borrow.Author.Needs.{needs}
 use Rattle.encoder.specs.mirror.Draft.{}
 use Rattle.encoder.proofs.high_field.Statement.{statement}

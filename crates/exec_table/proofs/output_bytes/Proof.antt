@@ -2,7 +2,7 @@
 use borrow.Author.Needs.{needs}
 use mathlib.Core.Path.{sym}
 use lib.Seq.{length-take-le}
-use Rattle.formats.proofs.WritingLaws.{wrote-inside}
+use Rattle.format_writers.proofs.WritingLaws.{wrote-inside}
 use Rattle.exec_table.proofs.LineLaws.{table-written}
 use Rattle.exec_table.proofs.output_bytes.Statement.{statement}
 use Rattle.exec_table.proofs.output_bytes.Tie as tie

@@ -1,6 +1,6 @@
 -- `exec_table::put_entry` meets its contract: its pieces are written one after another.
 use borrow.Author.Needs.{needs}
-use Rattle.formats.proofs.WritingLaws.{wrote-three}
+use Rattle.format_writers.proofs.WritingLaws.{wrote-three}
 use Rattle.exec_table.proofs.LineLaws.{entry-text}
 use Rattle.exec_table.proofs.put_entry.Statement.{statement}
 use Rattle.exec_table.proofs.put_entry.Tie as tie

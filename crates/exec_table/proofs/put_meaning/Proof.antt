@@ -1,8 +1,8 @@
 -- `exec_table::put_meaning` meets its contract: its pieces are written one after another.
 use borrow.Author.Needs.{needs}
 use mathlib.Core.Path.{_∙_, ap, sym}
-use Rattle.formats.specs.Writing.{written}
-use Rattle.formats.proofs.WritingLaws.{wrote-four}
+use Rattle.format_writers.specs.Writing.{written}
+use Rattle.format_writers.proofs.WritingLaws.{wrote-four}
 use Rattle.exec_table.proofs.LineLaws.{reserved-text, unmasked-text, masked-text}
 use Rattle.exec_table.proofs.put_meaning.Statement.{statement}
 use Rattle.exec_table.proofs.put_meaning.Tie as tie

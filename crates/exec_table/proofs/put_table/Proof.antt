@@ -4,7 +4,7 @@ use Prim.Native.Nat.{_-_, _≤_}
 use native.Mathlib.Omega.{arith}
 use borrow.Author.Needs.{needs}
 use lib.ListN.{length}
-use Rattle.formats.specs.Writing.{wrote, written}
+use Rattle.format_writers.specs.Writing.{wrote, written}
 use Rattle.exec_table.specs.ExecLines.{linesBelow}
 use Rattle.exec_table.proofs.LineLaws.{no-lines, one-more-line, all-lines}
 use Rattle.exec_table.proofs.put_table.Statement.{statement}

@@ -1,7 +1,7 @@
 -- `feeding::feed` meets its contract. The invariant: the bytes before i are fed.
 use Prim.Native.Nat.{_-_}
 use lib.ListN.{length}
-use Rattle.frames.specs.mirror.Reading.{contents, tables}
+use Rattle.tally.specs.mirror.Reading.{contents, tables}
 use Rattle.feeding.specs.mirror.Feeding.{state, machine}
 use Rattle.feeding.proofs.FeedingLaws.{next-fits, end-nearer, on-nearer, Fed, none-fed, part-more, line-more, all-fed}
 use Rattle.line_blocks.proofs.PartLaws.{part-ends, part-inside, part-after}

@@ -4,9 +4,9 @@ use mathlib.Core.Bool.{Bool, true, false, cond}
 use mathlib.Core.List.{List, [], _∷_}
 use lib.ListN.{take}
 use lib.Dec.{ltb, eqb}
-use Rattle.frames.specs.declared.Case.{Case}
-use Rattle.frames.specs.mirror.Reading.{Contents, Tables, Reading, reading, only}
-use Rattle.frames.specs.mirror.Lines.{nothing, longLine}
+use Rattle.tally.specs.declared.Case.{Case}
+use Rattle.tally.specs.mirror.Reading.{Contents, Tables, Reading, reading, only}
+use Rattle.tally.specs.mirror.Lines.{nothing, longLine}
 use Rattle.frames.specs.mirror.Frames.{lineRead}
 use Rattle.line_blocks.specs.mirror.Rows.{Row, row, isBegun, pushed}
 use Rattle.feeding.specs.declared.State.{State}

@@ -4,8 +4,8 @@ use mathlib.Core.Bool.{cond}
 use mathlib.Core.List.{List, [], _∷_}
 use lib.Dec.{leb}
 use lib.ListN.{length}
-use Rattle.frames.specs.mirror.Reading.{Reading, only}
-use Rattle.frames.specs.mirror.Lines.{longLine}
+use Rattle.tally.specs.mirror.Reading.{Reading, only}
+use Rattle.tally.specs.mirror.Lines.{longLine}
 use Rattle.frames.specs.mirror.Frames.{lineRead}
 use Rattle.line_blocks.specs.LinesOf.{linesOf}
 

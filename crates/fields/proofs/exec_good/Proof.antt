@@ -1,7 +1,7 @@
 -- `fields::exec_good` meets its contract: the part `reserved` of the exec byte decides.
 use mathlib.Core.Path.{ap}
 use borrow.Author.Needs.{needs}
-use Rattle.channels.specs.declared.Exec.{Exec}
+use Rattle.exec_byte.specs.declared.Exec.{Exec}
 use Rattle.fields.specs.Rules.{execGood}
 use Rattle.fields.proofs.exec_good.Statement.{statement}
 use Rattle.fields.proofs.exec_good.Tie as tie

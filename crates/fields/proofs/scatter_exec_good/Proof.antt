@@ -2,7 +2,7 @@
 use mathlib.Core.Path.{ap}
 use borrow.Author.Needs.{needs}
 use borrow.Author.Tests.{eq-eqb, ne-eqb}
-use Rattle.channels.specs.declared.Exec.{Exec}
+use Rattle.exec_byte.specs.declared.Exec.{Exec}
 use Rattle.fields.specs.Rules.{execGood, scatterExecGood}
 use Rattle.fields.proofs.scatter_exec_good.Statement.{statement}
 use Rattle.fields.proofs.scatter_exec_good.Tie as tie

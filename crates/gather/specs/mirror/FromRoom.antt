@@ -6,7 +6,7 @@ use lib.ListN.{getD}
 use Rattle.cells.specs.Buffer.{Buffer, markOf}
 use Rattle.cells.specs.Element.{element}
 use Rattle.cells.specs.Writes.{Write, numberWrites, copyWrites}
-use Rattle.channels.specs.Exec.{execSize}
+use Rattle.exec_byte.specs.Exec.{execSize}
 use Rattle.plan.specs.declared.Plan.{Plan}
 use Rattle.staging.specs.declared.Layout.{Layout}
 use Rattle.staging.specs.mirror.Room.{layoutOf, firstNumber, secondNumber, eitherStaged}

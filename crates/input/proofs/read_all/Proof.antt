@@ -5,7 +5,7 @@ use lib.ListN.{length, length-replicate}
 use mir.Syntax.{w64}
 use mir.Val.{toZ, ofZ}
 use Rattle.libc.specs.Io.{Moved}
-use Rattle.frames.specs.mirror.Reading.{contents, tables}
+use Rattle.tally.specs.mirror.Reading.{contents, tables}
 use Rattle.feeding.specs.mirror.Feeding.{machine, fresh}
 use Rattle.input.proofs.ReadsLaws.{SoFar, none-read, call-more, call-last, none-left, moved-after, turn-less}
 use Rattle.input.proofs.read_all.Statement.{statement}

@@ -1,7 +1,7 @@
 -- `line_writers::put_destination_region` meets its contract: V, W and H, or H alone.
 use mathlib.Core.Path.{sym, ap, _∙_}
-use Rattle.formats.specs.Writing.{written}
-use Rattle.formats.proofs.WritingLaws.{wrote-three}
+use Rattle.format_writers.specs.Writing.{written}
+use Rattle.format_writers.proofs.WritingLaws.{wrote-three}
 use Rattle.line_writers.proofs.TextLaws.{destination-region-alone, destination-region-full}
 use borrow.Author.Needs.{needs}
 use Rattle.line_writers.proofs.put_destination_region.Statement.{statement}

@@ -1,5 +1,5 @@
 -- `line_writers::put_gather` meets its contract: its pieces are written one after another.
-use Rattle.formats.proofs.WritingLaws.{wrote-five}
+use Rattle.format_writers.proofs.WritingLaws.{wrote-five}
 use Rattle.line_writers.proofs.TextLaws.{gather-text}
 use borrow.Author.Needs.{needs}
 use Rattle.line_writers.proofs.put_gather.Statement.{statement}

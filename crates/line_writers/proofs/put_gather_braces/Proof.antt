@@ -1,7 +1,7 @@
 -- `line_writers::put_gather_braces` meets its contract: nothing where both are 0, else three pieces.
 use mathlib.Core.Path.{sym, ap, _∙_}
-use Rattle.formats.specs.Writing.{written}
-use Rattle.formats.proofs.WritingLaws.{wrote-three}
+use Rattle.format_writers.specs.Writing.{written}
+use Rattle.format_writers.proofs.WritingLaws.{wrote-three}
 use Rattle.line_writers.proofs.TextLaws.{no-gather-braces, gather-braces}
 use borrow.Author.Needs.{needs}
 use Rattle.line_writers.proofs.put_gather_braces.Statement.{statement}

@@ -1,5 +1,5 @@
 -- `line_writers::put_line` meets its contract: the variant is known, and its line is an opening and a body.
-use Rattle.formats.proofs.WritingLaws.{wrote-two}
+use Rattle.format_writers.proofs.WritingLaws.{wrote-two}
 use Rattle.line_writers.proofs.TextLaws.{shl-line, gather-line, scatter-line, raw-send-line}
 use borrow.Author.Needs.{needs}
 use Rattle.line_writers.proofs.put_line.Statement.{statement}

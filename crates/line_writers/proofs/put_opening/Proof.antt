@@ -1,6 +1,6 @@
 -- `line_writers::put_opening` meets its contract: its pieces are written one after another.
 use mathlib.Core.Path.{refl}
-use Rattle.formats.proofs.WritingLaws.{wrote-two}
+use Rattle.format_writers.proofs.WritingLaws.{wrote-two}
 use borrow.Author.Needs.{needs}
 use Rattle.line_writers.proofs.put_opening.Statement.{statement}
 use Rattle.line_writers.proofs.put_opening.Tie as tie

@@ -1,5 +1,5 @@
 -- `line_writers::put_scalar_and_raws` meets its contract: its pieces are written one after another.
-use Rattle.formats.proofs.WritingLaws.{wrote-then, wrote-three}
+use Rattle.format_writers.proofs.WritingLaws.{wrote-then, wrote-three}
 use Rattle.line_writers.proofs.TextLaws.{scalar-and-raws-text}
 use borrow.Author.Needs.{needs}
 use Rattle.line_writers.proofs.put_scalar_and_raws.Statement.{statement}

@@ -1,7 +1,7 @@
 -- `line_writers::put_scatter_braces` meets its contract: nothing for 0, else two pieces.
 use mathlib.Core.Path.{sym, ap, _∙_}
-use Rattle.formats.specs.Writing.{written}
-use Rattle.formats.proofs.WritingLaws.{wrote-two}
+use Rattle.format_writers.specs.Writing.{written}
+use Rattle.format_writers.proofs.WritingLaws.{wrote-two}
 use Rattle.line_writers.proofs.TextLaws.{no-scatter-braces, scatter-braces}
 use borrow.Author.Needs.{needs}
 use Rattle.line_writers.proofs.put_scatter_braces.Statement.{statement}

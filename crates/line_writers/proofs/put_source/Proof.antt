@@ -1,5 +1,5 @@
 -- `line_writers::put_source` meets its contract: its form is known, and the pieces of that are written one after another.
-use Rattle.formats.proofs.WritingLaws.{wrote-two}
+use Rattle.format_writers.proofs.WritingLaws.{wrote-two}
 use Rattle.line_writers.proofs.TextLaws.{source-general, source-immediate}
 use borrow.Author.Needs.{needs}
 use Rattle.line_writers.proofs.put_source.Statement.{statement}

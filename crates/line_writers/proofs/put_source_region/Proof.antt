@@ -1,5 +1,5 @@
 -- `line_writers::put_source_region` meets its contract: its pieces are written one after another.
-use Rattle.formats.proofs.WritingLaws.{wrote-three}
+use Rattle.format_writers.proofs.WritingLaws.{wrote-three}
 use Rattle.line_writers.proofs.TextLaws.{source-region-text}
 use borrow.Author.Needs.{needs}
 use Rattle.line_writers.proofs.put_source_region.Statement.{statement}

@@ -7,12 +7,12 @@ use Rattle.formats.specs.Text.{text}
 use Rattle.formats.specs.Format.{Format, pair, through}
 use Rattle.formats.specs.Words.{table, before, after}
 use Rattle.fields.specs.Rules.{channelsGood, sourceCountGood}
-use Rattle.field_groups.specs.declared.Raw.{Raw}
-use Rattle.field_groups.specs.declared.Operand.{Operand}
-use Rattle.field_groups.specs.declared.Operand.the-variants as operand
+use Rattle.operand_fields.specs.declared.Raw.{Raw}
+use Rattle.operand_fields.specs.declared.Operand.{Operand}
+use Rattle.operand_fields.specs.declared.Operand.the-variants as operand
 use Rattle.decoder.specs.declared.Instruction.{Instruction}
 use Rattle.decoder.specs.declared.Instruction.the-variants as instruction
-use Rattle.text_parts.specs.mirror.Exec.{execFits, exec, scatterExecFits, scatterExec}
+use Rattle.control_texts.specs.mirror.Exec.{execFits, exec, scatterExecFits, scatterExec}
 use Rattle.text_parts.specs.mirror.Fields.{decimal, hexadecimal}
 use Rattle.text_parts.specs.mirror.Raw.{rawFits, raw}
 use Rattle.operand_texts.specs.mirror.Operand.{generalOperandFits, operandFits, source, destination}

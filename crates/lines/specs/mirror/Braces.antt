@@ -7,7 +7,7 @@ use lib.Dec.{leb, eqb}
 use Rattle.formats.specs.Text.{text}
 use Rattle.formats.specs.Format.{Format, pair, through, blank}
 use Rattle.formats.specs.Words.{table}
-use Rattle.text_parts.specs.mirror.Predicate.{zeros, nothing}
+use Rattle.control_texts.specs.mirror.Predicate.{zeros, nothing}
 use Rattle.text_parts.specs.mirror.Fields.{decimal}
 
 -- no braces, or their opening

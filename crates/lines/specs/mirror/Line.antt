@@ -8,7 +8,7 @@ use Rattle.formats.specs.Format.{Format, pair, through}
 use Rattle.formats.specs.Words.{table}
 use Rattle.decoder.specs.declared.Instruction.{Instruction}
 use Rattle.decoder.specs.declared.Instruction.the-variants as instruction
-use Rattle.text_parts.specs.mirror.Predicate.{predicateFits, predicate}
+use Rattle.control_texts.specs.mirror.Predicate.{predicateFits, predicate}
 use Rattle.lines.specs.mirror.Bodies.{shlFits, shl, gatherFits, gather, scatterFits, scatter, rawSendFits, rawSend}
 
 abbrev pub names : List ℕ

@@ -1,8 +1,8 @@
 -- What the answers for a line and its pieces tell: values with the position past their text, or the position at which reading stops.
 use Prim.Native.Nat.{ℕ}
 use Rattle.formats.specs.Format.{Out, got, stop}
-use Rattle.field_groups.specs.declared.Operand.{Operand}
-use Rattle.field_groups.specs.declared.Raw.{Raw}
+use Rattle.operand_fields.specs.declared.Operand.{Operand}
+use Rattle.operand_fields.specs.declared.Raw.{Raw}
 use Rattle.lines.specs.declared.BracesRead.{BracesRead}
 use Rattle.lines.specs.declared.BracesRead.the-variants as braces
 use Rattle.lines.specs.declared.ScalarAndRawsRead.{ScalarAndRawsRead}

@@ -4,7 +4,7 @@ use mathlib.Core.Bool.{Bool, _&&_}
 use lib.Dec.{leb}
 use Rattle.formats.specs.Text.{text}
 use Rattle.formats.specs.Format.{Format, pair, through}
-use Rattle.field_groups.specs.declared.General.{General}
+use Rattle.operand_fields.specs.declared.General.{General}
 use Rattle.text_parts.specs.mirror.Fields.{decimal}
 use Rattle.operand_texts.specs.mirror.Region.{regionFits}
 

@@ -6,10 +6,10 @@ use lib.Dec.{eqb}
 use Rattle.formats.specs.Text.{text}
 use Rattle.formats.specs.Format.{Format, pair, through}
 use Rattle.formats.specs.Words.{table, before}
-use Rattle.field_groups.specs.declared.General.{General}
-use Rattle.field_groups.specs.declared.Immediate.{Immediate}
-use Rattle.field_groups.specs.declared.Operand.{Operand}
-use Rattle.field_groups.specs.declared.Operand.the-variants as operand
+use Rattle.operand_fields.specs.declared.General.{General}
+use Rattle.operand_fields.specs.declared.Immediate.{Immediate}
+use Rattle.operand_fields.specs.declared.Operand.{Operand}
+use Rattle.operand_fields.specs.declared.Operand.the-variants as operand
 use Rattle.text_parts.specs.mirror.Immediate.{immediateFits, immediate}
 use Rattle.operand_texts.specs.mirror.Region.{sourceRegion, destinationRegion}
 use Rattle.operand_texts.specs.mirror.General.{generalFits, general}

@@ -8,7 +8,7 @@ use Rattle.formats.specs.Text.{text}
 use Rattle.formats.specs.Format.{Format, pair, through}
 use Rattle.formats.specs.Words.{table}
 use Rattle.fields.specs.Rules.{regionGood}
-use Rattle.text_parts.specs.mirror.Predicate.{nothing}
+use Rattle.control_texts.specs.mirror.Predicate.{nothing}
 
 abbrev pub verticals : List ℕ
 verticals = text "<n;|<0;|<1;|<2;|<4;|<8;|<16;|<32;|"

@@ -1,7 +1,7 @@
 -- `operands::general_in` meets its contract: at each return, what the calls and tests on the way say picks the case of `Operands`.
 use mathlib.Core.Path.{ap}
 use borrow.Author.Needs.{needs}
-use Rattle.channels.specs.declared.Exec.{Exec}
+use Rattle.exec_byte.specs.declared.Exec.{Exec}
 use Rattle.operands.specs.Variables.{inTable}
 use Rattle.operands.specs.Operands.{locatedGeneral}
 use Rattle.operands.proofs.general_in.Statement.{statement}

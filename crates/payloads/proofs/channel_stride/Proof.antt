@@ -1,6 +1,6 @@
 -- `payloads::channel_stride` meets its contract: at each return, what the calls and tests on the way say picks the case of `Needed`.
 use mathlib.Core.Path.{ap}
-use Rattle.channels.specs.declared.Exec.{Exec}
+use Rattle.exec_byte.specs.declared.Exec.{Exec}
 use native.Mathlib.Omega.{arith}
 use borrow.Author.Needs.{needs}
 use Rattle.payloads.specs.Needed.{channelStride}

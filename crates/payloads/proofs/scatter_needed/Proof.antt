@@ -3,7 +3,7 @@ use mathlib.Core.Path.{_≡_, ap}
 use Prim.Native.Nat.{ℕ, _+_, _*_, _-_, _≤_}
 use native.Mathlib.Omega.{arith}
 use native.Mathlib.Nat.{mul-le-mul}
-use Rattle.channels.specs.declared.Exec.{Exec}
+use Rattle.exec_byte.specs.declared.Exec.{Exec}
 use borrow.Author.Needs.{needs}
 use Rattle.payloads.specs.Needed.{scatterNeeded}
 use Rattle.payloads.proofs.scatter_needed.Statement.{statement}

@@ -3,8 +3,8 @@ use mathlib.Core.Path.{_≡_, sym, ap, _∙_}
 use borrow.Author.Needs.{needs}
 use borrow.Author.Tests.{lt-ltb, le-ltb}
 use Rattle.tables.specs.Variables.{variables}
-use Rattle.tables.specs.Predicates.{predicates}
-use Rattle.tables.specs.Surfaces.{surfaces}
+use Rattle.predicate_table.specs.Predicates.{predicates}
+use Rattle.surface_table.specs.Surfaces.{surfaces}
 use Rattle.tables.specs.Tables.{Tables, tables}
 use Rattle.decoder.specs.declared.Instruction.{Instruction}
 use Rattle.plan.specs.Plans.{tested}

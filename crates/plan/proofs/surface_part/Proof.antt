@@ -2,8 +2,8 @@
 use Prim.Native.Nat.{ℕ, _≤_, _<_}
 use native.Mathlib.Omega.{arith}
 use lib.ListN.{getD}
-use Rattle.tables.specs.Surfaces.{Surfaces, surfaces, surfaceLength}
-use Rattle.tables.proofs.SurfacePlaces.{start-at-most, length-is}
+use Rattle.surface_table.specs.Surfaces.{Surfaces, surfaces, surfaceLength}
+use Rattle.surface_table.proofs.SurfacePlaces.{start-at-most, length-is}
 use borrow.Author.Needs.{needs}
 use Rattle.plan.specs.Checked.{surfacePart}
 use Rattle.plan.proofs.surface_part.Statement.{statement}

@@ -8,9 +8,9 @@ use native.Mathlib.Nat.{le-antisymm}
 use lib.ListN.{length, getD}
 use borrow.Author.Needs.{needs}
 use borrow.Author.Tests.{not-true, not-false}
-use Rattle.channels.specs.Below.{everyBelow}
+use Rattle.bits.specs.Below.{everyBelow}
 use Rattle.predicate_table.specs.Predicates.{countGood, countGoodAt}
-use Rattle.channels.proofs.Every.{every-none, every-same, every-next, every-fails}
+use Rattle.bits.proofs.Every.{every-none, every-same, every-next, every-fails}
 use Rattle.predicate_table.proofs.every_count_good.Statement.{statement}
 use Rattle.predicate_table.proofs.every_count_good.Tie as tie
 

@@ -1,7 +1,7 @@
 -- What is worked out once for an operand in registers: its first element and its strides. `proofs/GridLaws.antt` shows that a grid's
 -- elements are those of `Regions`.
 use Prim.Native.Nat.{ℕ, _+_, _*_, _/_, _%_}
-use Rattle.field_groups.specs.declared.General.{General}
+use Rattle.operand_fields.specs.declared.General.{General}
 use Rattle.region_rules.specs.declared.Role.{Role}
 use Rattle.region_rules.specs.declared.Role.the-variants as role
 use Rattle.regions.specs.declared.Grid.{Grid}

@@ -4,7 +4,7 @@ use Prim.Native.Nat.{_-_}
 use native.Mathlib.Omega.{arith}
 use lib.ListN.{length}
 use borrow.Author.Needs.{needs}
-use Rattle.tables.specs.declared.Lengths.{Lengths}
+use Rattle.lengths.specs.declared.Lengths.{Lengths}
 use Rattle.tables.specs.Tables.{tables}
 use Rattle.step.specs.State.{setup, state}
 use Rattle.run.proofs.RunLaws.{Reached, begins, ends, stops, onward, goes, keeps}

@@ -3,7 +3,7 @@ use borrow.Author.Needs.{needs}
 use Rattle.scatter.proofs.fits.Statement.{statement}
 use Rattle.scatter.proofs.fits.Tie as tie
 use mathlib.Core.Path.{ap}
-use Rattle.channels.specs.declared.Exec.{Exec}
+use Rattle.exec_byte.specs.declared.Exec.{Exec}
 use Rattle.scatter.specs.mirror.Guarded.{scatterFits}
 
 returns : tie.Need-returns

@@ -3,7 +3,7 @@ use borrow.Author.Needs.{needs}
 use Rattle.scatter.proofs.layout_for.Statement.{statement}
 use Rattle.scatter.proofs.layout_for.Tie as tie
 use mathlib.Core.Path.{ap}
-use Rattle.channels.specs.declared.Exec.{Exec}
+use Rattle.exec_byte.specs.declared.Exec.{Exec}
 use Rattle.scatter.proofs.PlanLaws.{layout-told}
 
 returns : tie.Need-returns

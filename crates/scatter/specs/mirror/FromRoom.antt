@@ -8,11 +8,11 @@ use lib.ListN.{getD}
 use Rattle.details.specs.declared.Detail.the-variants as detail
 use Rattle.cells.specs.Buffer.{Buffer}
 use Rattle.cells.specs.Effect.{Effect, unless, unlessFound, writing}
-use Rattle.channels.specs.Exec.{execSize}
+use Rattle.exec_byte.specs.Exec.{execSize}
 use Rattle.channels.specs.mirror.Prepared.{isOn}
 use Rattle.channels.specs.declared.Lanes.{Lanes}
 use Rattle.plan.specs.declared.Plan.{Plan}
-use Rattle.plan.specs.Needed.{scatterNeeded}
+use Rattle.payloads.specs.Needed.{scatterNeeded}
 use Rattle.staging.specs.declared.Layout.{Layout}
 use Rattle.staging.specs.mirror.Room.{layoutOf, dataPlace, dataStaged, firstNumber, secondNumber}
 use Rattle.scatter_effect.specs.Scatter.{Window}

@@ -6,7 +6,7 @@ use mathlib.Core.List.{List}
 use lib.ListN.{getD}
 use Rattle.details.specs.declared.Detail.{Detail}
 use Rattle.cells.specs.Over.{among, some, firstPair}
-use Rattle.channels.specs.Bits.{bit}
+use Rattle.bits.specs.Bits.{bit}
 use Rattle.staging.specs.declared.Layout.{Layout}
 use Rattle.staging.specs.mirror.Room.{eitherStaged}
 use Rattle.scatter_pairs.specs.declared.Rule.{Rule}

@@ -5,8 +5,8 @@ use Rattle.scatter_writes.proofs.rank.Tie as tie
 use Prim.Native.Nat.{_-_, _≤_}
 use mathlib.Core.Path.{_≡_, sym}
 use native.Mathlib.Omega.{arith}
-use Rattle.plan.specs.Needed.{enabledBelow}
-use Rattle.plan.proofs.ChannelLaws.{enabled-none}
+use Rattle.payloads.specs.Needed.{enabledBelow}
+use Rattle.payloads.proofs.ChannelLaws.{enabled-none}
 use Rattle.scatter_writes.proofs.RankLaws.{rank-turn, rank-over}
 
 abbrev Inv-loop : tie.InvT-loop

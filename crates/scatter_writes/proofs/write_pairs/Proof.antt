@@ -10,7 +10,7 @@ use Rattle.cells.specs.Buffer.{buffer}
 use Rattle.cells.specs.Writes.{writtenAll}
 use Rattle.cells.specs.Over.{amongFrom, each}
 use Rattle.cells.proofs.LaneLaws.{lanes-turn, lanes-over}
-use Rattle.channels.specs.Bits.{bit}
+use Rattle.bits.specs.Bits.{bit}
 use Rattle.scatter_writes.specs.mirror.Writes.{rowPlace, rowWrites, allWrites}
 use Rattle.scatter_writes.proofs.WriteLaws.{rows-written}
 

@@ -6,8 +6,8 @@ use lib.ListN.{getD}
 use Rattle.cells.specs.Buffer.{Buffer}
 use Rattle.cells.specs.Writes.{Write, copyWrites}
 use Rattle.cells.specs.Over.{among, each}
-use Rattle.channels.specs.Bits.{bit}
-use Rattle.plan.specs.Needed.{enabledBelow}
+use Rattle.bits.specs.Bits.{bit}
+use Rattle.payloads.specs.Needed.{enabledBelow}
 use Rattle.scatter_pairs.specs.declared.Pairs.{Pairs}
 use Rattle.scatter_pairs.specs.mirror.Search.{targetFrom, enabledLanes}
 

@@ -4,7 +4,7 @@ use mathlib.Core.List.{List}
 use lib.ListN.{getD}
 use Rattle.cells.specs.Buffer.{Buffer, markOf}
 use Rattle.cells.specs.Writes.{Write, numberWrites}
-use Rattle.channels.specs.Exec.{execSize}
+use Rattle.exec_byte.specs.Exec.{execSize}
 use Rattle.shift.specs.mirror.Total.{totalShift}
 use Rattle.plan.specs.declared.Plan.{Plan}
 use Rattle.staging.specs.mirror.Room.{layoutOf, firstNumber, secondNumber, eitherStaged}

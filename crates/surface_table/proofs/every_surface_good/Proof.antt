@@ -8,10 +8,10 @@ use native.Mathlib.Nat.{le-antisymm}
 use lib.ListN.{length, getD}
 use borrow.Author.Needs.{needs}
 use borrow.Author.Tests.{le-leb, lt-leb}
-use Rattle.channels.specs.Below.{everyBelow}
+use Rattle.bits.specs.Below.{everyBelow}
 use Rattle.surface_table.specs.Surfaces as table
 use Rattle.surface_table.specs.Surfaces.{surfaceLength, surfaceGoodAt}
-use Rattle.channels.proofs.Every.{every-none, every-same, every-next, every-fails}
+use Rattle.bits.proofs.Every.{every-none, every-same, every-next, every-fails}
 use Rattle.surface_table.proofs.every_surface_good.Statement.{statement}
 use Rattle.surface_table.proofs.every_surface_good.Tie as tie
 

@@ -8,9 +8,9 @@ use native.Mathlib.Nat.{le-antisymm}
 use lib.ListN.{length, getD}
 use borrow.Author.Needs.{needs}
 use borrow.Author.Tests.{not-true, not-false}
-use Rattle.channels.specs.Below.{everyBelow}
+use Rattle.bits.specs.Below.{everyBelow}
 use Rattle.tables.specs.Variables.{variables, variableGood, variableGoodAt}
-use Rattle.channels.proofs.Every.{every-none, every-same, every-next, every-fails}
+use Rattle.bits.proofs.Every.{every-none, every-same, every-next, every-fails}
 use Rattle.tables.proofs.every_variable_good.Statement.{statement}
 use Rattle.tables.proofs.every_variable_good.Tie as tie
 

@@ -2,7 +2,7 @@
 use mathlib.Core.Path.{sym}
 use lib.Seq.{length-take-le}
 use borrow.Author.Needs.{needs}
-use Rattle.formats.proofs.WritingLaws.{wrote-inside}
+use Rattle.format_writers.proofs.WritingLaws.{wrote-inside}
 use Rattle.text.proofs.PrintingLaws.{line-there, line-printed, line-too-long}
 use Rattle.text.proofs.put_taken.Statement.{statement}
 use Rattle.text.proofs.put_taken.Tie as tie

@@ -8,7 +8,7 @@ use Rattle.formats.specs.Format.{Format, pair, through}
 use Rattle.formats.specs.Words.{table}
 use Rattle.formats.specs.Numbers.{number}
 use Rattle.element_types.specs.Types.{F, UQ, isListed, hasHighWord}
-use Rattle.field_groups.specs.declared.Immediate.{Immediate}
+use Rattle.operand_fields.specs.declared.Immediate.{Immediate}
 
 -- uq first, so that a type's number in `wideTypes` is its number in `types`
 abbrev pub types : List ℕ

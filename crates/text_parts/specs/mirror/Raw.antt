@@ -6,7 +6,7 @@ use Rattle.formats.specs.Text.{text}
 use Rattle.formats.specs.Format.{Format, pair, through}
 use Rattle.formats.specs.Words.{before}
 use Rattle.formats.specs.Numbers.{number}
-use Rattle.field_groups.specs.declared.Raw.{Raw}
+use Rattle.operand_fields.specs.declared.Raw.{Raw}
 use Rattle.text_parts.specs.mirror.Fields.{decimal}
 
 abbrev pub rawTo : ℕ × ℕ → Raw

@@ -1,5 +1,5 @@
 -- `encoder::Draft::with_general` meets its contract: one call for each field, in order.
-use Rattle.field_groups.proofs.LayoutLaws.{general-fields}
+use Rattle.operand_fields.proofs.LayoutLaws.{general-fields}
 use borrow.Author.Needs.{needs}
 use Rattle.encoder.specs.mirror.Draft.{withFields}
 use Rattle.encoder.proofs.Draft.with_general.Statement.{statement}

@@ -1,5 +1,5 @@
 -- `encoder::Draft::with_immediate` meets its contract: one call for each field, in order.
-use Rattle.field_groups.proofs.LayoutLaws.{immediate-fields}
+use Rattle.operand_fields.proofs.LayoutLaws.{immediate-fields}
 use borrow.Author.Needs.{needs}
 use Rattle.encoder.specs.mirror.Draft.{withFields}
 use Rattle.encoder.proofs.Draft.with_immediate.Statement.{statement}

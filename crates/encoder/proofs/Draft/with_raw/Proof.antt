@@ -1,5 +1,5 @@
 -- `encoder::Draft::with_raw` meets its contract: one call for each field, in order.
-use Rattle.field_groups.proofs.LayoutLaws.{raw-fields}
+use Rattle.operand_fields.proofs.LayoutLaws.{raw-fields}
 use borrow.Author.Needs.{needs}
 use Rattle.encoder.specs.mirror.Draft.{withFields}
 use Rattle.encoder.proofs.Draft.with_raw.Statement.{statement}
