@@ -5,7 +5,7 @@ use mathlib.Core.List.{List}
 use native.Mathlib.Omega.{arith}
 use Rattle.staging.specs.declared.Layout.{Layout}
 use Rattle.staging.specs.mirror.Room.{firstNumber, secondNumber}
-use Rattle.gather.specs.Gather.{gatherAddress}
+use Rattle.gather_effect.specs.Gather.{gatherAddress}
 use Rattle.gather.specs.mirror.FromRoom.{roomAddress}
 
 wrapped : (a b x y sum : ℕ) → x ≡ a % 4294967296 → y ≡ b % 4294967296 → sum ≡ (x + y) % 2 ^ 32 → sum ≡ gatherAddress a b

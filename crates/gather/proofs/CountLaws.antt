@@ -7,7 +7,7 @@ use lib.Dec.{ltb}
 use borrow.Author.Tests.{lt-ltb, le-ltb, ltb-true, ltb-false}
 use Rattle.plan.specs.declared.Plan.{Plan}
 use Rattle.gather.specs.declared.Shape.{Shape}
-use Rattle.gather.specs.Gather.{isRead}
+use Rattle.gather_effect.specs.Gather.{isRead}
 use Rattle.gather.specs.mirror.FromRoom.{shapeOf, bytesRead}
 
 -- below the smaller is below both

@@ -14,9 +14,9 @@ use Rattle.cells.specs.Writes.{writtenAll, numberWrites, copyWrites}
 use Rattle.cells.proofs.NumberLaws.{number-none, number-next, element-is}
 use Rattle.cells.proofs.WriteLaws.{written-append}
 use Rattle.plan.specs.declared.Plan.{Plan}
-use Rattle.gather.specs.Gather.{isRead, gatheredByte, gatherWrites}
+use Rattle.gather_effect.specs.Gather.{isRead, gatheredByte, gatherWrites}
 use Rattle.gather.specs.mirror.FromRoom.{dwordWrites}
-use Rattle.gather.proofs.MarkLaws.{doubtful-mark, zero-mark, zero-byte, read-mark, read-byte}
+use Rattle.gather_effect.proofs.MarkLaws.{doubtful-mark, zero-mark, zero-byte, read-mark, read-byte}
 
 -- byte j of a number of n bytes, and the bytes past it
 module _ (l : List ℕ) (bytes : Bytes l) (n j at : ℕ) where

@@ -21,7 +21,7 @@ use Rattle.staging.specs.Lanes.{lanesOn}
 use Rattle.staging.specs.mirror.Room.{elementsFit, bothStaged}
 use Rattle.staging.proofs.LanesOnLaws.{lanes-on-are, prepared-lanes-are}
 use Rattle.gather.specs.declared.Shape.{Shape}
-use Rattle.gather.specs.Gather.{gatherLane, gatherEffect}
+use Rattle.gather_effect.specs.Gather.{gatherLane, gatherEffect}
 use Rattle.gather.specs.mirror.Guarded.{gatherFits, gatherGuarded}
 use Rattle.gather.specs.mirror.FromRoom.{shapeOf, roomLane}
 use Rattle.gather.proofs.RoomLaws.{room-lane-is}

@@ -1,11 +1,6 @@
-pub mod Untainted
-pub mod Refusal
-pub mod Plain
-pub mod MarkLaws
 pub mod CountLaws
 pub mod DwordLaws
 pub mod AddressLaws
 pub mod RoomLaws
 pub mod GuardLaws
 pub mod SoundLaws
-pub mod LaneResults

@@ -18,7 +18,7 @@ use Rattle.cells.proofs.BoolLaws.{both-true}
 use Rattle.staging.proofs.FitLaws.{fit-lanes}
 use Rattle.staging.proofs.RoomLaws.{both-first, both-second, both-either}
 use Rattle.gather.specs.declared.Shape.{Shape}
-use Rattle.gather.specs.Gather.{gatherAddress, gatherLane}
+use Rattle.gather_effect.specs.Gather.{gatherAddress, gatherLane}
 use Rattle.gather.specs.mirror.Guarded.{gatherFits}
 use Rattle.gather.specs.mirror.FromRoom.{shapeOf, roomAddress, bytesRead, dwordWrites, roomWrites, roomLane}
 use Rattle.gather.proofs.CountLaws.{count-small, read-below}

@@ -1,3 +1,1 @@
-pub mod Gather
-pub mod Results
 pub mod mirror

@@ -19,7 +19,7 @@ use Rattle.staging.specs.Lanes.{lanesOn}
 use Rattle.staging.specs.mirror.Room.{bothStaged}
 use Rattle.staging.proofs.LanesOnLaws.{lanes-on-are, prepared-lanes-are}
 use Rattle.shl.specs.declared.Shape.{Shape}
-use Rattle.shl.specs.Shl.{shlLane, shlEffect}
+use Rattle.shl_effect.specs.Shl.{shlLane, shlEffect}
 use Rattle.shl.specs.mirror.FromRoom.{shapeOf, roomLane}
 use Rattle.shl.specs.mirror.Guarded.{shlFits, shlGuarded}
 use Rattle.shl.proofs.RoomLaws.{room-lane-is}

@@ -17,7 +17,7 @@ use Rattle.staging.specs.mirror.Room.{layoutOf, elementsFit, bothStaged, either
 use Rattle.staging.proofs.FitLaws.{all-three, fit-lanes, fit-size}
 use Rattle.staging.proofs.RoomLaws.{both-first, both-second, both-either}
 use Rattle.shl.specs.declared.Shape.{Shape}
-use Rattle.shl.specs.Shl.{shlValue, shlMark, shlLane}
+use Rattle.shl_effect.specs.Shl.{shlValue, shlMark, shlLane}
 use Rattle.shl.specs.mirror.FromRoom.{shapeOf, roomValue, roomWrites, roomLane}
 use Rattle.shl.specs.mirror.Guarded.{shlFits}
 

@@ -1,3 +1,1 @@
-pub mod Shl
-pub mod Results
 pub mod mirror

@@ -12,8 +12,8 @@ use Rattle.plan.specs.declared.Plan.{Plan}
 use Rattle.plan.specs.declared.Operation.{Operation}
 use Rattle.plan.specs.Checked.{checked}
 use Rattle.plan.proofs.InstructionLaws.{plan-keeps}
-use Rattle.shl.proofs.Refusal.{shl-number}
-use Rattle.gather.proofs.Refusal.{gather-number}
+use Rattle.shl_effect.proofs.Refusal.{shl-number}
+use Rattle.gather_effect.proofs.Refusal.{gather-number}
 use Rattle.scatter_effect.proofs.FirstTest.{scatter-number}
 use Rattle.step.specs.State.{Setup, State, registerBytes}
 use Rattle.step.specs.Step.{acted, planEffect, stepAt}

@@ -17,8 +17,8 @@ use Rattle.plan.specs.declared.Plan.{Plan}
 use Rattle.plan.specs.declared.Operation.{Operation}
 use Rattle.plan.specs.declared.Operation.the-variants as operation
 use Rattle.plan.specs.Checked.{checked}
-use Rattle.shl.proofs.Refusal.{shl-writes}
-use Rattle.gather.proofs.Refusal.{gather-writes}
+use Rattle.shl_effect.proofs.Refusal.{shl-writes}
+use Rattle.gather_effect.proofs.Refusal.{gather-writes}
 use Rattle.scatter_effect.proofs.Refusal.{scatter-writes}
 use Rattle.step.specs.State.{Setup, State, registerBytes, lengthsOf}
 use Rattle.step.specs.Step.{acted, planEffect, stepAt, after}

@@ -17,10 +17,10 @@ use Rattle.plan.specs.declared.Operation.the-variants as operation
 use Rattle.staging.specs.Lanes.{lanesOn}
 use Rattle.shl.specs.mirror.Guarded.{shlGuarded}
 use Rattle.shl.proofs.GuardLaws as shl
-use Rattle.shl.proofs.Refusal.{shl-spares-memory, shl-detail}
+use Rattle.shl_effect.proofs.Refusal.{shl-spares-memory, shl-detail}
 use Rattle.gather.specs.mirror.Guarded.{gatherGuarded}
 use Rattle.gather.proofs.GuardLaws as gather
-use Rattle.gather.proofs.Refusal.{gather-spares-memory, gather-detail}
+use Rattle.gather_effect.proofs.Refusal.{gather-spares-memory, gather-detail}
 use Rattle.scatter_effect.specs.Scatter.{Window}
 use Rattle.scatter.specs.mirror.Guarded.{scatterGuarded}
 use Rattle.scatter.proofs.GuardLaws as scatter

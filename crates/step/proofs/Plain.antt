@@ -17,8 +17,8 @@ use Rattle.plan.specs.declared.Operation.{Operation}
 use Rattle.plan.specs.declared.Operation.the-variants as operation
 use Rattle.plan.specs.Checked.{checked}
 use Rattle.staging.specs.Lanes.{lanesOn}
-use Rattle.shl.proofs.Plain.{shl-plain}
-use Rattle.gather.proofs.Plain.{gather-plain}
+use Rattle.shl_effect.proofs.Plain.{shl-plain}
+use Rattle.gather_effect.proofs.Plain.{gather-plain}
 use Rattle.scatter_effect.specs.Scatter.{scatterEffect}
 use Rattle.scatter_effect.proofs.Plain.{scatter-plain}
 use Rattle.step.specs.State.{Setup, State, registerBytes}

@@ -22,10 +22,10 @@ use Rattle.plan.specs.declared.Operation.{Operation}
 use Rattle.plan.specs.declared.Operation.the-variants as operation
 use Rattle.plan.specs.Checked.{checked}
 use Rattle.plan.proofs.PlanLaws.{SoundFor, Sound, plan-sound}
-use Rattle.shl.proofs.LaneResults as shl
-use Rattle.shl.proofs.Refusal.{shl-spares-memory}
-use Rattle.gather.proofs.LaneResults as gather
-use Rattle.gather.proofs.Refusal.{gather-spares-memory}
+use Rattle.shl_effect.proofs.LaneResults as shl
+use Rattle.shl_effect.proofs.Refusal.{shl-spares-memory}
+use Rattle.gather_effect.proofs.LaneResults as gather
+use Rattle.gather_effect.proofs.Refusal.{gather-spares-memory}
 use Rattle.scatter_effect.proofs.PairResults as scatter
 use Rattle.scatter_effect.proofs.Refusal.{scatter-spares-registers}
 use Rattle.step.specs.State.{Setup, State, registerBytes, lengthsOf}

@@ -13,8 +13,8 @@ use Rattle.plan.specs.declared.Operation.{Operation}
 use Rattle.plan.specs.Checked.{checked}
 use Rattle.plan.proofs.InstructionLaws.{plan-keeps}
 use Rattle.plan.proofs.PlaceLaws.{plan-names}
-use Rattle.shl.specs.Shl.{shlEffect}
-use Rattle.gather.specs.Gather.{gatherEffect}
+use Rattle.shl_effect.specs.Shl.{shlEffect}
+use Rattle.gather_effect.specs.Gather.{gatherEffect}
 use Rattle.scatter_effect.specs.Offending.{ScatterTells, done}
 use Rattle.scatter_effect.proofs.FirstPair.{scatter-tells}
 use Rattle.step.specs.State.{Setup, State, registerBytes}

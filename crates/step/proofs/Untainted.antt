@@ -15,8 +15,8 @@ use Rattle.plan.specs.declared.Operation.{Operation}
 use Rattle.plan.specs.declared.Operation.the-variants as operation
 use Rattle.plan.specs.Checked.{checked}
 use Rattle.staging.specs.Lanes.{lanesOn}
-use Rattle.shl.proofs.Untainted.{shl-alike}
-use Rattle.gather.proofs.Untainted.{gather-alike}
+use Rattle.shl_effect.proofs.Untainted.{shl-alike}
+use Rattle.gather_effect.proofs.Untainted.{gather-alike}
 use Rattle.scatter_effect.specs.Scatter.{scatterEffect}
 use Rattle.scatter_effect.proofs.Untainted.{scatter-alike}
 use Rattle.step.specs.State.{Setup, State, registerBytes}

@@ -5,8 +5,8 @@ use lib.ListN.{length}
 use Rattle.plan.specs.declared.Plan.{Plan}
 use Rattle.plan.specs.declared.Operation.{Operation}
 use Rattle.plan.specs.declared.Operation.the-variants as operation
-use Rattle.shl.specs.Results as shl
-use Rattle.gather.specs.Results as gather
+use Rattle.shl_effect.specs.Results as shl
+use Rattle.gather_effect.specs.Results as gather
 use Rattle.scatter_effect.specs.Results as scatter
 use Rattle.step.specs.State.{Setup, State, lengthsOf}
 

@@ -13,8 +13,8 @@ use Rattle.plan.specs.declared.Operation.{Operation}
 use Rattle.plan.specs.declared.Operation.the-variants as operation
 use Rattle.plan.specs.Checked.{checked}
 use Rattle.staging.specs.Lanes.{lanesOn}
-use Rattle.shl.specs.Shl.{shlEffect}
-use Rattle.gather.specs.Gather.{gatherEffect}
+use Rattle.shl_effect.specs.Shl.{shlEffect}
+use Rattle.gather_effect.specs.Gather.{gatherEffect}
 use Rattle.scatter_effect.specs.Scatter.{scatterEffect}
 use Rattle.step.specs.declared.Constants.{Constants}
 use Rattle.step.specs.State.{Setup, State, registerBytes}

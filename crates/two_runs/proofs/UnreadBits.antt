@@ -35,8 +35,8 @@ use Rattle.plan.specs.Plans.{refusedPlan, tested, testedFrom, shlPlan, gatherPl
 use Rattle.plan.specs.Checked.{shlOperands, checkedShl, gatherOperands, checkedGatherOperands, surfacePart, checkedGather, scatterOperands, checkedScatter, checkedOperands, checked}
 use Rattle.controls.proofs.PassedLaws.{elements-reach}
 use Rattle.staging.specs.Lanes.{lanesOn}
-use Rattle.shl.specs.Shl.{shlValue, shlMark, shlLane, shlEffect}
-use Rattle.gather.specs.Gather.{isRead, gatheredByte, gatheredMark, gatherWrites, gatherLane, gatherEffect}
+use Rattle.shl_effect.specs.Shl.{shlValue, shlMark, shlLane, shlEffect}
+use Rattle.gather_effect.specs.Gather.{isRead, gatheredByte, gatheredMark, gatherWrites, gatherLane, gatherEffect}
 use Rattle.scatter_effect.specs.Scatter.{channelsOn, target, sourceByte, scatterPair, firstOffending, scatterEffect}
 use Rattle.scatter_effect.proofs.AmongAlike.{among-alike}
 use Rattle.step.specs.declared.Constants.{Constants}

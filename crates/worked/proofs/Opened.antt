@@ -39,8 +39,8 @@ use Rattle.cells.specs.Writes.{writtenAll, numberWrites, copyWrites}
 use Rattle.shift.specs.Exact.{span, exactly, modulo, shifted}
 use Rattle.staging.specs.Lanes.{lanesOn}
 use Rattle.staging.specs.Sources.{elementValue, elementTainted, eitherTainted}
-use Rattle.shl.specs.Shl.{shlValue, shlMark, shlLane, shlEffect}
-use Rattle.gather.specs.Gather.{gatherAddress, isRead, gatheredByte, gatheredMark, gatherWrites, gatherLane, gatherEffect}
+use Rattle.shl_effect.specs.Shl.{shlValue, shlMark, shlLane, shlEffect}
+use Rattle.gather_effect.specs.Gather.{gatherAddress, isRead, gatheredByte, gatheredMark, gatherWrites, gatherLane, gatherEffect}
 use Rattle.scatter_effect.specs.Scatter.{channelsOn, targetAddress, target, sourceByte, misaligned, outside, scatterPair, firstOffending, scatterEffect}
 use Rattle.step.specs.Step.{acted, planEffect, stepAt}
 use Rattle.run.specs.Run.{runFrom, run}

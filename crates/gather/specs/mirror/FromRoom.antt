@@ -11,7 +11,7 @@ use Rattle.plan.specs.declared.Plan.{Plan}
 use Rattle.staging.specs.declared.Layout.{Layout}
 use Rattle.staging.specs.mirror.Room.{layoutOf, firstNumber, secondNumber, eitherStaged}
 use Rattle.gather.specs.declared.Shape.{Shape}
-use Rattle.gather.specs.Gather.{gatherAddress}
+use Rattle.gather_effect.specs.Gather.{gatherAddress}
 
 -- what a lane asks of the plan
 abbrev pub shapeOf : Plan → Shape

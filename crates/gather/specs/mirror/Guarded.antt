@@ -9,7 +9,7 @@ use Rattle.exec_byte.specs.Exec.{execSize}
 use Rattle.plan.specs.declared.Plan.{Plan}
 use Rattle.staging.specs.Lanes.{lanesOn}
 use Rattle.staging.specs.mirror.Room.{elementsFit}
-use Rattle.gather.specs.Gather.{gatherEffect}
+use Rattle.gather_effect.specs.Gather.{gatherEffect}
 
 -- "Offset and Element_offset are UD": elements of at most four bytes
 unfoldable pub gatherFits : Plan → Bool

@@ -10,7 +10,7 @@ use Rattle.exec_byte.specs.Exec.{execSize}
 use Rattle.plan.specs.declared.Plan.{Plan}
 use Rattle.staging.specs.Lanes.{lanesOn}
 use Rattle.staging.specs.mirror.Room.{elementsFit}
-use Rattle.shl.specs.Shl.{shlEffect}
+use Rattle.shl_effect.specs.Shl.{shlEffect}
 
 unfoldable pub shlFits : Plan → Bool
 shlFits p =

@@ -6,7 +6,7 @@ use Rattle.details.specs.declared.Detail.the-variants as detail
 use Rattle.cells.specs.Buffer.{Buffer}
 use Rattle.cells.proofs.RefusalLaws.{WritesOnlyWhenDone, done-writes}
 use Rattle.plan.specs.declared.Plan.{Plan}
-use Rattle.gather.specs.Gather.{gatherEffect}
+use Rattle.gather_effect.specs.Gather.{gatherEffect}
 
 pub gather-writes : (p : Plan) (lanes : List ℕ) (b f : Buffer) → WritesOnlyWhenDone (gatherEffect p lanes b f)
 unfolding gatherEffect

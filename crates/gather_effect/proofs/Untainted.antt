@@ -9,7 +9,7 @@ use Rattle.cells.proofs.Related.{none, more, each-alike}
 use Rattle.cells.proofs.Untainted.{SameUntainted, Agreeing, AlikeWrites, AlikeEffects, under-mark, byte-same}
 use Rattle.plan.specs.declared.Plan.{Plan}
 use Rattle.staging.proofs.Untainted.{both-same, either-same}
-use Rattle.gather.specs.Gather.{gatherAddress, isRead, gatheredByte, gatheredMark, gatherWrites, gatherLane, gatherEffect}
+use Rattle.gather_effect.specs.Gather.{gatherAddress, isRead, gatheredByte, gatheredMark, gatherWrites, gatherLane, gatherEffect}
 
 module _ (b c : Buffer) (r : Agreeing b c) (p : Plan) where
   -- a surface byte that is read: the mark is the same, and the byte where it is untainted

@@ -8,7 +8,7 @@ use lib.ListN.{getD}
 use Rattle.cells.specs.Buffer.{isTainted, markOf}
 use Rattle.cells.proofs.TaintLaws.{tainted-mark}
 use Rattle.plan.specs.declared.Plan.{Plan}
-use Rattle.gather.specs.Gather.{isRead, gatheredByte, gatheredMark}
+use Rattle.gather_effect.specs.Gather.{isRead, gatheredByte, gatheredMark}
 
 module _ (bytes taint : List ℕ) (p : Plan) (address j : ℕ) where
   pub doubtful-mark : gatheredMark taint p true address j ≡ markOf true

@@ -7,7 +7,7 @@ use Rattle.cells.specs.Results.{Kept, Holds, Outside}
 use Rattle.plan.specs.declared.Plan.{Plan}
 use Rattle.staging.specs.Sources.{elementValue, eitherTainted}
 use Rattle.staging.specs.Results.{Enabled, destination}
-use Rattle.gather.specs.Gather.{gatherAddress, gatheredByte, gatheredMark}
+use Rattle.gather_effect.specs.Gather.{gatherAddress, gatheredByte, gatheredMark}
 
 -- a lane's address, and whether it is doubtful
 abbrev pub laneAddress : Plan → Buffer → ℕ → ℕ

@@ -6,7 +6,7 @@ use mathlib.Core.List.{List}
 use native.Mathlib.Nat.{mod-eq-of-lt}
 use native.Mathlib.Omega.{arith}
 use lib.ListN.{length}
-use Rattle.shl.specs.Results.{LaneHolds, LanesHold}
+use Rattle.shl_effect.specs.Results.{LaneHolds, LanesHold}
 use Rattle.cells.specs.Buffer.{Buffer}
 use Rattle.cells.specs.Writes.{writtenAll}
 use Rattle.cells.specs.Over.{each}
@@ -22,7 +22,7 @@ use Rattle.plan.proofs.PlanLaws.{ShlSound}
 use Rattle.staging.specs.Lanes.{lanesOn}
 use Rattle.staging.specs.Results.{Enabled, destination}
 use Rattle.staging.proofs.ResultLaws.{Destinations, others-kept, lanes-hold}
-use Rattle.shl.specs.Shl.{shlValue, shlMark, shlLane, shlEffect}
+use Rattle.shl_effect.specs.Shl.{shlValue, shlMark, shlLane, shlEffect}
 
 value-small : (bytes : List ℕ) (p : Plan) (lane : ℕ) → shlValue bytes p lane < 256 ^ p .payload .size
 unfolding shlValue

@@ -9,7 +9,7 @@ use Rattle.cells.proofs.Untainted.{SameUntainted, Agreeing, AlikeWrites, AlikeE
 use Rattle.shift.specs.Exact.{shifted}
 use Rattle.plan.specs.declared.Plan.{Plan}
 use Rattle.staging.proofs.Untainted.{both-same, either-same}
-use Rattle.shl.specs.Shl.{shlValue, shlMark, shlLane, shlEffect}
+use Rattle.shl_effect.specs.Shl.{shlValue, shlMark, shlLane, shlEffect}
 
 lane-alike : (b c : Buffer) → Agreeing b c → (p : Plan) (lane : ℕ) → AlikeWrites (shlLane b p lane) (shlLane c p lane)
 unfolding shlLane shlMark shlValue

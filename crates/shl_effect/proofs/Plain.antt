@@ -9,7 +9,7 @@ use Rattle.cells.proofs.Plain.{SameBytes, Plainly, PlainWrites, PlainEffects, u
 use Rattle.shift.specs.Exact.{shifted}
 use Rattle.plan.specs.declared.Plan.{Plan}
 use Rattle.staging.proofs.Plain.{both-plain, either-plain}
-use Rattle.shl.specs.Shl.{shlValue, shlMark, shlLane, shlEffect}
+use Rattle.shl_effect.specs.Shl.{shlValue, shlMark, shlLane, shlEffect}
 
 lane-plain : (b c : Buffer) → Plainly b c → (p : Plan) (lane : ℕ) → PlainWrites (shlLane b p lane) (shlLane c p lane)
 unfolding shlLane shlMark shlValue

@@ -6,7 +6,7 @@ use mathlib.Core.Bool.{Bool}
 use mathlib.Core.List.{List, _∷_}
 use native.Mathlib.Omega.{arith}
 use lib.ListN.{length}
-use Rattle.gather.specs.Results.{LanesHold, laneAddress, laneByte, laneDoubtful, laneMark}
+use Rattle.gather_effect.specs.Results.{LanesHold, laneAddress, laneByte, laneDoubtful, laneMark}
 use Rattle.cells.specs.Buffer.{Buffer}
 use Rattle.cells.specs.Writes.{Write, writtenAll}
 use Rattle.cells.proofs.RowLaws.{row, row-none, row-next}
@@ -16,7 +16,7 @@ use Rattle.plan.proofs.PlanLaws.{GatherSound}
 use Rattle.staging.specs.Lanes.{lanesOn}
 use Rattle.staging.specs.Results.{destination}
 use Rattle.staging.proofs.ResultLaws.{Destinations, others-kept, lanes-hold}
-use Rattle.gather.specs.Gather.{gatheredByte, gatheredMark, gatherWrites, gatherLane, gatherEffect}
+use Rattle.gather_effect.specs.Gather.{gatheredByte, gatheredMark, gatherWrites, gatherLane, gatherEffect}
 
 dword-row : (surfaces : Buffer) (p : Plan) (doubt : Bool) (address at n j : ℕ) → gatherWrites surfaces p doubt address at j n ≡ row (gatheredByte (surfaces .bytes) p address) (gatheredMark (surfaces .taint) p doubt address) at j n
 unfolding gatherWrites

@@ -7,7 +7,7 @@ use Rattle.cells.specs.Element.{element}
 use Rattle.cells.specs.Results.{Kept, Holds, Outside}
 use Rattle.plan.specs.declared.Plan.{Plan}
 use Rattle.staging.specs.Results.{Enabled, destination}
-use Rattle.shl.specs.Shl.{shlValue, shlMark}
+use Rattle.shl_effect.specs.Shl.{shlValue, shlMark}
 
 -- a lane's element afterwards: its value, and its bytes one by one, the lowest first, all under one mark
 pub record LaneHolds (p : Plan) (before after : Buffer) (lane : ℕ) : Type 0 where

@@ -6,7 +6,7 @@ use Rattle.details.specs.declared.Detail.the-variants as detail
 use Rattle.cells.specs.Buffer.{Buffer}
 use Rattle.cells.proofs.RefusalLaws.{WritesOnlyWhenDone, done-writes}
 use Rattle.plan.specs.declared.Plan.{Plan}
-use Rattle.shl.specs.Shl.{shlEffect}
+use Rattle.shl_effect.specs.Shl.{shlEffect}
 
 pub shl-writes : (p : Plan) (lanes : List ℕ) (b : Buffer) → WritesOnlyWhenDone (shlEffect p lanes b)
 unfolding shlEffect

@@ -10,7 +10,7 @@ use Rattle.cells.proofs.Related.{none, more, each-alike}
 use Rattle.cells.proofs.Plain.{SameBytes, Plainly, PlainWrites, PlainEffects, bytes-same, zero-untainted, untainted-mark}
 use Rattle.plan.specs.declared.Plan.{Plan}
 use Rattle.staging.proofs.Plain.{both-plain, either-plain}
-use Rattle.gather.specs.Gather.{gatherAddress, isRead, gatheredByte, gatheredMark, gatherWrites, gatherLane, gatherEffect}
+use Rattle.gather_effect.specs.Gather.{gatherAddress, isRead, gatheredByte, gatheredMark, gatherWrites, gatherLane, gatherEffect}
 
 module _ (b c : Buffer) (r : Plainly b c) (p : Plan) where
   mark-plain : (e : Bool) (address j : ℕ) → e ≡ false → gatheredMark (c .taint) p e address j ≡ 0

@@ -1,0 +1,1 @@
+// What GATHER_SCALED does, and what follows from it: definitions and laws, no code.

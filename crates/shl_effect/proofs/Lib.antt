@@ -1,0 +1,4 @@
+pub mod LaneResults
+pub mod Plain
+pub mod Refusal
+pub mod Untainted

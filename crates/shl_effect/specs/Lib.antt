@@ -1,0 +1,2 @@
+pub mod Shl
+pub mod Results
