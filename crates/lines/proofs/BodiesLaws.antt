@@ -4,37 +4,32 @@ use mathlib.Core.Bool.{Bool, true, false, _&&_, true≢false}
 use Prim.Native.Nat.{ℕ, _+_, _-_, _≤_}
 use native.Mathlib.Omega.{arith}
 use lib.Dec.{ltb, leb, eqb}
-use borrow.Author.Tests.{eqb-true, eq-eqb, ltb-true, ltb-false, lt-ltb, le-ltb, le-leb}
-use Rattle.hex.specs.Digits.{isDecimal, isLetter}
-use Rattle.formats.specs.Text.{text}
+use borrow.Author.Tests.{eqb-true, eq-eqb, ltb-true, ltb-false, lt-ltb, le-ltb}
 use Rattle.formats.specs.Format.{Format, pair, through}
 use Rattle.formats.specs.Words.{table, before, after}
-use Rattle.formats.specs.Numbers.{number}
-use Rattle.formats.specs.mirror.Digits.{isDigit, valueOf}
+use Rattle.formats.specs.mirror.Digits.{isDigit}
 use Rattle.formats.proofs.Tests.{both, both-left, both-right}
 use Rattle.formats.proofs.Law.{Lawful, free, weaken, keep-more}
 use Rattle.formats.proofs.Following.{Matches, follows-free}
 use Rattle.formats.proofs.Combining.{pair-lawful, through-lawful}
 use Rattle.formats.proofs.TableTests.{sound, opens, single, size, table-good}
 use Rattle.formats.proofs.WordLaws.{table-lawful}
-use Rattle.formats.proofs.AroundLaws.{before-lawful, after-lawful}
-use Rattle.fields.specs.Rules.{channelsGood, sourceCountGood}
+use Rattle.formats.proofs.AroundLaws.{after-lawful}
+use Rattle.fields.specs.Rules.{channelsGood}
 use Rattle.operand_fields.specs.declared.Raw.{Raw}
 use Rattle.operand_fields.specs.declared.Operand.{Operand}
 use Rattle.decoder.specs.declared.Instruction.{Instruction}
 use Rattle.decoder.specs.declared.Instruction.the-variants as instruction
 use Rattle.control_texts.specs.mirror.Exec.{execFrom, exec, scatterExecFits, scatterExec}
-use Rattle.text_parts.specs.mirror.Fields.{decimal, hexadecimal}
-use Rattle.text_parts.specs.mirror.Raw.{raw}
 use Rattle.control_texts.proofs.ExecLaws.{exec-lawful, scatter-exec-lawful}
-use Rattle.text_parts.proofs.FieldLaws.{decimal-lawful, hexadecimal-lawful}
-use Rattle.text_parts.proofs.RawLaws.{raw-lawful}
 use Rattle.operand_texts.specs.mirror.Operand.{generalOperand, source, destination}
-use Rattle.lines.specs.mirror.Braces.{gatherBraces, scatterBraces}
-use Rattle.lines.specs.mirror.Bodies.{space, shlParts, shlTo, shlFrom, shlFits, shl, scalarAndRaws, scalarAndRawsFit, blocks, surface, gatherParts, gatherTo, gatherFrom, gatherFits, gather, letters, scatterParts, scatterTo, scatterFrom, scatterFits, scatter, sendEndings, message, messageFits, rawSendParts, rawSendTo, rawSendFrom, rawSendFits, rawSend}
+use Rattle.line_parts.specs.mirror.Braces.{gatherBraces, scatterBraces}
+use Rattle.line_parts.specs.mirror.Parts.{space, scalarAndRawsFit, blocks, sendEndings}
+use Rattle.lines.specs.mirror.Bodies.{shlParts, shlTo, shlFrom, shlFits, shl, gatherParts, gatherTo, gatherFrom, gatherFits, gather, letters, scatterParts, scatterTo, scatterFrom, scatterFits, scatter, rawSendParts, rawSendTo, rawSendFrom, rawSendFits, rawSend}
 use Rattle.operand_texts.proofs.OperandLaws.{source-lawful, destination-lawful}
-use Rattle.lines.proofs.EndLaws.{goesOn, no-digit}
-use Rattle.lines.proofs.BracesLaws.{gather-braces-lawful, gather-braces-follow, scatter-braces-lawful, scatter-braces-follow}
+use Rattle.line_parts.proofs.EndLaws.{goesOn, no-digit}
+use Rattle.line_parts.proofs.BracesLaws.{gather-braces-lawful, gather-braces-follow, scatter-braces-lawful, scatter-braces-follow}
+use Rattle.line_parts.proofs.PartsLaws.{scalar-and-raws-lawful, scalar-and-raws-good, surface-lawful, surface-good, message-lawful, message-good}
 
 -- ---- a body's values and the instructions of its kind, where its test asks for the predicate's word and what its parts ask
 
@@ -75,27 +70,7 @@ pub shl-lawful : (pred : ℕ) → Lawful (shl pred) goesOn
 unfolding shl
 shl-lawful pred = weaken goesOn (through-lawful shl-parts-lawful (shl-matches pred))
 
--- ---- a scalar and two raw operands
-
-pub scalar-and-raws-lawful : Lawful scalarAndRaws (isDigit 10)
-unfolding scalarAndRaws sound single opens isDigit valueOf isDecimal isLetter
-scalar-and-raws-lawful =
-    pair-lawful (after-lawful space refl refl refl source-lawful) (λ _.
-    pair-lawful (after-lawful space refl refl refl raw-lawful) (λ _. raw-lawful) follows-free) follows-free
-
-scalar-and-raws-good : (v : Operand × (Raw × Raw)) → scalarAndRaws .good v ≡ scalarAndRawsFit (v .0) (v .1 .0) (v .1 .1)
-unfolding scalarAndRaws scalarAndRawsFit pair through after source raw
-scalar-and-raws-good v = refl
-
 -- ---- GATHER_SCALED
-
-surface-lawful : Lawful surface free
-unfolding surface sound single opens isDigit valueOf isDecimal isLetter
-surface-lawful = before-lawful (text "T|") refl refl (decimal-lawful 0 255 space (omega arith) (omega arith) refl refl refl)
-
-surface-good : (n : ℕ) → surface .good n ≡ leb n 255
-unfolding surface before decimal after through number
-surface-good n = rw (le-leb 0 n (omega arith))
 
 gather-parts-lawful : Lawful gatherParts goesOn
 unfolding gatherParts sound
@@ -172,17 +147,6 @@ unfolding scatter
 scatter-lawful pred = through-lawful scatter-parts-lawful (scatter-matches pred)
 
 -- ---- RAW_SEND
-
-message-lawful : Lawful message free
-unfolding message sound single opens isDigit valueOf isDecimal isLetter
-message-lawful =
-    pair-lawful (hexadecimal-lawful 4294967295 space refl refl refl) (λ _.
-    pair-lawful (decimal-lawful 1 15 space (omega arith) (omega arith) refl refl refl) (λ _.
-    decimal-lawful 0 16 space (omega arith) (omega arith) refl refl refl) follows-free) follows-free
-
-message-good : (v : ℕ × (ℕ × ℕ)) → message .good v ≡ messageFits (v .0) (v .1 .0) (v .1 .1)
-unfolding message messageFits sourceCountGood hexadecimal decimal before after pair through number
-message-good v = rw (le-leb 0 (v .0) (omega arith), le-leb 0 (v .1 .1) (omega arith))
 
 raw-send-parts-lawful : Lawful rawSendParts (isDigit 10)
 unfolding rawSendParts sound

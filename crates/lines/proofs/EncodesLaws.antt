@@ -28,7 +28,8 @@ use Rattle.decoder.specs.Format.{shlFields, gatherFields, scatterFields, rawSen
 use Rattle.formats.proofs.Tests.{both-right}
 use Rattle.text_parts.specs.mirror.Raw.{rawFits}
 use Rattle.operand_texts.specs.mirror.Operand.{operandFits}
-use Rattle.lines.specs.mirror.Bodies.{scalarAndRawsFit, shlFits, gatherFits, scatterFits, rawSendFits}
+use Rattle.line_parts.specs.mirror.Parts.{scalarAndRawsFit}
+use Rattle.lines.specs.mirror.Bodies.{shlFits, gatherFits, scatterFits, rawSendFits}
 use Rattle.lines.specs.mirror.Line.{predOf, bodyFits, lineFits}
 use Rattle.lines.proofs.FitLaws.{all-each, each-all, shlTests, gatherTests, scatterTests, rawSendTests}
 use Rattle.lines.proofs.TakenLaws.{TakenIf, taken-append, taken-encodes, good-judged, control-alike, scatter-control-alike, raw-alike, destination-alike, source-alike, scalar-alike, access-alike, message-alike}

@@ -12,8 +12,8 @@ use Rattle.formats.proofs.Tests.{both, both-left, both-right}
 use Rattle.control_texts.specs.mirror.Predicate.{predicateFits}
 use Rattle.control_texts.specs.mirror.Exec.{execFits, scatterExecFits}
 use Rattle.operand_texts.specs.mirror.Operand.{generalOperandFits, operandFits}
-use Rattle.lines.specs.mirror.Braces.{gatherBracesFit}
-use Rattle.lines.specs.mirror.Bodies.{scalarAndRawsFit, messageFits}
+use Rattle.line_parts.specs.mirror.Braces.{gatherBracesFit}
+use Rattle.line_parts.specs.mirror.Parts.{scalarAndRawsFit, messageFits}
 
 abbrev pub All : List Bool → Bool
 All [] = true

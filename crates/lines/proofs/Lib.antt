@@ -1,5 +1,3 @@
-pub mod EndLaws
-pub mod BracesLaws
 pub mod BodiesLaws
 pub mod LineLaws
 pub mod FitLaws

@@ -20,7 +20,7 @@ use Rattle.formats.proofs.PartLaws.{in-table}
 use Rattle.control_texts.proofs.PredicateLaws.{bracket, predicate-lawful}
 use Rattle.lines.specs.mirror.Bodies.{shlFits, shl, gatherFits, gather, scatterFits, scatter, rawSendFits, rawSend}
 use Rattle.lines.specs.mirror.Line.{names, nameOf, predOf, body, named, bodyFits, lineFits, line}
-use Rattle.lines.proofs.EndLaws.{goesOn}
+use Rattle.line_parts.proofs.EndLaws.{goesOn}
 use Rattle.lines.proofs.BodiesLaws.{shl-lawful, gather-lawful, scatter-lawful, raw-send-lawful}
 
 body-lawful : (pred name : ℕ) → Lawful (body pred name) goesOn

@@ -34,8 +34,9 @@ use Rattle.control_texts.proofs.PrintLaws.{predicate-prints, exec-prints, scatt
 use Rattle.text_parts.proofs.PrintLaws.{raw-prints}
 use Rattle.operand_texts.specs.mirror.Operand.{source, destination}
 use Rattle.operand_texts.specs.Texts.{operandText}
-use Rattle.lines.specs.mirror.Braces.{bracing, scaleBehind, sizeAndScale, gatherBraces, scaleAlone, scatterBraces}
-use Rattle.lines.specs.mirror.Bodies.{shlParts, shlFrom, shlFits, shl, scalarAndRaws, scalarAndRawsFit, blocks, surface, gatherParts, gatherFrom, gatherFits, gather, letters, scatterParts, scatterFrom, scatterFits, scatter, sendEndings, message, rawSendParts, rawSendFrom, rawSendFits, rawSend}
+use Rattle.line_parts.specs.mirror.Braces.{bracing, scaleBehind, sizeAndScale, gatherBraces, scaleAlone, scatterBraces}
+use Rattle.line_parts.specs.mirror.Parts.{scalarAndRaws, scalarAndRawsFit, blocks, surface, sendEndings, message}
+use Rattle.lines.specs.mirror.Bodies.{shlParts, shlFrom, shlFits, shl, gatherParts, gatherFrom, gatherFits, gather, letters, scatterParts, scatterFrom, scatterFits, scatter, rawSendParts, rawSendFrom, rawSendFits, rawSend}
 use Rattle.lines.specs.mirror.Line.{nameOf, predOf, body, named, bodyFits, lineFits, line}
 use Rattle.lines.specs.LineOf.{spaced, shlLine, gatherBracesText, gatherLine, lettersText, scatterBracesText, scatterLine, rawSendLine, lineOf}
 use Rattle.operand_texts.proofs.PrintLaws.{source-prints, destination-prints}

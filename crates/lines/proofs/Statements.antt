@@ -22,7 +22,7 @@ use Rattle.lines.specs.mirror.Line.{lineFits, line}
 use Rattle.lines.specs.LineOf.{lineOf}
 use Rattle.lines.specs.Reading.{Reading, isLine, noLine, readingOf, onReading}
 use Rattle.lines.specs.Claims.{Encodes, LineBegins, IsColumn}
-use Rattle.lines.proofs.EndLaws.{goesOn}
+use Rattle.line_parts.proofs.EndLaws.{goesOn}
 use Rattle.lines.proofs.LineLaws.{line-lawful, line-good}
 use Rattle.lines.proofs.EncodesLaws.{fits-encodes, encodes-fits}
 use Rattle.lines.proofs.PrintLaws.{line-prints}

@@ -39,8 +39,8 @@ use Rattle.text_parts.proofs.ImmediateLaws.{Code, listed-code}
 use Rattle.operand_texts.specs.mirror.Region.{regionFits}
 use Rattle.operand_texts.specs.mirror.General.{generalFits}
 use Rattle.operand_texts.specs.mirror.Operand.{generalOperandFits, operandFits}
-use Rattle.lines.specs.mirror.Braces.{gatherBracesFit}
-use Rattle.lines.specs.mirror.Bodies.{messageFits}
+use Rattle.line_parts.specs.mirror.Braces.{gatherBracesFit}
+use Rattle.line_parts.specs.mirror.Parts.{messageFits}
 
 -- a test that holds if and only if the other does
 pub record Alike (P Q : Type 0) : Type 0 where

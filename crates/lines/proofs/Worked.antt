@@ -26,8 +26,9 @@ use Rattle.text_parts.specs.mirror.Immediate.{typeBehind, codeAt, immediatePart
 use Rattle.operand_texts.specs.mirror.Region.{sourceRegion, strideBehind, widthAndStride, destinationRegion}
 use Rattle.operand_texts.specs.mirror.General.{generalParts, general}
 use Rattle.operand_texts.specs.mirror.Operand.{generalOperand, immediateOperand, formed, source, destination}
-use Rattle.lines.specs.mirror.Braces.{scaleBehind, sizeAndScale, gatherBraces, scaleAlone, scatterBraces}
-use Rattle.lines.specs.mirror.Bodies.{shlParts, shl, scalarAndRaws, surface, gatherParts, gather, scatterParts, scatter, message, rawSendParts, rawSend}
+use Rattle.line_parts.specs.mirror.Braces.{scaleBehind, sizeAndScale, gatherBraces, scaleAlone, scatterBraces}
+use Rattle.line_parts.specs.mirror.Parts.{scalarAndRaws, surface, message}
+use Rattle.lines.specs.mirror.Bodies.{shlParts, shl, gatherParts, gather, scatterParts, scatter, rawSendParts, rawSend}
 use Rattle.lines.specs.mirror.Line.{body, named, line}
 use Rattle.lines.specs.LineOf.{lineOf}
 use Rattle.lines.specs.Reading.{Reading, isLine, noLine, readingOf}

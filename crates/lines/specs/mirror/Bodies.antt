@@ -5,21 +5,17 @@ use mathlib.Core.Bool.{Bool, false, _&&_}
 use lib.Dec.{ltb, leb, eqb}
 use Rattle.formats.specs.Text.{text}
 use Rattle.formats.specs.Format.{Format, pair, through}
-use Rattle.formats.specs.Words.{table, before, after}
-use Rattle.fields.specs.Rules.{channelsGood, sourceCountGood}
+use Rattle.formats.specs.Words.{table, after}
+use Rattle.fields.specs.Rules.{channelsGood}
 use Rattle.operand_fields.specs.declared.Raw.{Raw}
 use Rattle.operand_fields.specs.declared.Operand.{Operand}
 use Rattle.operand_fields.specs.declared.Operand.the-variants as operand
 use Rattle.decoder.specs.declared.Instruction.{Instruction}
 use Rattle.decoder.specs.declared.Instruction.the-variants as instruction
 use Rattle.control_texts.specs.mirror.Exec.{execFits, exec, scatterExecFits, scatterExec}
-use Rattle.text_parts.specs.mirror.Fields.{decimal, hexadecimal}
-use Rattle.text_parts.specs.mirror.Raw.{rawFits, raw}
 use Rattle.operand_texts.specs.mirror.Operand.{generalOperandFits, operandFits, source, destination}
-use Rattle.lines.specs.mirror.Braces.{gatherBracesFit, gatherBraces, scatterBraces}
-
-abbrev pub space : List ℕ
-space = text " |"
+use Rattle.line_parts.specs.mirror.Braces.{gatherBracesFit, gatherBraces, scatterBraces}
+use Rattle.line_parts.specs.mirror.Parts.{space, scalarAndRaws, scalarAndRawsFit, blocks, surface, sendEndings, message, messageFits}
 
 -- values for an instruction that is not of the kind; nothing depends on them
 abbrev pub noOperand : Operand
@@ -52,21 +48,7 @@ shlFits pred (instruction.RawSend x) = false
 unfoldable pub shl : ℕ → Format Instruction
 shl pred = through (shlTo pred) shlFrom (shlFits pred) shlParts
 
--- ---- how the other three end: a scalar and two raw operands
-
-unfoldable pub scalarAndRaws : Format (Operand × (Raw × Raw))
-scalarAndRaws = pair (after source space) (λ _. pair (after raw space) (λ _. raw))
-
-unfoldable pub scalarAndRawsFit : Operand → Raw → Raw → Bool
-scalarAndRawsFit scalar first second = operandFits scalar && (rawFits first && rawFits second)
-
 -- ---- page 001: `GATHER_SCALED.2 (M1,8) T1 0x10:ud v4.0 v5.32 {1,0}`; "Num_blocks codes 0, 1, 2 are 1, 2, 4 bytes"
-
-abbrev pub blocks : List ℕ
-blocks = text "1 |2 |4 |"
-
-unfoldable pub surface : Format ℕ
-surface = before (text "T|") (decimal 0 255 space)
 
 unfoldable pub gatherParts : Format (ℕ × (ℕ × (ℕ × ((Operand × (Raw × Raw)) × (ℕ × ℕ)))))
 gatherParts = pair (table blocks) (λ _. pair exec (λ _. pair surface (λ _. pair scalarAndRaws (λ _. gatherBraces))))
@@ -143,15 +125,6 @@ unfoldable pub scatter : ℕ → Format Instruction
 scatter pred = through (scatterTo pred) scatterFrom (scatterFits pred) scatterParts
 
 -- ---- page 002: `raw_sendc (M1,1) 0x1a 1 0 v0(0,0)<0;1,0> v1.8 v2.0`; bit 0 of Modifiers is the `c`
-
-abbrev pub sendEndings : List ℕ
-sendEndings = text " |c |"
-
-unfoldable pub message : Format (ℕ × (ℕ × ℕ))
-message = pair (hexadecimal 4294967295 space) (λ _. pair (decimal 1 15 space) (λ _. decimal 0 16 space))
-
-unfoldable pub messageFits : ℕ → ℕ → ℕ → Bool
-messageFits extended sources destinations = leb extended 4294967295 && (sourceCountGood sources && leb destinations 16)
 
 unfoldable pub rawSendParts : Format (ℕ × (ℕ × ((ℕ × (ℕ × ℕ)) × (Operand × (Raw × Raw)))))
 rawSendParts = pair (table sendEndings) (λ _. pair exec (λ _. pair message (λ _. scalarAndRaws)))

@@ -1,11 +1,11 @@
--- `lines::surface_at` meets its contract: at each return, what the calls and tests on the way say picks the case of `Bodies`.
+-- `line_parts::surface_at` meets its contract: at each return, what the calls and tests on the way say picks the case of `Parts`.
 use borrow.Author.Needs.{needs}
 use Rattle.formats.specs.Format.{pair, through}
 use Rattle.formats.specs.Words.{before}
-use Rattle.lines.specs.mirror.Bodies.{surface}
-use Rattle.lines.proofs.BoundLaws.{surface-bound}
-use Rattle.lines.proofs.surface_at.Statement.{statement}
-use Rattle.lines.proofs.surface_at.Tie as tie
+use Rattle.line_parts.specs.mirror.Parts.{surface}
+use Rattle.line_parts.proofs.BoundLaws.{surface-bound}
+use Rattle.line_parts.proofs.surface_at.Statement.{statement}
+use Rattle.line_parts.proofs.surface_at.Tie as tie
 
 byte-of-requires : tie.Need-byte-of-requires
 byte-of-requires c κs =

@@ -1,10 +1,10 @@
--- `lines::message_at` meets its contract: at each return, what the calls and tests on the way say picks the case of `Bodies`.
+-- `line_parts::message_at` meets its contract: at each return, what the calls and tests on the way say picks the case of `Parts`.
 use borrow.Author.Needs.{needs}
 use Rattle.formats.specs.Format.{pair}
-use Rattle.lines.specs.mirror.Bodies.{message}
-use Rattle.lines.proofs.BoundLaws.{extended-bound, sources-bound, destinations-bound}
-use Rattle.lines.proofs.message_at.Statement.{statement}
-use Rattle.lines.proofs.message_at.Tie as tie
+use Rattle.line_parts.specs.mirror.Parts.{message}
+use Rattle.line_parts.proofs.BoundLaws.{extended-bound, sources-bound, destinations-bound}
+use Rattle.line_parts.proofs.message_at.Statement.{statement}
+use Rattle.line_parts.proofs.message_at.Tie as tie
 
 dword-of-requires : tie.Need-dword-of-requires
 dword-of-requires c κs =

@@ -1,11 +1,11 @@
--- `lines::scatter_braces_at` meets its contract: at each return, what the calls and tests on the way say picks the case of `Braces`.
+-- `line_parts::scatter_braces_at` meets its contract: at each return, what the calls and tests on the way say picks the case of `Braces`.
 use borrow.Author.Needs.{needs}
 use borrow.Author.Tests.{eq-eqb, ne-eqb}
 use Rattle.formats.specs.Format.{pair, through, blank}
-use Rattle.lines.specs.mirror.Braces.{scatterBraces, scaleAlone}
-use Rattle.lines.proofs.BoundLaws.{scale-alone-bound}
-use Rattle.lines.proofs.scatter_braces_at.Statement.{statement}
-use Rattle.lines.proofs.scatter_braces_at.Tie as tie
+use Rattle.line_parts.specs.mirror.Braces.{scatterBraces, scaleAlone}
+use Rattle.line_parts.proofs.BoundLaws.{scale-alone-bound}
+use Rattle.line_parts.proofs.scatter_braces_at.Statement.{statement}
+use Rattle.line_parts.proofs.scatter_braces_at.Tie as tie
 
 word-of-requires : tie.Need-word-of-requires
 word-of-requires c κs =

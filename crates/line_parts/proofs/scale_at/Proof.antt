@@ -1,8 +1,8 @@
--- `lines::scale_at` meets its contract: the lowest Scale depends on the Block_size alone.
+-- `line_parts::scale_at` meets its contract: the lowest Scale depends on the Block_size alone.
 use borrow.Author.Needs.{needs}
-use Rattle.lines.proofs.BracesLaws.{read-some-scale, read-any-scale}
-use Rattle.lines.proofs.scale_at.Statement.{statement}
-use Rattle.lines.proofs.scale_at.Tie as tie
+use Rattle.line_parts.proofs.BracesLaws.{read-some-scale, read-any-scale}
+use Rattle.line_parts.proofs.scale_at.Statement.{statement}
+use Rattle.line_parts.proofs.scale_at.Tie as tie
 
 returns : tie.Need-returns
 returns c =

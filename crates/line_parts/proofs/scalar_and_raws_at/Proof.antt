@@ -1,9 +1,9 @@
--- `lines::scalar_and_raws_at` meets its contract: at each return, what the calls and tests on the way say picks the case of `Bodies`.
+-- `line_parts::scalar_and_raws_at` meets its contract: at each return, what the calls and tests on the way say picks the case of `Parts`.
 use borrow.Author.Needs.{needs}
 use Rattle.formats.specs.Format.{pair}
-use Rattle.lines.specs.mirror.Bodies.{scalarAndRaws}
-use Rattle.lines.proofs.scalar_and_raws_at.Statement.{statement}
-use Rattle.lines.proofs.scalar_and_raws_at.Tie as tie
+use Rattle.line_parts.specs.mirror.Parts.{scalarAndRaws}
+use Rattle.line_parts.proofs.scalar_and_raws_at.Statement.{statement}
+use Rattle.line_parts.proofs.scalar_and_raws_at.Tie as tie
 
 returns : tie.Need-returns
 unfolding scalarAndRaws pair

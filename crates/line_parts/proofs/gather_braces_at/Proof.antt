@@ -1,11 +1,11 @@
--- `lines::gather_braces_at` meets its contract: at each return, what the calls and tests on the way say picks the case of `Braces`.
+-- `line_parts::gather_braces_at` meets its contract: at each return, what the calls and tests on the way say picks the case of `Braces`.
 use borrow.Author.Needs.{needs}
 use borrow.Author.Tests.{eq-eqb, ne-eqb}
 use Rattle.formats.specs.Format.{pair, through, blank}
-use Rattle.lines.specs.mirror.Braces.{gatherBraces, sizeAndScale}
-use Rattle.lines.proofs.BoundLaws.{size-bound, scale-bound}
-use Rattle.lines.proofs.gather_braces_at.Statement.{statement}
-use Rattle.lines.proofs.gather_braces_at.Tie as tie
+use Rattle.line_parts.specs.mirror.Braces.{gatherBraces, sizeAndScale}
+use Rattle.line_parts.proofs.BoundLaws.{size-bound, scale-bound}
+use Rattle.line_parts.proofs.gather_braces_at.Statement.{statement}
+use Rattle.line_parts.proofs.gather_braces_at.Tie as tie
 
 byte-of-requires : tie.Need-byte-of-requires
 byte-of-requires c κs =

@@ -1,9 +1,9 @@
--- `lines::spaced_source_at` meets its contract: at each return, what the calls and tests on the way say picks the case of `after`.
+-- `line_parts::spaced_source_at` meets its contract: at each return, what the calls and tests on the way say picks the case of `after`.
 use borrow.Author.Needs.{needs}
 use Rattle.formats.specs.Format.{pair, through}
 use Rattle.formats.specs.Words.{after}
-use Rattle.lines.proofs.spaced_source_at.Statement.{statement}
-use Rattle.lines.proofs.spaced_source_at.Tie as tie
+use Rattle.line_parts.proofs.spaced_source_at.Statement.{statement}
+use Rattle.line_parts.proofs.spaced_source_at.Tie as tie
 
 returns : tie.Need-returns
 unfolding after pair through

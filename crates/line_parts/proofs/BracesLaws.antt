@@ -26,8 +26,8 @@ use Rattle.text_parts.specs.mirror.Fields.{decimal}
 use Rattle.formats.proofs.PartLaws.{in-table, in-range}
 use Rattle.text_parts.proofs.FieldLaws.{decimal-lawful, decimal-between}
 use Rattle.control_texts.proofs.PredicateLaws.{nothing-lawful}
-use Rattle.lines.specs.mirror.Braces.{bracing, scaleBehind, sizeAndScale, gatherBracesFit, gatherBraces, scaleAlone, scatterBraces}
-use Rattle.lines.proofs.EndLaws.{isSpace, goesOn, no-digit, no-space}
+use Rattle.line_parts.specs.mirror.Braces.{bracing, scaleBehind, sizeAndScale, gatherBracesFit, gatherBraces, scaleAlone, scatterBraces}
+use Rattle.line_parts.proofs.EndLaws.{isSpace, goesOn, no-digit, no-space}
 
 -- ---- the pieces
 

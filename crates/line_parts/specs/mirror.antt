@@ -1,0 +1,3 @@
+pub mod Braces
+pub mod Parts
+pub mod Pieces
