@@ -33,8 +33,9 @@ use Rattle.operand_texts.specs.mirror.Region.{verticals, widths, strides, first
 use Rattle.operand_texts.specs.mirror.General.{generalParts, general}
 use Rattle.operand_texts.specs.mirror.Operand.{forms, formOf, asGeneral, asImmediate, generalOperand, immediateOperand, formed, source, destination}
 use Rattle.operand_texts.specs.Texts.{generalText}
-use Rattle.lines.specs.mirror.Braces.{bracing, scaleBehind, sizeAndScale, gatherBraces, scaleAlone, scatterBraces}
-use Rattle.lines.specs.mirror.Bodies.{space, shlParts, shlFrom, shl, scalarAndRaws, blocks, surface, gatherParts, gatherFrom, gather, letters, scatterParts, scatterFrom, scatter, sendEndings, message, rawSendParts, rawSendFrom, rawSend}
+use Rattle.line_parts.specs.mirror.Braces.{bracing, scaleBehind, sizeAndScale, gatherBraces, scaleAlone, scatterBraces}
+use Rattle.line_parts.specs.mirror.Parts.{space, scalarAndRaws, blocks, surface, sendEndings, message}
+use Rattle.lines.specs.mirror.Bodies.{shlParts, shlFrom, shl, gatherParts, gatherFrom, gather, letters, scatterParts, scatterFrom, scatter, rawSendParts, rawSendFrom, rawSend}
 use Rattle.lines.specs.mirror.Line.{names, nameOf, predOf, body, named, line}
 
 -- ---- regions

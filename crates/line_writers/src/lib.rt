@@ -17,8 +17,9 @@ ghost use Rattle.control_texts.specs.mirror.Predicate.{zeros, predicate};
 ghost use Rattle.operand_texts.specs.mirror.Region.{sourceRegion, destinationRegionFrom, destinationRegion};
 ghost use Rattle.operand_texts.specs.mirror.Operand.{asGeneral, source, destination};
 ghost use Rattle.operand_texts.specs.Texts.{generalText};
-ghost use Rattle.lines.specs.mirror.Braces.{gatherBraces, scatterBraces};
-ghost use Rattle.lines.specs.mirror.Bodies.{space, shl, scalarAndRaws, surface, gather, scatter, message, rawSend};
+ghost use Rattle.line_parts.specs.mirror.Braces.{gatherBraces, scatterBraces};
+ghost use Rattle.line_parts.specs.mirror.Parts.{space, scalarAndRaws, surface, message};
+ghost use Rattle.lines.specs.mirror.Bodies.{shl, gather, scatter, rawSend};
 ghost use Rattle.lines.specs.mirror.Line.{names, line};
 
 fn put_source_region(out: &mut [u8], at: usize, region: u16) -> usize
