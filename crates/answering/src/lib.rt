@@ -3,8 +3,7 @@
 #![tactic(auto)]
 
 ghost use Rattle.std.specs.Prelude.{◌≡◌, ◌≤◌, min};
-ghost use Rattle.tally.specs.Mirror.Reading.{contents, reading};
-ghost use Rattle.tally.specs.Mirror.Lent.{lent_tables};
+ghost use Rattle.tally.specs.Mirror.Reading.{contents, reading, tables};
 ghost use Rattle.tally.specs.Mirror.Lines.{length_of};
 ghost use Rattle.tally.specs.Mirror.Verdicts.{taint_length};
 ghost use Rattle.output.specs.Mirror.Page.{page, written};
@@ -22,7 +21,7 @@ use step::Constants;
 use tally::Case;
 
 // What is written of an answer: the 40 line and the buffers, or the verdict line.
-#[derive(Drop)]
+#[derive(Clone, Copy)]
 pub enum Form {
     Lines,
     Verdict,
@@ -82,7 +81,7 @@ fn run_case(
     memory: &mut [u8],
     memory_taint: &mut [u8],
 ) -> Answer
-    ensures { let t = lent_tables types starts counts predicate_bits predicate_counts surfaces surface_lengths in let s = lent registers register_taint surfaces surface_taint memory memory_taint in (outcome result s.exit ≡ run (setup_of case kernel.now t.entry) s.entry) × (result.completed ≤ 4096) × (result.position ≤ 4096) }
+    ensures { let t = tables types.now starts.now counts.now predicate_bits.now predicate_counts.now surfaces.now surface_lengths.now in let s = lent registers register_taint surfaces surface_taint memory memory_taint in (outcome result s.exit ≡ run (setup_of case kernel.now t) s.entry) × (result.completed ≤ 4096) × (result.position ≤ 4096) }
 {
     let constants = Constants {
         base: case.settings.base,
@@ -154,7 +153,7 @@ fn run_and_write(
     form: Form,
     out: &mut [u8],
 ) -> usize
-    ensures { let t = lent_tables types starts counts predicate_bits predicate_counts surfaces surface_lengths in let s = lent registers register_taint surfaces surface_taint memory memory_taint in Puts (outcome_text form case.settings.base (run (setup_of case kernel.now t.entry) s.entry)) out.old out.new result }
+    ensures { let t = tables types.now starts.now counts.now predicate_bits.now predicate_counts.now surfaces.now surface_lengths.now in let s = lent registers register_taint surfaces surface_taint memory memory_taint in Puts (outcome_text form case.settings.base (run (setup_of case kernel.now t) s.entry)) out.old out.new result }
 {
     let answer = run_case(
         case,
@@ -224,7 +223,7 @@ fn answer_good(
     form: Form,
     out: &mut [u8],
 ) -> usize
-    ensures { let t = lent_tables types starts counts predicate_bits predicate_counts surface_bytes surface_lengths in Puts (good_output form (reading case (contents registers memory kernel.now register_taint surface_taint memory_taint) t.entry)) out.old out.new result }
+    ensures { let t = tables types.now starts.now counts.now predicate_bits.now predicate_counts.now surface_bytes.now surface_lengths.now in Puts (good_output form (reading case (contents registers memory kernel.now register_taint surface_taint memory_taint) t)) out.old out.new result }
 {
     let file = content_length(1, case);
     let window = content_length(5, case);
@@ -272,7 +271,7 @@ pub fn answer(
     form: Form,
     out: &mut [u8],
 ) -> usize
-    ensures { let t = lent_tables types starts counts predicate_bits predicate_counts surface_bytes surface_lengths in Puts (case_output form (reading case (contents registers memory kernel.now register_taint surface_taint memory_taint) t.entry)) out.old out.new result }
+    ensures { let t = tables types.now starts.now counts.now predicate_bits.now predicate_counts.now surface_bytes.now surface_lengths.now in Puts (case_output form (reading case (contents registers memory kernel.now register_taint surface_taint memory_taint) t)) out.old out.new result }
 {
     let verdict = tally::judge(case);
     if 0 < verdict.number {

@@ -16,14 +16,14 @@ const ANY: u8 = 1;
 const ALL: u8 = 2;
 
 // What the predicate says: the same in every lane, or a bit of the word for each lane, inverted or not.
-#[derive(Drop)]
+#[derive(Clone, Copy)]
 pub enum Predicate {
     Uniform(bool),
     PerLane(u32, bool),
 }
 
 // What is worked out once for an instruction.
-#[derive(Drop)]
+#[derive(Clone, Copy)]
 pub struct Lanes {
     pub exec: Exec,
     pub mask: u32,

@@ -10,13 +10,13 @@ ghost use Rattle.control_texts.specs.Told.{told_byte, told_word};
 
 use formats::{Base, Cursor, NumberRead};
 
-#[derive(Drop)]
+#[derive(Clone, Copy)]
 pub enum ByteRead {
     Got(u8, Cursor),
     Stop(usize),
 }
 
-#[derive(Drop)]
+#[derive(Clone, Copy)]
 pub enum WordRead {
     Got(u16, Cursor),
     Stop(usize),

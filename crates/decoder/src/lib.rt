@@ -11,7 +11,7 @@ use fields::{ByteField, ByteRule, TagRule, WordField, WordRule};
 use operand_fields::{Operand, OperandField, Raw, ScalarAndRawsField};
 use reader::Cursor;
 
-#[derive(Drop)]
+#[derive(Clone, Copy)]
 pub struct Shl {
     pub control: Control,
     pub destination: Operand,
@@ -19,7 +19,7 @@ pub struct Shl {
     pub count: Operand,
 }
 
-#[derive(Drop)]
+#[derive(Clone, Copy)]
 pub struct Gather {
     pub control: Control,
     pub access: Access,
@@ -29,7 +29,7 @@ pub struct Gather {
 }
 
 // `scale` is ignored and carried.
-#[derive(Drop)]
+#[derive(Clone, Copy)]
 pub struct Scatter {
     pub control: Control,
     pub channels: u8,
@@ -39,7 +39,7 @@ pub struct Scatter {
     pub source: Raw,
 }
 
-#[derive(Drop)]
+#[derive(Clone, Copy)]
 pub struct RawSend {
     pub modifiers: u8,
     pub control: Control,
@@ -50,7 +50,7 @@ pub struct RawSend {
 }
 
 // A decoded instruction: the numbers of its fields. Opcodes and tags are told by the variants.
-#[derive(Drop)]
+#[derive(Clone, Copy)]
 pub enum Instruction {
     Shl(Shl),
     Gather(Gather),
@@ -59,7 +59,7 @@ pub enum Instruction {
 }
 
 // The instruction with the cursor at its end, or the number of its refusal.
-#[derive(Drop)]
+#[derive(Clone, Copy)]
 pub enum Decoded {
     Accepted(Instruction, Cursor),
     Refused(u8),

@@ -6,7 +6,7 @@ ghost use Rattle.std.specs.Prelude.{◌≡◌};
 ghost use Rattle.details.specs.Details.{is_some, operand_detail};
 
 // An operand by its place in field order, from 1; a pair by channel and lane.
-#[derive(Drop)]
+#[derive(Clone, Copy)]
 pub enum Detail {
     None,
     Operand(u8),
@@ -14,7 +14,7 @@ pub enum Detail {
 }
 
 // A number, 0 where nothing is refused, and what it tells.
-#[derive(Drop)]
+#[derive(Clone, Copy)]
 pub struct Status {
     pub number: u8,
     pub detail: Detail,

@@ -18,7 +18,7 @@ use fields::{ByteRule, Field, TagRule, WordRule};
 use operand_fields::{General, Immediate, Operand, Raw};
 
 // How many bytes were written, or the number of the refusal.
-#[derive(Drop)]
+#[derive(Clone, Copy)]
 pub enum Encoded {
     Wrote(usize),
     Refused(u8),
@@ -37,7 +37,7 @@ impl Encoded {
 }
 
 // An encoding that grows field by field. `number` is the first refusal, 0 for none. No draft has more than 34 bytes.
-#[derive(Drop)]
+#[derive(Clone, Copy)]
 struct Draft {
     number: u8,
     length: usize,

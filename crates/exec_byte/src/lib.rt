@@ -8,7 +8,7 @@ ghost use Rattle.std.specs.Prelude.{◌≡◌};
 ghost use Rattle.exec_byte.specs.Exec.{exec_of};
 
 // The parts of an exec byte: whether it is reserved, ExecSize, the offset, and whether NM is chosen.
-#[derive(Drop)]
+#[derive(Clone, Copy)]
 pub struct Exec {
     pub reserved: bool,
     pub size: u8,

@@ -10,7 +10,7 @@ ghost use Rattle.feeding.specs.Mirror.Feeding.{machine, fresh, read_on, fed, fin
 use tally::Case;
 
 // How many characters of the line begun stand in the line buffer, whether there were more, and what the lines before came to.
-#[derive(Drop)]
+#[derive(Clone, Copy)]
 pub struct State {
     pub used: usize,
     pub long: bool,

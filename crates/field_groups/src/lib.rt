@@ -9,14 +9,14 @@ use fields::{ByteField, ByteRule, DwordField, WordField, WordRule};
 use reader::Cursor;
 
 // Exec_size and Pred, which every instruction has.
-#[derive(Drop)]
+#[derive(Clone, Copy)]
 pub struct Control {
     pub exec: u8,
     pub pred: u16,
 }
 
 // What a gather reads at each address. `block_size` and `scale` are ignored and carried.
-#[derive(Drop)]
+#[derive(Clone, Copy)]
 pub struct Access {
     pub block_size: u8,
     pub num_blocks: u8,
@@ -25,26 +25,26 @@ pub struct Access {
 }
 
 // ExMsgDesc, NumSrc and NumDst of a RAW_SEND.
-#[derive(Drop)]
+#[derive(Clone, Copy)]
 pub struct Message {
     pub extended: u32,
     pub num_src: u8,
     pub num_dst: u8,
 }
 
-#[derive(Drop)]
+#[derive(Clone, Copy)]
 pub enum ControlField {
     Got(Control, Cursor),
     Refused(u8),
 }
 
-#[derive(Drop)]
+#[derive(Clone, Copy)]
 pub enum AccessField {
     Got(Access, Cursor),
     Refused(u8),
 }
 
-#[derive(Drop)]
+#[derive(Clone, Copy)]
 pub enum MessageField {
     Got(Message, Cursor),
     Refused(u8),

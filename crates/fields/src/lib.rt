@@ -10,7 +10,7 @@ ghost use Rattle.fields.specs.Reading.{byte_field_at, word_field_at, dword_field
 use reader::{Cursor, ReadByte, ReadDword, ReadWord};
 
 // Whose tag it is: SHL's destination, a source of SHL, or a scalar (a gather's Offset, a scatter's Address, RAW_SEND's Desc).
-#[derive(Drop)]
+#[derive(Clone, Copy)]
 pub enum TagRule {
     Destination,
     Source,
@@ -18,7 +18,7 @@ pub enum TagRule {
 }
 
 // Which stored byte it is, and so which rule judges it.
-#[derive(Drop)]
+#[derive(Clone, Copy)]
 pub enum ByteRule {
     Free,
     Exec,
@@ -32,33 +32,33 @@ pub enum ByteRule {
     ImmediateType,
 }
 
-#[derive(Drop)]
+#[derive(Clone, Copy)]
 pub enum WordRule {
     Free,
     Predicate,
     Region,
 }
 
-#[derive(Drop)]
+#[derive(Clone, Copy)]
 pub enum ByteField {
     Got(u8, Cursor),
     Refused(u8),
 }
 
-#[derive(Drop)]
+#[derive(Clone, Copy)]
 pub enum WordField {
     Got(u16, Cursor),
     Refused(u8),
 }
 
-#[derive(Drop)]
+#[derive(Clone, Copy)]
 pub enum DwordField {
     Got(u32, Cursor),
     Refused(u8),
 }
 
 // The parts of a tag: class, modifier, and the bits that are not named.
-#[derive(Drop)]
+#[derive(Clone, Copy)]
 pub struct Tag {
     pub class: u8,
     pub modifier: u8,
@@ -67,7 +67,7 @@ pub struct Tag {
 
 // One field with its number: what an instruction is laid out from. `Lacking` is the high word of an immediate whose type
 // has none: it has no bytes, and must be 0.
-#[derive(Drop)]
+#[derive(Clone, Copy)]
 pub enum Field {
     Byte(ByteRule, u8),
     Word(WordRule, u16),

@@ -1,5 +1,5 @@
 -- Numbers of a range, in the digits of a base from 2 to 16: small letters, no leading zero.
-use Rattle.std.specs.Prelude.{ℕ, zero, ◌&&◌, leb, drop}
+use Rattle.std.specs.Prelude.{ℕ, ◌&&◌, leb, drop}
 use Rattle.formats.specs.Format.{Format}
 use Rattle.formats.specs.Numerals.{digits_of}
 use Rattle.formats.specs.Mirror.Digits.{number_in}

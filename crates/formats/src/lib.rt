@@ -10,26 +10,26 @@ ghost use Rattle.formats.specs.Mirror.Scan.{common, word_of, in_word, alike_at, 
 ghost use Rattle.formats.specs.Mirror.Digits.{value_of, goes_on, more_digits, begins};
 
 // A position in a text; it may lie past the end.
-#[derive(Drop)]
+#[derive(Clone, Copy)]
 pub struct Cursor {
     pub at: usize,
 }
 
 // A number with the cursor past its text, or the position of the first character with which no such text goes on.
-#[derive(Drop)]
+#[derive(Clone, Copy)]
 pub enum NumberRead {
     Got(u64, Cursor),
     Stop(usize),
 }
 
-#[derive(Drop)]
+#[derive(Clone, Copy)]
 pub enum Base {
     Decimal,
     Hexadecimal,
 }
 
 // The longest start of a text that a word so far has too; whether a word is just that, and which.
-#[derive(Drop)]
+#[derive(Clone, Copy)]
 struct Best {
     reach: usize,
     full: bool,

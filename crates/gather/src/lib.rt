@@ -27,7 +27,7 @@ fn fits(plan: Plan) -> bool
 
 // What a lane asks of the plan: how its offsets stand in the room, where the surface begins among all surfaces, its length, and the bytes of a
 // block.
-#[derive(Drop)]
+#[derive(Clone, Copy)]
 struct Shape {
     layout: Layout,
     start: u32,

@@ -8,7 +8,7 @@ ghost use Rattle.lengths.specs.Lengths.{register_size_good, chosen_size, registe
 const LAST_ADDRESS: u64 = 18446744073709551615;
 
 // The lengths of the three taint buffers.
-#[derive(Drop)]
+#[derive(Clone, Copy)]
 pub struct TaintLengths {
     pub registers: usize,
     pub surfaces: usize,
@@ -16,7 +16,7 @@ pub struct TaintLengths {
 }
 
 // The lengths of the caller's buffers, the address of the first byte of memory, and the bytes of a register.
-#[derive(Drop)]
+#[derive(Clone, Copy)]
 pub struct Lengths {
     pub kernel: usize,
     pub registers: usize,

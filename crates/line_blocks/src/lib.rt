@@ -18,7 +18,7 @@ pub fn first_bytes(buffer: &[u8], count: usize) -> &[u8]
 }
 
 // Of the line begun, how many characters stand in the line buffer, and whether there were more.
-#[derive(Drop)]
+#[derive(Clone, Copy)]
 pub struct Begun {
     pub used: usize,
     pub long: bool,

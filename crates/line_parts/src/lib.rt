@@ -22,19 +22,19 @@ use operand_texts::OperandRead;
 use text_parts::RawRead;
 
 // Block_size and Scale.
-#[derive(Drop)]
+#[derive(Clone, Copy)]
 pub enum BracesRead {
     Got(u8, u16, Cursor),
     Stop(usize),
 }
 
-#[derive(Drop)]
+#[derive(Clone, Copy)]
 pub enum ScalarAndRawsRead {
     Got(Operand, Raw, Raw, Cursor),
     Stop(usize),
 }
 
-#[derive(Drop)]
+#[derive(Clone, Copy)]
 pub enum MessageRead {
     Got(Message, Cursor),
     Stop(usize),

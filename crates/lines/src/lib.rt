@@ -16,14 +16,14 @@ use formats::{Cursor, NumberRead};
 use line_parts::{BracesRead, MessageRead, ScalarAndRawsRead};
 use operand_texts::OperandRead;
 
-#[derive(Drop)]
+#[derive(Clone, Copy)]
 enum LineRead {
     Got(Instruction, Cursor),
     Stop(usize),
 }
 
 // The instruction whose line a text is, or the column, from 1, of the first character with which no line goes on.
-#[derive(Drop)]
+#[derive(Clone, Copy)]
 pub enum TextRead {
     Line(Instruction),
     NoLine(usize),

@@ -10,7 +10,7 @@ ghost use Rattle.operand_fields.specs.Reading.{general_at, high_word_at, immedia
 use fields::{ByteField, ByteRule, DwordField, TagRule, WordField, WordRule};
 use reader::Cursor;
 
-#[derive(Drop)]
+#[derive(Clone, Copy)]
 pub struct General {
     pub index: u16,
     pub row: u8,
@@ -19,7 +19,7 @@ pub struct General {
 }
 
 // `code` is the type's code. `high` is 0 where the type stores no high word.
-#[derive(Drop)]
+#[derive(Clone, Copy)]
 pub struct Immediate {
     pub code: u8,
     pub low: u32,
@@ -27,33 +27,33 @@ pub struct Immediate {
 }
 
 // A vector operand or a scalar.
-#[derive(Drop)]
+#[derive(Clone, Copy)]
 pub enum Operand {
     General(General),
     Immediate(Immediate),
 }
 
 // A raw operand: a variable and a byte offset in it.
-#[derive(Drop)]
+#[derive(Clone, Copy)]
 pub struct Raw {
     pub index: u16,
     pub offset: u16,
 }
 
-#[derive(Drop)]
+#[derive(Clone, Copy)]
 pub enum OperandField {
     Got(Operand, Cursor),
     Refused(u8),
 }
 
-#[derive(Drop)]
+#[derive(Clone, Copy)]
 pub enum RawField {
     Got(Raw, Cursor),
     Refused(u8),
 }
 
 // A scalar and the two raw operands after it: how every instruction but SHL ends.
-#[derive(Drop)]
+#[derive(Clone, Copy)]
 pub enum ScalarAndRawsField {
     Got(Operand, Raw, Raw, Cursor),
     Refused(u8),

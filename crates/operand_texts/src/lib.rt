@@ -15,14 +15,14 @@ use formats::{Cursor, NumberRead};
 use operand_fields::{General, Operand};
 use text_parts::ImmediateRead;
 
-#[derive(Drop)]
+#[derive(Clone, Copy)]
 pub enum OperandRead {
     Got(Operand, Cursor),
     Stop(usize),
 }
 
 // Where an operand stands: it says how its region is written.
-#[derive(Drop)]
+#[derive(Clone, Copy)]
 enum Role {
     Source,
     Destination,

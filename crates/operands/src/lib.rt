@@ -15,7 +15,7 @@ use region_rules::Role;
 use regions::Variable;
 
 // Which element types an operand may have.
-#[derive(Drop)]
+#[derive(Clone, Copy)]
 pub enum TypeRule {
     Shift,
     Offset,
@@ -25,7 +25,7 @@ pub enum TypeRule {
 }
 
 // Where an operand's elements are: the byte of each lane's element in the register file, or the immediate's number.
-#[derive(Drop)]
+#[derive(Clone, Copy)]
 pub struct Elements {
     pub size: u8,
     pub signed: bool,
@@ -35,7 +35,7 @@ pub struct Elements {
 }
 
 // Number 0 and the elements, or a refusal's number and no elements.
-#[derive(Drop)]
+#[derive(Clone, Copy)]
 pub struct Located {
     pub number: u8,
     pub elements: Elements,

@@ -19,7 +19,7 @@ use operands::{Elements, TypeRule};
 use region_rules::Role;
 
 // What is left to run; nothing, of a refused instruction.
-#[derive(Drop)]
+#[derive(Clone, Copy)]
 pub enum Operation {
     Shl,
     Gather,
@@ -28,7 +28,7 @@ pub enum Operation {
 }
 
 // The bytes of the surface buffer from start on that are one surface.
-#[derive(Drop)]
+#[derive(Clone, Copy)]
 struct Part {
     start: u32,
     length: u32,
@@ -36,7 +36,7 @@ struct Part {
 
 // What a run needs of an accepted instruction. `number` is 0, or the refusal's with everything else empty.
 // SHL: left is Src0, right Src1, payload Dst. Gather: Offset, Element_offset, Dst. Scatter: Address, Element_offset, Src.
-#[derive(Drop)]
+#[derive(Clone, Copy)]
 pub struct Plan {
     pub number: u8,
     // what the refusal tells

@@ -8,7 +8,7 @@ ghost use Rattle.predicate_table.specs.Predicates.{predicate_at, count_good, cou
 ghost use Rattle.predicate_table.specs.Borrowed.{predicate_table};
 
 // Whether a predicate is in the table, its bits, and how many of them are its elements.
-#[derive(Drop)]
+#[derive(Clone, Copy)]
 pub struct PredicateRecord {
     pub present: bool,
     pub bits: u32,

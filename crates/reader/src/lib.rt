@@ -7,27 +7,27 @@ ghost use Rattle.little_endian.specs.LittleEndian.{number_at};
 ghost use Rattle.reader.specs.Reading.{whole_at, read_at, read_byte_reply, read_word_reply, read_dword_reply};
 
 // A position in the kernel; it may lie past the end.
-#[derive(Drop)]
+#[derive(Clone, Copy)]
 pub struct Cursor {
     pub at: usize,
 }
 
 // A stored number of one byte (ub) with the cursor behind it, or that it is not whole.
-#[derive(Drop)]
+#[derive(Clone, Copy)]
 pub enum ReadByte {
     Got(u8, Cursor),
     Short,
 }
 
 // The same of two bytes (uw).
-#[derive(Drop)]
+#[derive(Clone, Copy)]
 pub enum ReadWord {
     Got(u16, Cursor),
     Short,
 }
 
 // The same of four bytes (ud).
-#[derive(Drop)]
+#[derive(Clone, Copy)]
 pub enum ReadDword {
     Got(u32, Cursor),
     Short,

@@ -11,7 +11,7 @@ ghost use Rattle.region_rules.specs.RegionRules.{is_number, stands_for, region_r
 const SCALAR_REGION: u16 = 0x0121;
 
 // What a vector operand or a scalar is for.
-#[derive(Drop)]
+#[derive(Clone, Copy)]
 pub enum Role {
     Source,
     Scalar,

@@ -13,7 +13,7 @@ use operand_fields::General;
 use region_rules::Role;
 
 // A variable of the table: its type's code, start byte and element count.
-#[derive(Drop)]
+#[derive(Clone, Copy)]
 pub struct Variable {
     pub code: u8,
     pub start: u16,
@@ -21,7 +21,7 @@ pub struct Variable {
 }
 
 // The first element, the strides and the width of a region, in elements.
-#[derive(Drop)]
+#[derive(Clone, Copy)]
 struct Grid {
     first: u16,
     vertical: u8,
@@ -30,7 +30,7 @@ struct Grid {
 }
 
 // The lowest and the highest element of all lanes.
-#[derive(Drop)]
+#[derive(Clone, Copy)]
 struct Reach {
     low: u32,
     high: u32,

@@ -17,7 +17,7 @@ use step::Constants;
 
 // What a run gives back: the number, how many instructions were completed, the byte position of the refused one or of the end, and what the
 // number tells.
-#[derive(Drop)]
+#[derive(Clone, Copy)]
 pub struct Answer {
     pub number: u8,
     pub completed: usize,

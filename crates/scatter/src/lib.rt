@@ -35,7 +35,7 @@ fn pairs_of(plan: Plan) -> Pairs
 }
 
 // What is worked out once for each lane: whether it is on, and the sum of its address and its element offset.
-#[derive(Drop)]
+#[derive(Clone, Copy)]
 struct Targets {
     on: [bool; 16],
     sums: [u64; 16],

@@ -12,7 +12,7 @@ use details::Detail;
 use staging::Layout;
 
 // What every target address has to meet. The window is given by its base and its length.
-#[derive(Drop)]
+#[derive(Clone, Copy)]
 pub enum Rule {
     Aligned,
     Inside(u64, u64),
@@ -42,7 +42,7 @@ fn breaks(rule: Rule, address: u64) -> bool
 
 // What of the plan is asked of each pair: the lanes, the enabled channels, the dwords from a channel's data to the next channel's, and the byte
 // of the room where the data begin.
-#[derive(Drop)]
+#[derive(Clone, Copy)]
 pub struct Pairs {
     pub lanes: u8,
     pub channels: u8,

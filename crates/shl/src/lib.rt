@@ -28,7 +28,7 @@ fn fits(plan: Plan) -> bool
 }
 
 // What a lane asks of the plan: how its sources stand in the room, the sign of the first, and the size of the destination.
-#[derive(Drop)]
+#[derive(Clone, Copy)]
 struct Shape {
     layout: Layout,
     signed: bool,

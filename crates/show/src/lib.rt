@@ -6,7 +6,7 @@ ghost use Rattle.std.specs.Prelude.{◌≡◌};
 ghost use Rattle.show.specs.Show.{is_inside, part_of, shown, shown_number};
 
 // Which of the two buffers is shown.
-#[derive(Drop)]
+#[derive(Clone, Copy)]
 pub enum Place {
     Registers,
     Memory,

@@ -10,14 +10,14 @@ ghost use Rattle.staging.specs.Mirror.Room.{layout_of, first_place, second_place
 use operands::Elements;
 
 // Bytes of sources, and their taint.
-#[derive(Drop)]
+#[derive(Clone, Copy)]
 pub struct Room {
     pub bytes: [u8; 512],
     pub taint: [u8; 512],
 }
 
 // How sources stand in the room: of so many lanes, with elements of these sizes.
-#[derive(Drop)]
+#[derive(Clone, Copy)]
 pub struct Layout {
     pub lanes: u8,
     pub first: u8,

@@ -17,7 +17,7 @@ use details::{Detail, Status};
 use plan::{Operation, Plan};
 
 // What stays the same in a run beside the borrowed slices: the memory window's base, the execution mask (EM), and the bytes of a register.
-#[derive(Drop)]
+#[derive(Clone, Copy)]
 pub struct Constants {
     pub base: u64,
     pub mask: u32,
@@ -25,7 +25,7 @@ pub struct Constants {
 }
 
 // What one instruction gave: its number with what it tells, and where the next one begins.
-#[derive(Drop)]
+#[derive(Clone, Copy)]
 pub struct Progress {
     pub number: u8,
     pub detail: Detail,

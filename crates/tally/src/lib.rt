@@ -16,7 +16,7 @@ const KINDS: usize = 12;
 const OLD_REGISTER_SIZE: u8 = 32;
 
 // The constants that frames set: the address of the first byte of memory, the execution mask, and the bytes of a register.
-#[derive(Drop)]
+#[derive(Clone, Copy)]
 pub struct Settings {
     pub base: u64,
     pub mask: u32,
@@ -24,7 +24,7 @@ pub struct Settings {
 }
 
 // What the lines so far came to, but for the contents, which stand in the caller's buffers.
-#[derive(Drop)]
+#[derive(Clone, Copy)]
 pub struct Case {
     // how many lines there were, and the number of the first bad one; 0 if none is bad
     pub lines: u32,
@@ -38,7 +38,7 @@ pub struct Case {
 }
 
 // A number of document 01, and the position that goes with it.
-#[derive(Drop)]
+#[derive(Clone, Copy)]
 pub struct Verdict {
     pub number: u8,
     pub position: u32,

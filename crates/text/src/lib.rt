@@ -13,14 +13,14 @@ use encoder::Encoded;
 use lines::TextRead;
 
 // How many characters a line has, or the number of a refusal.
-#[derive(Drop)]
+#[derive(Clone, Copy)]
 pub enum Printed {
     Wrote(usize),
     Refused(u8),
 }
 
 // How many bytes an encoding has; or the number of a refusal, with a column for 16 and 0 for 15.
-#[derive(Drop)]
+#[derive(Clone, Copy)]
 pub enum Assembled {
     Wrote(usize),
     Refused(u8, usize),

@@ -12,13 +12,13 @@ ghost use Rattle.text_parts.specs.Told.{told_raw, told_immediate};
 use formats::{Base, Cursor, NumberRead};
 use operand_fields::{Immediate, Raw};
 
-#[derive(Drop)]
+#[derive(Clone, Copy)]
 pub enum RawRead {
     Got(Raw, Cursor),
     Stop(usize),
 }
 
-#[derive(Drop)]
+#[derive(Clone, Copy)]
 pub enum ImmediateRead {
     Got(Immediate, Cursor),
     Stop(usize),
