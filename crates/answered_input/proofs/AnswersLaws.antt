@@ -1,16 +1,11 @@
 -- What was read, finished and answered.
-use mathlib.Core.Path.{◌≡◌, refl, sym, ap, ◌∙◌, subst}
-use mathlib.Core.Bool.{Bool, true, false, cond, not}
-use mathlib.Core.List.{List, []}
-use Prim.Native.Nat.{ℕ, ◌≤◌}
-use native.Mathlib.Omega.{arith}
-use lib.ListN.{length, take}
+use Rattle.std.proofs.Common.{◌≡◌, refl, sym, ap, ◌∙◌, subst, Bool, true, false, cond, not, List, [], ℕ, ◌≤◌, arith, length, take, Option, None, Some, inl, inr}
 use borrow.Author.Tests.{not-true, not-false}
 use Rattle.tally.specs.Mirror.Reading.{Reading}
 use Rattle.feeding.specs.Mirror.Feeding.{Machine, fed, finished}
 use Rattle.output.specs.Mirror.Page.{written}
 use Rattle.input.specs.Calls.{text_of, ended_by}
-use Rattle.input.specs.Mirror.Reads.{Reads}
+use Rattle.input.specs.Mirror.Reads.{Reads, ReadsAll}
 use Rattle.answering.specs.declared.Form.{Form}
 use Rattle.answering.specs.Mirror.Puts.{Puts}
 use Rattle.answering.specs.Mirror.Bench.{case_output}
@@ -18,9 +13,9 @@ use Rattle.answering.proofs.PutsLaws.{puts_whole, puts-count}
 use Rattle.answering.proofs.BenchLaws.{begun, text-output}
 use Rattle.case_file.specs.Forms.{case_file_text}
 use Rattle.case_file.proofs.Whole.{case-file-output}
-use Rattle.answered_input.specs.Program.{program_output, Answers}
+use Rattle.answered_input.specs.Program.{program_output, Answers, PartKnown}
 use Rattle.answered_input.specs.Mirror.Ended.{ended_output}
-use Rattle.answered_input.specs.Mirror.PutsAnswer.{PutsAnswer}
+use Rattle.answered_input.specs.Mirror.PutsAnswer.{PutsAnswer, PutsKnown}
 
 -- whether the input has ended, as the function asks it
 pub unended-puts : (ended : Bool) (f : Form) (r : Reading) (out : List ℕ) → not ended ≡ true → Puts (ended_output ended f r) out out 0
@@ -47,6 +42,20 @@ input-answered f line read done ended asked out after used l r e p same =
     let k : ended_output asked f done.reading ≡ program_output (case_file_text f) r.calls = ap (λ (b : Bool). ended_output b f done.reading) same ∙ output-is f line read done ended r l e in
     record { calls = r.calls; possible = r.possible; puts = subst (λ (t : List ℕ). Puts t out after used) k p }
 
+-- where the bytes that the input has left are known
+pub input-known : (known : Option (List ℕ)) (f : Form) (line : List ℕ) (read done : Machine) (ended asked : Bool) (out after : List ℕ) (used : ℕ) → length line ≡ 16386 →
+    ReadsAll known ended (begun line) read → done ≡ finished read → Puts (ended_output asked f done.reading) out after used → asked ≡ ended → PutsKnown known (case_file_text f) out after used
+unfolding ended_output
+input-known None f line read done ended asked out after used l r e p same = tt
+input-known (Some text) f line read done true asked out after used l r e p same =
+    let m : done ≡ finished (fed text (begun line)) = e ∙ ap finished (r refl) in
+    inl
+    (subst (λ (t : List ℕ). Puts t out after used)
+    (ap (λ (b : Bool). cond b (case_output f done.reading) []) same ∙ ap (λ (x : Machine). case_output f x.reading) m ∙ text-output f text line l ∙ case-file-output f text)
+    p)
+input-known (Some text) f line read done false asked out after used l r e p same =
+    inr (subst (λ (t : List ℕ). Puts t out after used) (ap (λ (b : Bool). cond b (case_output f done.reading) []) same) p)
+
 -- the part of a buffer of 32,813 bytes that was written
 module _ (output : List ℕ → List ℕ) (out after : List ℕ) (used : ℕ) (room : 32813 ≤ length out) (p : PutsAnswer output out after used) where
   pub part-answers : Answers output (take used after)
@@ -54,3 +63,13 @@ module _ (output : List ℕ → List ℕ) (out after : List ℕ) (used : ℕ) (r
 
   pub part_count : used ≡ length (take used after)
   part_count = puts-count _ out after used room p.puts ∙ ap (λ (l : List ℕ). length l) (sym (puts_whole _ out after used room p.puts))
+
+  -- where the input's bytes are known
+  module _ (known : Option (List ℕ)) (q : PutsKnown known output out after used) where
+    pub part-known : PartKnown known output (take used after)
+    part-known = told known q
+      where
+        told : (k : Option (List ℕ)) → PutsKnown k output out after used → PartKnown k output (take used after)
+        told None h = tt
+        told (Some text) (inl h) = inl (puts_whole _ out after used room h)
+        told (Some text) (inr h) = inr (puts_whole _ out after used room h)

@@ -1,15 +1,14 @@
 // A case file on standard input, answered: what the programs share that read one.
-
 #![tactic(auto)]
 
-ghost use Rattle.tally.specs.Mirror.Reading.{reading, contents};
-ghost use Rattle.tally.specs.Mirror.Lent.{lent_tables};
+ghost use Rattle.tally.specs.Mirror.Reading.{reading, contents, tables};
 ghost use Rattle.answering.specs.Mirror.Puts.{Puts};
 ghost use Rattle.case_file.specs.Forms.{case_file_text};
 ghost use Rattle.answered_input.specs.Mirror.Ended.{ended_output};
-ghost use Rattle.answered_input.specs.Mirror.PutsAnswer.{PutsAnswer};
+ghost use Rattle.answered_input.specs.Mirror.PutsAnswer.{PutsAnswer, PutsKnown};
 
 use answering::Form;
+use std::io::Read;
 use tally::Case;
 
 // The answer to a case, to the output buffer's start, and how many bytes it has: none if the input was not read to its end.
@@ -32,7 +31,7 @@ fn answer_ended(
     form: Form,
     out: &mut [u8],
 ) -> usize
-    ensures { let t = lent_tables types starts counts predicate_bits predicate_counts surface_bytes surface_lengths in Puts (ended_output ended form (reading case (contents registers memory kernel.now register_taint surface_taint memory_taint) t.entry)) out.old out.new result }
+    ensures { let t = tables types.now starts.now counts.now predicate_bits.now predicate_counts.now surface_bytes.now surface_lengths.now in Puts (ended_output ended form (reading case (contents registers memory kernel.now register_taint surface_taint memory_taint) t)) out.old out.new result }
 {
     if !ended {
         return 0;
@@ -57,9 +56,10 @@ fn answer_ended(
     )
 }
 
-// The answer to standard input, to the output buffer's start, and how many bytes it has. What does not fit is lost; 32,813 bytes hold all of it.
-pub fn answer_input(form: Form, out: &mut [u8]) -> usize
-    ensures { PutsAnswer (case_file_text form) out.old out.new result }
+// The answer to an input, to the output buffer's start, and how many bytes it has. What does not fit is lost; 32,813 bytes hold all of it.
+pub fn answer_input<R: Read>(reader: &mut R, form: Form, out: &mut [u8]) -> usize
+    ensures some_calls { PutsAnswer (case_file_text form) out.old out.new result }
+    ensures known_bytes { PutsKnown (R.remaining reader.old) (case_file_text form) out.old out.new result }
 {
     let mut line = [0u8; 16386];
     let mut registers = [0u8; 4096];
@@ -76,6 +76,7 @@ pub fn answer_input(form: Form, out: &mut [u8]) -> usize
     let mut surface_bytes = [0u8; 8192];
     let mut surface_lengths = [0u16; 8];
     let read = input::read_all(
+        reader,
         &mut line,
         &mut registers,
         &mut memory,

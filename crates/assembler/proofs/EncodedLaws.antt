@@ -2,7 +2,7 @@
 use mathlib.Core.Path.{◌≡◌, refl, sym, ap, ◌∙◌, subst}
 use mathlib.Core.Bool.{Bool, true, false}
 use mathlib.Core.List.{List, ◌++◌}
-use Prim.Native.Nat.{ℕ, ◌+◌, ◌≤◌, ◌<◌}
+use Prim.Native.Nat.{ℕ, ◌≤◌, ◌<◌}
 use native.Mathlib.Omega.{arith}
 use lib.Dec.{ltb, leb}
 use lib.ListN.{length, take, drop, length-append}
@@ -11,7 +11,6 @@ use borrow.Author.Tests.{eq-eqb, le-ltb, leb-true, leb-false}
 use Rattle.reader.specs.Reply.{done, on_reply}
 use Rattle.hex_text.specs.Bytes.{hex_of}
 use Rattle.hex_text.proofs.ByteLaws.{length-written}
-use Rattle.formats.specs.Text.{text}
 use Rattle.formats.specs.Numerals.{digits_of}
 use Rattle.format_writers.specs.Writing.{wrote, written}
 use Rattle.formats.proofs.ShortLaws.{digits-most}

@@ -10,6 +10,8 @@ ghost use Rattle.assembler.specs.Assembling.{column_line, assembled_line};
 ghost use Rattle.assembler.specs.Mirror.Parts.{Goes, Passes};
 
 use formats::Base;
+use std::fmt;
+use std::io::{Read, Write};
 use text::Assembled;
 
 // The line of a refusal.
@@ -58,7 +60,7 @@ fn assemble_line(characters: &[u8], out: &mut [u8], at: usize) -> usize
 
 // Where assembling stands: of the line begun, how many characters stand in its buffer, and whether there were more; how much of the output buffer
 // is used; where the block is read on.
-#[derive(Drop)]
+#[derive(Clone, Copy)]
 struct State {
     used: usize,
     long: bool,
@@ -115,7 +117,7 @@ fn work(block: &[u8], line: &mut [u8], out: &mut [u8], from: State) -> State
 }
 
 // Of the line begun, how many characters stand in its buffer, and whether there were more; whether a write failed.
-#[derive(Drop)]
+#[derive(Clone, Copy)]
 struct Taken {
     used: usize,
     long: bool,
@@ -123,7 +125,14 @@ struct Taken {
 }
 
 // A block, its output written whenever the buffer has little room, and at the end.
-fn assemble_block(block: &[u8], line: &mut [u8], out: &mut [u8], used: usize, long: bool) -> Taken
+fn assemble_block<W: Write>(
+    writer: &mut W,
+    block: &[u8],
+    line: &mut [u8],
+    out: &mut [u8],
+    used: usize,
+    long: bool,
+) -> Taken
     ensures { result.failed ≡ false → Passes block.now line.old used long line.new result.used result.long }
 {
     let mut s = State {
@@ -136,8 +145,10 @@ fn assemble_block(block: &[u8], line: &mut [u8], out: &mut [u8], used: usize, lo
     while 0 < turns {
         turns -= 1;
         let next = work(block, line, out, s);
-        if !io::write_all(1, line_blocks::first_bytes(out, next.out)) {
-            io::write_all(2, b"assembler: standard output cannot be written\n");
+        if writer
+            .write_all(line_blocks::first_bytes(out, next.out))
+            .is_err()
+        {
             return Taken {
                 used: 0,
                 long: false,
@@ -165,42 +176,69 @@ fn assemble_block(block: &[u8], line: &mut [u8], out: &mut [u8], used: usize, lo
     }
 }
 
+// Why assembling stopped before the input's end.
+#[derive(Clone, Copy)]
+enum Failure {
+    Unread,
+    Unwritten,
+}
+
+impl fmt::Display for Failure {
+    fn fmt<W: fmt::Write>(&self, f: &mut fmt::Formatter<W>) -> fmt::Result {
+        match self {
+            Failure::Unread => write!(f, "standard input cannot be read"),
+            Failure::Unwritten => write!(f, "standard output cannot be written"),
+        }
+    }
+}
+
 // Block by block to the input's end, or to a read or a write that fails.
-fn assemble_input(block: &mut [u8], line: &mut [u8], out: &mut [u8]) {
+fn assemble_input<R: Read, W: Write>(
+    reader: &mut R,
+    writer: &mut W,
+    block: &mut [u8],
+    line: &mut [u8],
+    out: &mut [u8],
+) -> Result<(), Failure> {
     let mut used = 0;
     let mut long = false;
-    let mut turns = u64::MAX;
-    while 0 < turns {
-        turns -= 1;
-        let got = libc::read(0, block);
-        if got < 0 {
-            io::write_all(2, b"assembler: standard input cannot be read\n");
-            return;
-        }
-        let count = io::count(got, block);
+    for _ in 0..u64::MAX {
+        let count = match reader.read(block) {
+            Ok(count) => count,
+            Err(_) => return Err(Failure::Unread),
+        };
         if count == 0 {
             // the last line may lack its 0x0a
-            assemble_block(
-                line_blocks::last_end(b"\n", used, long),
-                line,
-                out,
-                used,
-                long,
-            );
-            return;
+            let end = line_blocks::last_end(b"\n", used, long);
+            let last = assemble_block(writer, end, line, out, used, long);
+            return if last.failed {
+                Err(Failure::Unwritten)
+            } else {
+                Ok(())
+            };
         }
-        let taken = assemble_block(&block[..count], line, out, used, long);
+        let taken = assemble_block(writer, &block[..count], line, out, used, long);
         if taken.failed {
-            return;
+            return Err(Failure::Unwritten);
         }
         used = taken.used;
         long = taken.long;
     }
+    Ok(())
 }
 
-fn main() {
+fn main(rt: HostRuntime) {
     let mut block = [0u8; 65536];
     let mut line = [0u8; 128];
     let mut out = [0u8; 65536];
-    assemble_input(&mut block, &mut line, &mut out);
+    let assembled = assemble_input(
+        &mut rt.stdin(),
+        &mut rt.stdout(),
+        &mut block,
+        &mut line,
+        &mut out,
+    );
+    if let Err(failure) = assembled {
+        let _ = eprintln!(rt; "assembler: {failure}");
+    }
 }

@@ -2,59 +2,61 @@
 use crate::{built, output, texts};
 use decoder::{Decoded, Instruction};
 use encoder::Encoded;
+use std::io;
 
 // The encoder's answer for this buffer, and the whole buffer after it.
-fn encode_into(instruction: Instruction, buffer: &mut [u8]) {
+fn encode_into(rt: &impl Print, instruction: Instruction, buffer: &mut [u8]) -> io::Result<()> {
     match encoder::encode(instruction, buffer) {
-        Encoded::Wrote(count) => output::answer(b" wrote ", count),
-        Encoded::Refused(number) => output::refused(number),
+        Encoded::Wrote(count) => output::answer(rt, b" wrote ", count)?,
+        Encoded::Refused(number) => output::refused(rt, number)?,
     }
-    output::bytes(buffer);
+    output::bytes(rt, buffer)
 }
 
 // The same for a buffer of `room` bytes, at most 64, each 0xaa before.
-fn encode(instruction: Instruction, room: usize) {
+fn encode(rt: &impl Print, instruction: Instruction, room: usize) -> io::Result<()> {
     let mut buffer = [0xaau8; 64];
     if room <= 64 {
-        encode_into(instruction, &mut buffer[..room]);
+        encode_into(rt, instruction, &mut buffer[..room])?;
     }
+    Ok(())
 }
 
 // The encoder's answers for exactly the right size, one less and one more.
-fn encode_again(instruction: Instruction, size: usize) {
+fn encode_again(rt: &impl Print, instruction: Instruction, size: usize) -> io::Result<()> {
     if size == 0 {
-        return;
+        return Ok(());
     }
     if 64 <= size {
-        return;
+        return Ok(());
     }
     let less = size - 1;
     let more = size + 1;
-    encode(instruction, size);
-    encode(instruction, less);
-    encode(instruction, more);
+    encode(rt, instruction, size)?;
+    encode(rt, instruction, less)?;
+    encode(rt, instruction, more)
 }
 
 // The number of decoding at the start, the instruction's own bytes, and encoding, printing and reading what was decoded.
-pub(crate) fn of_kernel(kernel: &[u8]) {
-    output::number(output::wide(decoder::decode_number(kernel, 0)));
-    output::bytes(decoder::own_bytes(kernel, 0));
+pub(crate) fn of_kernel(rt: &impl Print, kernel: &[u8]) -> io::Result<()> {
+    output::number(rt, output::wide(decoder::decode_number(kernel, 0)))?;
+    output::bytes(rt, decoder::own_bytes(kernel, 0))?;
     match decoder::decode(kernel, 0) {
         Decoded::Accepted(instruction, cursor) => {
-            encode_again(instruction, cursor.at);
-            texts::print_and_read(instruction, cursor.at);
+            encode_again(rt, instruction, cursor.at)?;
+            texts::print_and_read(rt, instruction, cursor.at)?;
         }
         Decoded::Refused(_) => {}
     }
-    output::text(b"\n");
+    output::text(rt, b"\n")
 }
 
 // Encoding and printing the instruction of these numbers.
-pub(crate) fn of_numbers(numbers: &[u8]) {
+pub(crate) fn of_numbers(rt: &impl Print, numbers: &[u8]) -> io::Result<()> {
     let room = output::wide(built::byte(numbers, 0));
     let instruction = built::instruction(numbers);
-    output::text(b"=");
-    encode(instruction, room);
-    texts::print_alone(instruction);
-    output::text(b"\n");
+    output::text(rt, b"=")?;
+    encode(rt, instruction, room)?;
+    texts::print_alone(rt, instruction)?;
+    output::text(rt, b"\n")
 }

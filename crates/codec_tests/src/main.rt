@@ -8,7 +8,10 @@ mod built;
 mod output;
 mod texts;
 
-ghost use Rattle.std.specs.Prelude.{◌≡◌, ◌≤◌, ◌<◌, length};
+ghost use Rattle.std.specs.Prelude.{◌≡◌, ◌≤◌, ◌<◌, length, IfOk};
+
+use std::io;
+use std::io::Read;
 
 // The number that a lower-case hex digit stands for.
 fn digit(glyph: u8) -> u8
@@ -41,30 +44,31 @@ fn kernel_of(line: &[u8]) -> [u8; 64]
 }
 
 // A line of hex with its line end, so that half its length, rounded down, is the kernel's: at most 64.
-fn answer_kernel(line: &[u8]) {
+fn answer_kernel(rt: &impl Print, line: &[u8]) -> io::Result<()> {
     let count = line.len() / 2;
     let kernel = kernel_of(line);
     if count <= 64 {
-        answers::of_kernel(&kernel[..count]);
+        answers::of_kernel(rt, &kernel[..count])?;
     }
+    Ok(())
 }
 
-fn answer_built(line: &[u8]) {
+fn answer_built(rt: &impl Print, line: &[u8]) -> io::Result<()> {
     let numbers = kernel_of(line);
-    answers::of_numbers(&numbers);
+    answers::of_numbers(rt, &numbers)
 }
 
-fn answer_line(line: &[u8]) {
+fn answer_line(rt: &impl Print, line: &[u8]) -> io::Result<()> {
     if line.len() == 0 {
-        return;
+        return Ok(());
     }
     if line[0] == b'#' {
-        return output::text(line);
+        return output::text(rt, line);
     }
     if line[0] == b'=' {
-        answer_built(&line[1..]);
+        answer_built(rt, &line[1..])
     } else {
-        answer_kernel(line);
+        answer_kernel(rt, line)
     }
 }
 
@@ -80,17 +84,33 @@ fn next_line(text: &[u8], at: usize) -> usize
     i + 1
 }
 
-fn answer_lines(text: &[u8]) {
+fn answer_lines(rt: &impl Print, text: &[u8]) -> io::Result<()> {
     let mut at = 0;
     while at < text.len() {
         let next = next_line(text, at);
-        answer_line(&text[at..next]);
+        answer_line(rt, &text[at..next])?;
         at = next;
     }
+    Ok(())
 }
 
-fn main() {
+// Reads until the buffer is full or the input ends, and tells how many bytes stand at the buffer's start.
+fn read_full<R: Read>(reader: &mut R, buffer: &mut [u8]) -> io::Result<usize>
+    ensures { IfOk result (λ n. n ≤ length buffer.new) }
+{
+    let mut done = 0;
+    while done < buffer.len() {
+        let count = reader.read(&mut buffer[done..])?;
+        if count == 0 {
+            break;
+        }
+        done += count;
+    }
+    Ok(done)
+}
+
+fn main(rt: HostRuntime) -> io::Result<()> {
     let mut text = [0u8; 65536];
-    let count = io::read_full(0, &mut text);
-    answer_lines(&text[..count]);
+    let count = read_full(&mut rt.stdin(), &mut text)?;
+    answer_lines(&rt, &text[..count])
 }

@@ -1,47 +1,48 @@
 // What the tests write to standard output: text, numbers, bytes in hex, lines.
+use std::io;
 
 pub(crate) fn wide(v: u8) -> usize {
     v as usize
 }
 
-pub(crate) fn text(s: &[u8]) {
-    io::write_all(1, s);
+pub(crate) fn text(rt: &impl Print, s: &[u8]) -> io::Result<()> {
+    rt.write_all(s)
 }
 
-pub(crate) fn number(n: usize) {
-    io::print_decimal(1, n as u64);
+pub(crate) fn number(rt: &impl Print, n: usize) -> io::Result<()> {
+    print!(rt; "{n}")
 }
 
-pub(crate) fn answer(word: &[u8], n: usize) {
-    text(word);
-    number(n);
+pub(crate) fn answer(rt: &impl Print, word: &[u8], n: usize) -> io::Result<()> {
+    text(rt, word)?;
+    number(rt, n)
 }
 
-pub(crate) fn refused(number: u8) {
-    answer(b" refused ", wide(number));
+pub(crate) fn refused(rt: &impl Print, number: u8) -> io::Result<()> {
+    answer(rt, b" refused ", wide(number))
 }
 
-fn byte(v: u8) {
-    io::print_hex(1, v as u64, 2);
+fn byte(rt: &impl Print, v: u8) -> io::Result<()> {
+    print!(rt; "{v:02x}")
 }
 
 // A space and bytes in hex, `-` where there are none.
-pub(crate) fn bytes(s: &[u8]) {
-    text(b" ");
+pub(crate) fn bytes(rt: &impl Print, s: &[u8]) -> io::Result<()> {
+    text(rt, b" ")?;
     if s.len() == 0 {
-        text(b"-");
+        text(rt, b"-")?;
     }
-    let mut i = 0;
-    while i < s.len() {
-        byte(s[i]);
-        i += 1;
+    for b in s {
+        byte(rt, *b)?;
     }
+    Ok(())
 }
 
 // A space and a line; nothing where there is none.
-pub(crate) fn line(s: &[u8]) {
+pub(crate) fn line(rt: &impl Print, s: &[u8]) -> io::Result<()> {
     if s.len() > 0 {
-        text(b" ");
-        text(s);
+        text(rt, b" ")?;
+        text(rt, s)?;
     }
+    Ok(())
 }

@@ -1,55 +1,58 @@
 // What printing and reading answer, written out.
 use crate::output;
 use decoder::Instruction;
+use std::io;
 use text::{Assembled, Printed};
 
 // The printer's answer for this buffer, and the whole buffer after it.
-fn print_into(instruction: Instruction, buffer: &mut [u8]) {
+fn print_into(rt: &impl Print, instruction: Instruction, buffer: &mut [u8]) -> io::Result<()> {
     match text::print(instruction, buffer) {
-        Printed::Wrote(count) => output::answer(b" printed ", count),
-        Printed::Refused(number) => output::refused(number),
+        Printed::Wrote(count) => output::answer(rt, b" printed ", count)?,
+        Printed::Refused(number) => output::refused(rt, number)?,
     }
-    output::line(buffer);
+    output::line(rt, buffer)
 }
 
 // The same for a buffer of `room` bytes, at most 128, each `~` before.
-fn print(instruction: Instruction, room: usize) {
+fn print(rt: &impl Print, instruction: Instruction, room: usize) -> io::Result<()> {
     let mut buffer = [b'~'; 128];
     if room <= 128 {
-        print_into(instruction, &mut buffer[..room]);
+        print_into(rt, instruction, &mut buffer[..room])?;
     }
+    Ok(())
 }
 
 // The printer's answers for exactly the line's length, one less and one more.
-fn print_again(instruction: Instruction, length: usize) {
+fn print_again(rt: &impl Print, instruction: Instruction, length: usize) -> io::Result<()> {
     if length == 0 {
-        return;
+        return Ok(());
     }
     if 128 <= length {
-        return;
+        return Ok(());
     }
     let less = length - 1;
     let more = length + 1;
-    print(instruction, length);
-    print(instruction, less);
-    print(instruction, more);
+    print(rt, instruction, length)?;
+    print(rt, instruction, less)?;
+    print(rt, instruction, more)
 }
 
 // The reader's answer for this buffer, and the whole buffer after it.
-fn read_into(line: &[u8], buffer: &mut [u8]) {
+fn read_into(rt: &impl Print, line: &[u8], buffer: &mut [u8]) -> io::Result<()> {
     match text::read_into(line, buffer) {
-        Assembled::Wrote(count) => output::answer(b" read ", count),
-        Assembled::Refused(number, _) => output::refused(number),
+        Assembled::Wrote(count) => output::answer(rt, b" read ", count)?,
+        Assembled::Refused(number, _) => output::refused(rt, number)?,
     }
-    output::bytes(buffer);
+    output::bytes(rt, buffer)
 }
 
 // The same for a buffer of `room` bytes, at most 64, each 0xaa before.
-fn read(line: &[u8], room: usize) {
+fn read(rt: &impl Print, line: &[u8], room: usize) -> io::Result<()> {
     let mut buffer = [0xaau8; 64];
     if room <= 64 {
-        read_into(line, &mut buffer[..room]);
+        read_into(rt, line, &mut buffer[..room])?;
     }
+    Ok(())
 }
 
 // The length of the line that is printed here, 0 for a refusal.
@@ -70,16 +73,20 @@ fn start(buffer: &[u8], count: usize) -> &[u8] {
 }
 
 // Printing, and reading the line into a buffer of `size` bytes.
-pub(crate) fn print_and_read(instruction: Instruction, size: usize) {
+pub(crate) fn print_and_read(
+    rt: &impl Print,
+    instruction: Instruction,
+    size: usize,
+) -> io::Result<()> {
     let mut line = [b'~'; 128];
     let length = length_in(instruction, &mut line);
-    print_again(instruction, length);
-    read(start(&line, length), size);
+    print_again(rt, instruction, length)?;
+    read(rt, start(&line, length), size)
 }
 
 // The line in a buffer of exactly its length, or the number of a field's refusal, which comes first where there is no room.
-pub(crate) fn print_alone(instruction: Instruction) {
+pub(crate) fn print_alone(rt: &impl Print, instruction: Instruction) -> io::Result<()> {
     let mut line = [b'~'; 128];
     let length = length_in(instruction, &mut line);
-    print(instruction, length);
+    print(rt, instruction, length)
 }

@@ -56,10 +56,10 @@ fn output_bytes(out: &mut [u8]) -> &mut [u8]
     &mut out[..used]
 }
 
-fn main() {
+fn main(rt: HostRuntime) {
     let mut out = [0u8; 4096];
     let bytes = output_bytes(&mut out);
-    if !io::write_all(1, bytes) {
-        io::write_all(2, b"exec_table: standard output cannot be written\n");
+    if rt.write_all(bytes).is_err() {
+        let _ = eprintln!(rt; "exec_table: standard output cannot be written");
     }
 }

@@ -1,16 +1,13 @@
 -- What the text and the end of calls say that may follow each other.
-use mathlib.Core.Path.{◌≡◌, refl, sym, ap, ◌∙◌}
-use mathlib.Core.Bool.{Bool, true, false, true≢false, ◌||◌}
-use mathlib.Core.List.{List, [], ◌∷◌, ◌++◌, append_assoc, append-nil, flatten}
-use Prim.Native.Nat.{ℕ}
-use native.Mathlib.Omega.{arith}
-use lib.IntN.{ℤ, pos}
-use lib.ListN.{length, take, length-append}
-use Rattle.libc.specs.Io.{Moved}
+use Rattle.std.proofs.Common.{◌≡◌, refl, sym, ap, ◌∙◌, Bool, true, false, ◌||◌, List, [], ◌∷◌, ◌++◌, append_assoc, ℕ, arith, length, take, Result, Ok}
+use mathlib.Core.Bool.{true≢false}
+use mathlib.Core.List.{append-nil, flatten}
+use Rattle.std.proofs.Math.ListN.{length-append}
+use Rattle.std.specs.declared.io.Error.{Error}
 use Rattle.input.specs.declared.Answer.{Answer}
 use Rattle.input.specs.declared.Answer.TheVariants.{Bytes, End, Failed}
 use Rattle.input.specs.Answers.{answer_of, on_answer, gave_bytes, met_end}
-use Rattle.input.specs.Calls.{Call, bytes_of, Possible, text_of, ended_by}
+use Rattle.input.specs.Calls.{Call, bytes_of, Moved, Possible, text_of, ended_by}
 use Rattle.input.proofs.AnswersLaws.{end-zero}
 
 -- a call that gave bytes
@@ -23,7 +20,7 @@ abbrev pub AllGave : List Call → Type 0
 AllGave [] = Unit
 AllGave (c ∷ calls) = Gave c × AllGave calls
 
-gave-no-end : (got : ℤ) → gave_bytes got ≡ true → met_end got ≡ false
+gave-no-end : (got : Result ℕ Error) → gave_bytes got ≡ true → met_end got ≡ false
 unfolding gave_bytes met_end
 gave-no-end got = told (answer_of got)
   where
@@ -79,7 +76,7 @@ pub record Ended (calls : List Call) : Type 0 where
   pub last : Call
   pub are : calls ≡ before ++ (last ∷ [])
   pub gave : AllGave before
-  pub zero : last.got ≡ pos 0
+  pub zero : last.got ≡ Ok 0
 
 pub ended-at-zero : (calls : List Call) → Possible calls → ended_by calls ≡ true → Ended calls
 unfolding gave_bytes met_end ended_by

@@ -1,54 +1,84 @@
 -- What reading has come to, call by call.
-use mathlib.Core.Path.{◌≡◌, refl, sym, ap, ◌∙◌, subst}
-use mathlib.Core.Bool.{Bool, false}
-use mathlib.Core.List.{List, [], ◌∷◌, ◌++◌, flatten}
-use Prim.Native.Nat.{ℕ, ◌-◌, ◌^◌, ◌<◌}
-use native.Mathlib.Omega.{arith}
-use lib.IntN.{ℤ}
-use lib.ListN.{length}
-use lib.Signed.{mag}
-use mir.Syntax.{w64}
-use mir.Val.{hbits, to_z, of_z}
-use mir.Facts.{to_z-of_z}
-use borrow.Author.Rules.{sfits_of}
-use Rattle.libc.specs.Io.{Moved}
-use Rattle.tally.specs.Mirror.Reading.{Contents, Tables, reading}
+use Rattle.std.proofs.Common.{◌≡◌, refl, sym, ap, ◌∙◌, subst, Bool, true, false, IsTrue, List, [], ◌∷◌, ◌++◌, append_assoc, ℕ, zero, suc, arith, length, Result, Ok, Err, Option, None, Some}
+use mathlib.Core.List.{append-nil, flatten}
+use Rattle.std.specs.declared.io.Error.{Error}
+use Rattle.std.specs.Io.{ReadsAtMost}
+use Rattle.std.specs.Io.KnownBytes.{Consumes, IsAtEnd, ReadConsumes}
+use Rattle.tally.specs.Mirror.Reading.{Contents, Tables}
 use Rattle.feeding.specs.declared.State.{State}
 use Rattle.feeding.specs.Mirror.Feeding.{Machine, machine, fresh, fed}
 use Rattle.feeding.proofs.FeedingLaws.{fed-none, fed-append}
-use Rattle.feeding.proofs.KeptLaws.{Kept, Told, kept-none, kept_more}
-use Rattle.input.specs.Answers.{met_end}
-use Rattle.input.specs.Calls.{Call, call, bytes_of, Possible, text_of, ended_by}
-use Rattle.input.specs.Mirror.Reads.{Reads}
+use Rattle.input.specs.Answers.{answer_of, met_end}
+use Rattle.input.specs.Calls.{Call, call, Moved, bytes_of, Possible, text_of, ended_by}
+use Rattle.input.specs.Mirror.Reads.{Reads, ReadsAll}
 use Rattle.input.proofs.CallsLaws.{AllGave, some-gave, one-text, one_end, text-append, end-append, gave-append, possible-append}
 
--- a machine was fed what some calls gave, and no buffer has another length
-pub record SoFar (m n : Machine) : Type 0 where
+-- what is known to be left of an input, after bytes were taken and then more
+consumes_more : (before mid after : Option (List ℕ)) (xs ys : List ℕ) → Consumes before mid xs → Consumes mid after ys → Consumes before after (xs ++ ys)
+consumes_more None mid after xs ys h g = tt
+consumes_more (Some left) None after xs ys h g = absurd h
+consumes_more (Some left) (Some bs) None xs ys h g = absurd g
+consumes_more (Some left) (Some bs) (Some cs) xs ys h g = h ∙ ap (λ (l : List ℕ). xs ++ l) g ∙ sym (append_assoc xs ys cs)
+
+consumes_none : (before : Option (List ℕ)) → Consumes before before []
+consumes_none None = tt
+consumes_none (Some left) = refl
+
+-- a read takes what it gives
+read_given : (before after : Option (List ℕ)) (got : Result ℕ Error) (block : List ℕ) → ReadConsumes before after got block → Consumes before after (bytes_of (call got block))
+unfolding bytes_of answer_of
+read_given before after (Ok zero) block h = h.0
+read_given before after (Ok (suc n)) block h = h.0
+read_given None after (Err e) block h = tt
+read_given (Some left) None (Err e) block h = absurd h
+read_given (Some left) (Some bs) (Err e) block h = sym h
+
+-- a read that met the end left nothing
+read_end : (before after : Option (List ℕ)) (got : Result ℕ Error) (block : List ℕ) → ReadConsumes before after got block → length block ≡ 65536 → met_end got ≡ true → IsAtEnd after
+unfolding met_end answer_of
+read_end before after (Ok zero) block h l e = h.1 refl (omega (arith, l))
+read_end before after (Ok (suc n)) block h l e = cc
+read_end before after (Err x) block h l e = cc
+
+read_moved : (got : Result ℕ Error) (block : List ℕ) → ReadsAtMost got block → Moved (length block) got
+read_moved (Ok n) block h = h.0
+read_moved (Err e) block h = tt
+
+-- a machine was fed what some calls gave
+pub record SoFar (before after : Option (List ℕ)) (m n : Machine) : Type 0 where
   pub calls : List Call
   pub gave : AllGave calls
   pub text : n ≡ fed (text_of calls) m
-  pub line : length n.row.line ≡ length m.row.line
-  pub kept : Kept m.reading n.reading
+  pub taken : Consumes before after (text_of calls)
 
-pub none_read : (line : List ℕ) (state : State) (contents : Contents) (tables : Tables) → state ≡ fresh →
-    SoFar (machine line fresh contents tables) (machine line state contents tables)
+pub none_read : (before : Option (List ℕ)) (line : List ℕ) (state : State) (contents : Contents) (tables : Tables) → state ≡ fresh →
+    SoFar before before (machine line fresh contents tables) (machine line state contents tables)
 unfolding text_of flatten
-none_read line state contents tables e =
+none_read before line state contents tables e =
     record {
       calls = [];
       gave = tt;
       text = ap (λ (s : State). machine line s contents tables) e ∙ sym (fed-none (machine line fresh contents tables));
-      line = refl;
-      kept = kept-none (reading fresh.case contents tables) state.case;
+      taken = consumes_none before;
     }
 
 is-empty : (bytes : List ℕ) → length bytes ≡ 0 → bytes ≡ []
 is-empty [] h = refl
 is-empty (b ∷ bytes) h = absurd (omega (arith, h))
 
-module _ (m n : Machine) (f : SoFar m n) where
-  text-then : (b : List Call) (o : Machine) → o ≡ fed (text_of b) n → o ≡ fed (text_of (f.calls ++ b)) m
-  text-then b o e =
+all_read : (before after : Option (List ℕ)) (text : List ℕ) (ended : Bool) (m n : Machine) → Consumes before after text → (ended ≡ true → IsAtEnd after) → n ≡ fed text m → ReadsAll before ended m n
+all_read None after text ended m n h g e = tt
+all_read (Some left) None text ended m n h g e = absurd h
+all_read (Some left) (Some bs) text ended m n h g e =
+    λ t. e ∙ ap (λ (l : List ℕ). fed l m) (sym (h ∙ ap (λ (l : List ℕ). text ++ l) (g (is_true ended t)) ∙ append-nil text))
+  where
+    is_true : (b : Bool) → IsTrue b → b ≡ true
+    is_true true t = refl
+    is_true false t = t
+
+module _ (before mid : Option (List ℕ)) (m n : Machine) (f : SoFar before mid m n) where
+  text_then : (b : List Call) (o : Machine) → o ≡ fed (text_of b) n → o ≡ fed (text_of (f.calls ++ b)) m
+  text_then b o e =
       e ∙ (ap (fed (text_of b)) f.text ∙ (sym (fed-append (text_of f.calls) (text_of b) m) ∙ ap (λ (t : List ℕ). fed t m) (sym (text-append f.calls b))))
 
   reads_then : (b : List Call) (o : Machine) (ended : Bool) → Possible b → o ≡ fed (text_of b) n → ended ≡ ended_by b → Reads ended m o
@@ -56,7 +86,7 @@ module _ (m n : Machine) (f : SoFar m n) where
       record {
         calls = f.calls ++ b;
         possible = possible-append f.calls b f.gave p;
-        text = text-then b o e;
+        text = text_then b o e;
         end = h ∙ sym (end-append f.calls b f.gave);
       }
 
@@ -65,36 +95,39 @@ module _ (m n : Machine) (f : SoFar m n) where
   unfolding text_of ended_by flatten
   none_left = reads_then [] n false tt (sym (fed-none n)) refl
 
-  -- one call more: its number, the block as it left it, and its bytes
-  module _ (got : ℤ) (block bytes : List ℕ) (moved : Moved (length block) got) (room : length block ≡ 65536) (b : bytes ≡ bytes_of (call got block)) where
+  pub none_left_all : ReadsAll before false m n
+  none_left_all = all_read before mid (text_of f.calls) false m n f.taken (λ h. cc) f.text
+
+  -- one call more: what it answered, the block as it left it, and its bytes
+  module _ (after : Option (List ℕ)) (got : Result ℕ Error) (block bytes : List ℕ) (most : ReadsAtMost got block) (took : ReadConsumes mid after got block) (room : length block ≡ 65536) (b : bytes ≡ bytes_of (call got block)) where
     within : Moved 65536 got
-    within = subst (λ (k : ℕ). Moved k got) room moved
+    within = subst (λ (k : ℕ). Moved k got) room (read_moved got block most)
 
-    was-fed : (o : Machine) → o ≡ fed bytes n → o ≡ fed (text_of (call got block ∷ [])) n
-    was-fed o e = e ∙ ap (λ (t : List ℕ). fed t n) (b ∙ sym (one-text (call got block)))
+    was_fed : (o : Machine) → o ≡ fed bytes n → o ≡ fed (text_of (call got block ∷ [])) n
+    was_fed o e = e ∙ ap (λ (t : List ℕ). fed t n) (b ∙ sym (one-text (call got block)))
 
-    pub call-more : (o : Machine) → (length bytes ≡ 0 → ⊥) → o ≡ fed bytes n → length o.row.line ≡ length n.row.line → Told n.reading o.reading → SoFar m o
-    call-more o h e l k =
+    pub call_more : (o : Machine) → (length bytes ≡ 0 → ⊥) → o ≡ fed bytes n → SoFar before after m o
+    call_more o h e =
         let c = call got block in
         record {
           calls = f.calls ++ (c ∷ []);
           gave = gave-append f.calls (c ∷ []) f.gave (record { moved = within; room = room; gave = some-gave c (λ z. h (ap (λ (x : List ℕ). length x) b ∙ z)) }, tt);
-          text = text-then (c ∷ []) o (was-fed o e);
-          line = l ∙ f.line;
-          kept = kept_more m.reading n.reading o.reading f.kept k;
+          text = text_then (c ∷ []) o (was_fed o e);
+          taken =
+              subst (λ (t : List ℕ). Consumes before after t) (sym (text-append f.calls (c ∷ []) ∙ ap (λ (t : List ℕ). text_of f.calls ++ t) (one-text c)))
+              (consumes_more before mid after (text_of f.calls) (bytes_of c) f.taken (read_given mid after got block took));
         }
 
-    pub call-last : (ended : Bool) → length bytes ≡ 0 → ended ≡ met_end got → Reads ended m n
-    call-last ended h e =
+    pub call_last : (ended : Bool) → length bytes ≡ 0 → ended ≡ met_end got → Reads ended m n
+    call_last ended h e =
         reads_then (call got block ∷ []) n ended (within, (room, ((λ _. refl), tt)))
-        (was-fed n (sym (fed-none n) ∙ ap (λ (t : List ℕ). fed t n) (sym (is-empty bytes h))))
+        (was_fed n (sym (fed-none n) ∙ ap (λ (t : List ℕ). fed t n) (sym (is-empty bytes h))))
         (e ∙ sym (one_end (call got block)))
 
--- what a call answered fits the block as the call left it; the number is read back from its bits
-pub moved-after : (z : ℤ) (before after : ℕ) → mag z < 2 ^ hbits w64 → after ≡ before → Moved before z → Moved after (to_z w64 (of_z w64 z))
-moved-after z before after f h m =
-    subst (λ (x : ℤ). Moved after x) (sym (to_z-of_z {w = w64} {z = z} (sfits_of f))) (subst (λ (k : ℕ). Moved k z) (sym h) m)
-
--- a turn fewer is left
-pub turn-less : (turns : ℕ) → 0 < turns → turns - 1 < turns
-turn-less turns h = omega (arith, h)
+    pub call_last_all : (ended : Bool) → length bytes ≡ 0 → ended ≡ met_end got → ReadsAll before ended m n
+    call_last_all ended h e =
+        all_read before after (text_of f.calls) ended m n
+        (subst (λ (t : List ℕ). Consumes before after t) (append-nil (text_of f.calls))
+        (consumes_more before mid after (text_of f.calls) [] f.taken (subst (λ (t : List ℕ). Consumes mid after t) (sym b ∙ is-empty bytes h) (read_given mid after got block took))))
+        (λ t. read_end mid after got block took room (sym e ∙ t))
+        f.text

@@ -12,6 +12,8 @@ ghost use Rattle.listing.specs.Mirror.Parts.{is_kernel_in, kernel_in, row_listed
 
 use decoder::{Decoded, Instruction};
 use formats::Base;
+use std::fmt;
+use std::io::{Read, Write};
 
 // The line of a refusal.
 fn put_refusal(out: &mut [u8], at: usize, number: u64, position: u64) -> usize
@@ -33,7 +35,7 @@ fn put_instruction(out: &mut [u8], at: usize, instruction: Instruction) -> usize
 }
 
 // How much of the output buffer is used, and where listing goes on.
-#[derive(Drop)]
+#[derive(Clone, Copy)]
 struct Step {
     used: usize,
     next: usize,
@@ -56,7 +58,7 @@ fn list_instruction(kernel: &[u8], at: usize, out: &mut [u8], used: usize) -> St
 }
 
 // Whether a line is a kernel, and how many bytes of the kernel's buffer it takes.
-#[derive(Drop)]
+#[derive(Clone, Copy)]
 struct Loaded {
     good: bool,
     size: usize,
@@ -94,7 +96,7 @@ fn load(characters: &[u8], long: bool, kernel: &mut [u8]) -> Loaded
 
 // Where listing stands: of the line begun, how many characters stand in its buffer, and whether there were more; of the kernel at hand, how many
 // bytes it has, and where listing goes on in it; how much of the output buffer is used; where the block is read on.
-#[derive(Drop)]
+#[derive(Clone, Copy)]
 struct State {
     used: usize,
     long: bool,
@@ -122,7 +124,7 @@ fn list_step(block: &[u8], line: &[u8], kernel: &[u8], out: &mut [u8], s: State)
 }
 
 // How many bytes the kernel at hand has, and how much of the output buffer is used.
-#[derive(Drop)]
+#[derive(Clone, Copy)]
 struct Taken {
     size: usize,
     out: usize,
@@ -240,7 +242,7 @@ fn work(block: &[u8], line: &mut [u8], kernel: &mut [u8], out: &mut [u8], from: 
 }
 
 // Of the line begun, how many characters stand in its buffer, and whether there were more; whether a write failed.
-#[derive(Drop)]
+#[derive(Clone, Copy)]
 struct Listed {
     used: usize,
     long: bool,
@@ -248,7 +250,8 @@ struct Listed {
 }
 
 // A block, its output written whenever the buffer has little room, and at the end.
-fn list_block(
+fn list_block<W: Write>(
+    writer: &mut W,
     block: &[u8],
     line: &mut [u8],
     kernel: &mut [u8],
@@ -271,8 +274,10 @@ fn list_block(
     while 0 < turns {
         turns -= 1;
         let next = work(block, line, kernel, out, s);
-        if !io::write_all(1, line_blocks::first_bytes(out, next.out)) {
-            io::write_all(2, b"listing: standard output cannot be written\n");
+        if writer
+            .write_all(line_blocks::first_bytes(out, next.out))
+            .is_err()
+        {
             return Listed {
                 used: 0,
                 long: false,
@@ -302,46 +307,74 @@ fn list_block(
     }
 }
 
+// Why listing stopped before the input's end.
+#[derive(Clone, Copy)]
+enum Failure {
+    Unread,
+    Unwritten,
+}
+
+impl fmt::Display for Failure {
+    fn fmt<W: fmt::Write>(&self, f: &mut fmt::Formatter<W>) -> fmt::Result {
+        match self {
+            Failure::Unread => write!(f, "standard input cannot be read"),
+            Failure::Unwritten => write!(f, "standard output cannot be written"),
+        }
+    }
+}
+
 // Block by block to the input's end, or to a read or a write that fails.
-fn list_input(block: &mut [u8], line: &mut [u8], kernel: &mut [u8], out: &mut [u8])
+fn list_input<R: Read, W: Write>(
+    reader: &mut R,
+    writer: &mut W,
+    block: &mut [u8],
+    line: &mut [u8],
+    kernel: &mut [u8],
+    out: &mut [u8],
+) -> Result<(), Failure>
     requires { length line.old ≤ 2 * length kernel.old }
 {
     let mut used = 0;
     let mut long = false;
-    let mut turns = u64::MAX;
-    while 0 < turns {
-        turns -= 1;
-        let got = libc::read(0, block);
-        if got < 0 {
-            io::write_all(2, b"listing: standard input cannot be read\n");
-            return;
-        }
-        let count = io::count(got, block);
+    for _ in 0..u64::MAX {
+        let count = match reader.read(block) {
+            Ok(count) => count,
+            Err(_) => return Err(Failure::Unread),
+        };
         if count == 0 {
             // the last line may lack its 0x0a
-            list_block(
-                line_blocks::last_end(b"\n", used, long),
-                line,
-                kernel,
-                out,
-                used,
-                long,
-            );
-            return;
+            let end = line_blocks::last_end(b"\n", used, long);
+            let last = list_block(writer, end, line, kernel, out, used, long);
+            return if last.failed {
+                Err(Failure::Unwritten)
+            } else {
+                Ok(())
+            };
         }
-        let listed = list_block(&block[..count], line, kernel, out, used, long);
+        let listed = list_block(writer, &block[..count], line, kernel, out, used, long);
         if listed.failed {
-            return;
+            return Err(Failure::Unwritten);
         }
         used = listed.used;
         long = listed.long;
     }
+    Ok(())
 }
 
-fn main() {
+fn main(rt: HostRuntime) {
     let mut block = [0u8; 65536];
     let mut line = [0u8; 131072];
     let mut kernel = [0u8; 65536];
     let mut out = [0u8; 65536];
-    list_input(&mut block, &mut line, &mut kernel, &mut out);
+    let listed = list_input(
+        &mut rt.stdin(),
+        &mut rt.stdout(),
+        &mut block,
+        &mut line,
+        &mut kernel,
+        &mut out,
+    );
+    if let Err(failure) = listed {
+        let _ = eprintln!(rt; "listing: {failure}");
+    }
 }

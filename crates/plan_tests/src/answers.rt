@@ -8,6 +8,7 @@ use details::Detail;
 use lengths::{Lengths, TaintLengths};
 use operands::Elements;
 use plan::Plan;
+use std::io;
 
 fn top_bit(on: bool) -> u32
     ensures { result ≤ 2147483648 }
@@ -27,16 +28,16 @@ fn mask_of(lanes: Lanes) -> u32 {
 }
 
 // A line of exec byte, pred word, EM and the predicate's bits: size, offset, NM and the lanes.
-pub(crate) fn lanes(line: &[u8]) {
+pub(crate) fn lanes(rt: &impl Print, line: &[u8]) -> io::Result<()> {
     let exec = numbers::byte(line, 0);
     let mask = numbers::dword(line, 3);
     let bits = numbers::dword(line, 7);
     let lanes = channels::lanes_of(exec, numbers::word(line, 1), mask, bits);
-    output::number(lanes.exec.size as u64);
-    output::number(lanes.exec.offset as u64);
-    output::flag(lanes.exec.unmasked);
-    output::word(mask_of(lanes));
-    output::text(b"\n");
+    output::number(rt, lanes.exec.size as u64)?;
+    output::number(rt, lanes.exec.offset as u64)?;
+    output::flag(rt, lanes.exec.unmasked)?;
+    output::word(rt, mask_of(lanes))?;
+    output::text(rt, b"\n")
 }
 
 fn lengths_of(register_size: u8, line: &[u8]) -> Lengths {
@@ -82,91 +83,103 @@ fn tables_good(
 
 // A line of the lengths lent and of the tables' numbers of entries.
 pub(crate) fn tables(
+    rt: &impl Print,
     register_size: u8,
     line: &[u8],
     variables: &[u8],
     predicates: &[u8],
     surfaces: &[u8],
-) {
+) -> io::Result<()> {
     if tables_good(register_size, line, variables, predicates, surfaces) {
-        output::text(b" 0\n");
+        output::text(rt, b" 0\n")
     } else {
-        output::text(b" 13\n");
+        output::text(rt, b" 13\n")
     }
 }
 
-fn positions(at: [u32; 32], lanes: usize) {
+fn positions(rt: &impl Print, at: [u32; 32], lanes: usize) -> io::Result<()> {
     let mut i = 0;
     while i < 32 && i < lanes {
-        output::number(at[i] as u64);
+        output::number(rt, at[i] as u64)?;
         i += 1;
     }
+    Ok(())
 }
 
 // Size, whether signed, and the number of an immediate or the position of every lane's element.
-fn elements(elements: Elements, lanes: usize) {
-    output::text(b" |");
-    output::number(elements.size as u64);
-    output::flag(elements.signed);
+fn elements(rt: &impl Print, elements: Elements, lanes: usize) -> io::Result<()> {
+    output::text(rt, b" |")?;
+    output::number(rt, elements.size as u64)?;
+    output::flag(rt, elements.signed)?;
     if elements.immediate {
-        output::text(b" =");
-        output::number(elements.value);
+        output::text(rt, b" =")?;
+        output::number(rt, elements.value)
     } else {
-        output::text(b" @");
+        output::text(rt, b" @")?;
         let at = elements.at;
-        positions(at, lanes);
+        positions(rt, at, lanes)
     }
 }
 
 // The predicate's bits, the block's bytes, the channels with the dwords from one's data to the next one's, and where the surface lies.
-fn others(bits: u32, bytes: u8, channels: u8, stride: u8, start: u32, length: u32) {
-    output::text(b" |");
-    output::word(bits);
-    output::number(bytes as u64);
-    output::number(channels as u64);
-    output::number(stride as u64);
-    output::number(start as u64);
-    output::number(length as u64);
+fn others(
+    rt: &impl Print,
+    bits: u32,
+    bytes: u8,
+    channels: u8,
+    stride: u8,
+    start: u32,
+    length: u32,
+) -> io::Result<()> {
+    output::text(rt, b" |")?;
+    output::word(rt, bits)?;
+    output::number(rt, bytes as u64)?;
+    output::number(rt, channels as u64)?;
+    output::number(rt, stride as u64)?;
+    output::number(rt, start as u64)?;
+    output::number(rt, length as u64)
 }
 
-fn accepted(plan: Plan) {
+fn accepted(rt: &impl Print, plan: Plan) -> io::Result<()> {
     let lanes = exec_byte::split(plan.control.exec).size as usize;
-    elements(plan.left, lanes);
-    elements(plan.right, lanes);
-    elements(plan.payload, lanes);
+    elements(rt, plan.left, lanes)?;
+    elements(rt, plan.right, lanes)?;
+    elements(rt, plan.payload, lanes)?;
     others(
+        rt,
         plan.bits,
         plan.bytes,
         plan.channels,
         plan.stride,
         plan.start,
         plan.length,
-    );
+    )
 }
 
 // The operand's place; a pair, which nothing tells before data are read, would be seen too.
-fn told(detail: Detail) {
+fn told(rt: &impl Print, detail: Detail) -> io::Result<()> {
     match detail {
-        Detail::None => {}
+        Detail::None => Ok(()),
         Detail::Operand(place) => {
-            output::text(b" operand");
-            output::number(place as u64);
+            output::text(rt, b" operand")?;
+            output::number(rt, place as u64)
         }
         Detail::Pair(channel, lane) => {
-            output::text(b" pair");
-            output::number(channel as u64);
-            output::number(lane as u64);
+            output::text(rt, b" pair")?;
+            output::number(rt, channel as u64)?;
+            output::number(rt, lane as u64)
         }
     }
 }
 
-fn planned(plan: Plan) {
-    output::number(plan.number as u64);
+fn planned(rt: &impl Print, plan: Plan) -> io::Result<()> {
+    output::number(rt, plan.number as u64)?;
     let detail = plan.detail;
-    told(detail);
+    told(rt, detail)?;
     if plan.number == 0 {
-        accepted(plan);
+        accepted(rt, plan)?;
     }
+    Ok(())
 }
 
 fn plan_of(
@@ -196,20 +209,22 @@ fn plan_of(
 
 // A kernel of one instruction.
 pub(crate) fn instruction(
+    rt: &impl Print,
     register_size: u8,
     line: &[u8],
     variables: &[u8],
     predicates: &[u8],
     surfaces: &[u8],
-) {
+) -> io::Result<()> {
     let kernel = numbers::kernel_of(line);
     match decoder::decode(&kernel, 0) {
         Decoded::Accepted(instruction, _) => {
-            planned(plan_of(register_size, instruction, variables, predicates, surfaces));
+            let plan = plan_of(register_size, instruction, variables, predicates, surfaces);
+            planned(rt, plan)?;
         }
         Decoded::Refused(number) => {
-            output::number(number as u64);
+            output::number(rt, number as u64)?;
         }
     }
-    output::text(b"\n");
+    output::text(rt, b"\n")
 }

@@ -7,31 +7,50 @@ mod answers;
 mod numbers;
 mod output;
 
-ghost use Rattle.std.specs.Prelude.{◌≤◌, ◌<◌, length};
+ghost use Rattle.std.specs.Prelude.{◌≤◌, ◌<◌, length, IfOk};
+
+use std::io;
+use std::io::Read;
 
 fn answer_line(
+    rt: &impl Print,
     register_size: u8,
     line: &[u8],
     variables: &[u8],
     predicates: &[u8],
     surfaces: &[u8],
-) {
+) -> io::Result<()> {
     if line.len() == 0 {
-        return;
+        return Ok(());
     }
     let kind = line[0];
     if kind == b'#' {
-        return output::text(line);
+        return output::text(rt, line);
     }
     if kind == b'c' {
-        return answers::lanes(&line[1..]);
+        return answers::lanes(rt, &line[1..]);
     }
     if kind == b't' {
-        return answers::tables(register_size, &line[1..], variables, predicates, surfaces);
+        return answers::tables(
+            rt,
+            register_size,
+            &line[1..],
+            variables,
+            predicates,
+            surfaces,
+        );
     }
     if kind == b'k' {
-        answers::instruction(register_size, &line[1..], variables, predicates, surfaces);
+        return answers::instruction(
+            rt,
+            register_size,
+            &line[1..],
+            variables,
+            predicates,
+            surfaces,
+        );
     }
+    Ok(())
 }
 
 // Where the next line starts.
@@ -65,7 +84,7 @@ fn chosen(text: &[u8], at: usize, before: u8) -> u8
     }
 }
 
-fn answer_lines(text: &[u8]) {
+fn answer_lines(rt: &impl Print, text: &[u8]) -> io::Result<()> {
     let mut at = 0;
     let mut register_size: u8 = 32;
     let mut variables = 0;
@@ -78,18 +97,35 @@ fn answer_lines(text: &[u8]) {
         surfaces = latest(text, at, b's', surfaces);
         register_size = chosen(text, at, register_size);
         answer_line(
+            rt,
             register_size,
             &text[at..next],
             &text[variables..],
             &text[predicates..],
             &text[surfaces..],
-        );
+        )?;
         at = next;
     }
+    Ok(())
 }
 
-fn main() {
+// Reads until the buffer is full or the input ends, and tells how many bytes stand at the buffer's start.
+fn read_full<R: Read>(reader: &mut R, buffer: &mut [u8]) -> io::Result<usize>
+    ensures { IfOk result (λ n. n ≤ length buffer.new) }
+{
+    let mut done = 0;
+    while done < buffer.len() {
+        let count = reader.read(&mut buffer[done..])?;
+        if count == 0 {
+            break;
+        }
+        done += count;
+    }
+    Ok(done)
+}
+
+fn main(rt: HostRuntime) -> io::Result<()> {
     let mut text = [0u8; 131072];
-    let count = io::read_full(0, &mut text);
-    answer_lines(&text[..count]);
+    let count = read_full(&mut rt.stdin(), &mut text)?;
+    answer_lines(&rt, &text[..count])
 }

@@ -1,0 +1,16 @@
+-- `listing::next_line` meets its contract: the block ends before the line, or the line ends in it.
+use Rattle.line_blocks.proofs.PartLaws.{part-inside}
+use Rattle.listing.proofs.WholeLaws.{part-goes, line-goes}
+use Rattle.listing.proofs.next_line.Goals as goal
+
+pub slice_bounds-push_all-end : goal.slice_bounds-push_all-end
+slice_bounds-push_all-end c =
+    part-inside _ _ _ c.requires.place_in_bounds c.line_end-end.ensures
+
+pub returns-then-block-end : goal.returns-then-block-end
+returns-then-block-end c =
+    part-goes _ _ _ _ _ _ _ _ _ c.line_end-end.ensures c.push_all-begun.ensures c.requires.out_in_bounds
+
+pub returns : goal.returns
+returns c =
+    line-goes _ _ _ _ _ _ _ _ _ c.line_end-end.ensures c.push_all-begun.ensures c.requires.out_in_bounds _ _ _ _ c.requires.place_in_bounds c.if-block-end.false c.requires.kernel_len_bound c.take_line-taken.ensures

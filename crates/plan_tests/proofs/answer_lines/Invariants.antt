@@ -1,0 +1,9 @@
+-- A table's numbers start in the text.
+use Rattle.std.proofs.Common.{length, ◌-◌, ◌≤◌}
+use Rattle.plan_tests.proofs.answer_lines.Given as goal
+
+abbrev pub invariant-loop-at : goal.invariant-loop-at
+invariant-loop-at g l = (l.at ≤ length l.text) × (l.variables ≤ length l.text) × (l.predicates ≤ length l.text) × (l.surfaces ≤ length l.text)
+
+abbrev pub decreases-loop-at : goal.decreases-loop-at
+decreases-loop-at g l = length l.text - l.at
