@@ -12,8 +12,6 @@ use Rattle.details.specs.declared.Detail.{Detail}
 use Rattle.details.specs.declared.Detail.TheVariants as detail
 use Rattle.details.specs.Details.{names_operand}
 use Rattle.exec_byte.specs.Exec.{exec_size}
-use Rattle.operand_fields.specs.declared.General.{General}
-use Rattle.operand_fields.specs.declared.Immediate.{Immediate}
 use Rattle.operand_fields.specs.declared.Raw.{Raw}
 use Rattle.operand_fields.specs.declared.Operand.{Operand}
 use Rattle.operand_fields.specs.declared.Operand.TheVariants as kind

@@ -1,6 +1,6 @@
 -- GATHER_SCALED over registers and surfaces with marks beside ones with the same bytes and no marks: the same bytes, and no marks in the
 -- second.
-use mathlib.Core.Path.{◌≡◌, refl, ap}
+use mathlib.Core.Path.{◌≡◌, refl, ap, subst}
 use mathlib.Core.Bool.{Bool, false, and-false}
 use mathlib.Core.List.{List}
 use Prim.Native.Nat.{ℕ, zero, suc, ◌+◌}
@@ -18,13 +18,16 @@ module _ (b c : Buffer) (r : Plainly b c) (p : Plan) where
   mark-plain e address j h =
       rw (h, zero-untainted _ (r.cells (p.start + address + j)).1, and-false (is_read p address j)) (untainted-mark false refl)
 
-  writes-plain : (d e : Bool) (address other at j n : ℕ) → e ≡ false → address ≡ other → PlainWrites (gather_writes b p d address at j n) (gather_writes c p e other at j n)
+  writes-same : (d e : Bool) (address at j n : ℕ) → e ≡ false → PlainWrites (gather_writes b p d address at j n) (gather_writes c p e address at j n)
   unfolding gather_writes
-  writes-plain d e address other at j zero h q = none
-  writes-plain d e address other at j (suc n) h q =
-      rw (← q)
-      (more (ap (λ (l : List ℕ). gathered_byte l p address j) (bytes_same r), mark-plain e address j h)
-      (writes-plain d e address address at (suc j) n h refl))
+  writes-same d e address at j zero h = none
+  writes-same d e address at j (suc n) h =
+      more (ap (λ (l : List ℕ). gathered_byte l p address j) (bytes_same r), mark-plain e address j h) (writes-same d e address at (suc j) n h)
+
+  writes-plain : (d e : Bool) (address other at j n : ℕ) → e ≡ false → address ≡ other → PlainWrites (gather_writes b p d address at j n) (gather_writes c p e other at j n)
+  writes-plain d e address other at j n h q =
+      let P : ℕ → Type 0 = λ o. PlainWrites (gather_writes b p d address at j n) (gather_writes c p e o at j n) in
+      subst P q (writes-same d e address at j n h)
 
 module _ (b c f g : Buffer) (r : Plainly b c) (q : Plainly f g) (p : Plan) where
   lane_plain : (lane : ℕ) → PlainWrites (gather_lane b f p lane) (gather_lane c g p lane)

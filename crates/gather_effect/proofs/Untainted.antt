@@ -1,5 +1,5 @@
 -- GATHER_SCALED over register files and surfaces with equal marks and equal untainted bytes: alike effects.
-use mathlib.Core.Path.{◌≡◌, refl, ap}
+use mathlib.Core.Path.{◌≡◌, refl, ap, subst}
 use mathlib.Core.Bool.{Bool, true, false, true≢false, false≢true, cond, ◌&&◌}
 use mathlib.Core.List.{List}
 use Prim.Native.Nat.{ℕ, zero, suc, ◌+◌}
@@ -29,13 +29,24 @@ module _ (b c : Buffer) (r : Agreeing b c) (p : Plan) where
   unfolding gathered_mark
   doubtful-alike address other j = under-mark true true _ _ refl (λ x. absurd (true≢false x))
 
-  writes-alike : (d e : Bool) (address other at j n : ℕ) → d ≡ e → (d ≡ false → address ≡ other) → AlikeWrites (gather_writes b p d address at j n) (gather_writes c p e other at j n)
+  -- the dword of an address that is the same in both, and not doubtful
+  sure-writes : (address at j n : ℕ) → AlikeWrites (gather_writes b p false address at j n) (gather_writes c p false address at j n)
   unfolding gather_writes
-  writes-alike d e address other at j zero q h = none
-  writes-alike true true address other at j (suc n) q h = more (doubtful-alike address other j) (writes-alike true true address other at (suc j) n q h)
-  writes-alike true false address other at j (suc n) q h = absurd (true≢false q)
-  writes-alike false true address other at j (suc n) q h = absurd (false≢true q)
-  writes-alike false false address other at j (suc n) q h = rw (← h refl) (more (sure-alike address j) (writes-alike false false address address at (suc j) n q (λ _. refl)))
+  sure-writes address at j zero = none
+  sure-writes address at j (suc n) = more (sure-alike address j) (sure-writes address at (suc j) n)
+
+  doubtful-writes : (address other at j n : ℕ) → AlikeWrites (gather_writes b p true address at j n) (gather_writes c p true other at j n)
+  unfolding gather_writes
+  doubtful-writes address other at j zero = none
+  doubtful-writes address other at j (suc n) = more (doubtful-alike address other j) (doubtful-writes address other at (suc j) n)
+
+  writes-alike : (d e : Bool) (address other at j n : ℕ) → d ≡ e → (d ≡ false → address ≡ other) → AlikeWrites (gather_writes b p d address at j n) (gather_writes c p e other at j n)
+  writes-alike true true address other at j n q h = doubtful-writes address other at j n
+  writes-alike true false address other at j n q h = absurd (true≢false q)
+  writes-alike false true address other at j n q h = absurd (false≢true q)
+  writes-alike false false address other at j n q h =
+      let P : ℕ → Type 0 = λ o. AlikeWrites (gather_writes b p false address at j n) (gather_writes c p false o at j n) in
+      subst P (h refl) (sure-writes address at j n)
 
 module _ (b c f g : Buffer) (r : Agreeing b c) (q : Agreeing f g) (p : Plan) where
   lane-alike : (lane : ℕ) → AlikeWrites (gather_lane b f p lane) (gather_lane c g p lane)

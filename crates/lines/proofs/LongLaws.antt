@@ -6,10 +6,8 @@ use Prim.Native.Nat.{ℕ, ◌+◌, ◌-◌, ◌≤◌, ◌<◌}
 use native.Mathlib.Omega.{arith}
 use lib.ListN.{length, take, length-append}
 use lib.Seq.{length-take-le, take-take}
-use Rattle.decoder.specs.declared.Instruction.{Instruction}
-use Rattle.lines.specs.LineOf.{line_of}
-use Rattle.lines.specs.Reading.{Reading, no_line, reading_of}
-use Rattle.lines.specs.Claims.{Encodes, LineBegins, IsColumn}
+use Rattle.lines.specs.Reading.{reading_of}
+use Rattle.lines.specs.Claims.{LineBegins, IsColumn}
 use Rattle.lines.proofs.Statements.{line-length, read-line, column, reading-then, column-read}
 
 -- what begins a line is short

@@ -25,14 +25,12 @@ use Rattle.decoder.specs.declared.RawSend.{RawSend}
 use Rattle.decoder.specs.declared.Instruction.{Instruction}
 use Rattle.decoder.specs.declared.Instruction.TheVariants as instruction
 use Rattle.control_texts.specs.Mirror.Predicate.{zeros, predicate}
-use Rattle.control_texts.specs.Mirror.Exec.{exec, scatter_exec}
+use Rattle.control_texts.specs.Mirror.Exec.{scatter_exec}
 use Rattle.text_parts.specs.Mirror.Fields.{decimal, hexadecimal}
-use Rattle.text_parts.specs.Mirror.Raw.{raw}
 use Rattle.control_texts.specs.Texts.{optional, predicate_text, exec_text}
 use Rattle.text_parts.specs.Texts.{raw_text}
 use Rattle.control_texts.proofs.PrintLaws.{predicate-prints, exec-prints, scatter-exec-prints}
 use Rattle.text_parts.proofs.PrintLaws.{raw-prints}
-use Rattle.operand_texts.specs.Mirror.Operand.{source, destination}
 use Rattle.operand_texts.specs.Texts.{operand_text}
 use Rattle.line_parts.specs.Mirror.Braces.{bracing, scale_behind, size_and_scale, gather_braces, scale_alone, scatter_braces}
 use Rattle.line_parts.specs.Mirror.Parts.{scalar_and_raws, scalar_and_raws_fit, blocks, surface, send_endings, message}

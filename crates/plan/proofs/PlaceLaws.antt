@@ -48,6 +48,7 @@ module _ (register_size : ℕ) (t : Variables) (exec : ℕ) where
     where
       onward : Names register_size t exec first [] next → Names register_size t exec (suc first) [] next
       onward (nothing d n) = nothing d n
+      onward (operand _ _ at _) = elim at [ ]
 
   -- a plan without operands to name
   plain-names : (first n : ℕ) (os : List Asked) → names_operand n ≡ false → Names register_size t exec first os (refused_plan n detail.None)

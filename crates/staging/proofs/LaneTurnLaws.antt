@@ -1,5 +1,4 @@
 -- The turns of a loop over the lanes that asks of each whether it is on: one that is on makes its writes, and one that is off none.
-use Prim.Native.Nat.{◌-◌}
 use mathlib.Core.Path.{◌≡◌, sym}
 use mathlib.Core.Bool.{Bool, true, false, cond}
 use mathlib.Core.List.{List, []}

@@ -1,0 +1,11 @@
+-- `answering::write_refusal` meets its contract, in each form.
+use Rattle.answering.proofs.WrittenLaws.{refusal-line, refusal-verdict}
+use Rattle.answering.proofs.write_refusal.Goals as goal
+
+pub returns-in-Lines : goal.returns-in-Lines
+returns-in-Lines c =
+    refusal-line _ _ _ _ _ _ c.in-Lines.is c.put_answer.ensures
+
+pub returns-in-Verdict : goal.returns-in-Verdict
+returns-in-Verdict c =
+    refusal-verdict _ _ _ _ _ _ c.in-Verdict.is c.put_verdict.ensures

@@ -1,0 +1,9 @@
+-- `details::of_operand` meets its contract.
+use Rattle.details.proofs.OperandLaws.{operand-named, operand-unnamed}
+use Rattle.details.proofs.of_operand.Goals as goal
+
+pub returns-then-number : goal.returns-then-number
+returns-then-number c = operand-named _ _ c.if-number.true
+
+pub returns-else-number : goal.returns-else-number
+returns-else-number c = operand-unnamed _ _ c.if-number.false

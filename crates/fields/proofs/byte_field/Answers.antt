@@ -1,0 +1,19 @@
+-- `fields::byte_field` meets its contract: at each return, what the calls and tests on the way say picks the case of `Reading`.
+use Rattle.std.proofs.Common.{eq-eqb, ne_eqb}
+use Rattle.fields.specs.Reading.{judged_read, byte_field_at}
+use Rattle.fields.proofs.byte_field.Goals as goal
+
+pub returns-then-number-eq0 : goal.returns-then-number-eq0
+unfolding byte_field_at judged_read
+returns-then-number-eq0 c =
+    rw (← c.byte.ensures, c.in-Got.is, ← c.byte_refusal-number.ensures, eq-eqb _ _ c.if-number-eq0.true)
+
+pub returns-else-number-eq0 : goal.returns-else-number-eq0
+unfolding byte_field_at judged_read
+returns-else-number-eq0 c =
+    rw (← c.byte.ensures, c.in-Got.is, ← c.byte_refusal-number.ensures, ne_eqb _ _ c.if-number-eq0.false)
+
+pub returns-in-Short : goal.returns-in-Short
+unfolding byte_field_at judged_read
+returns-in-Short c =
+    rw (← c.byte.ensures, c.in-Short.is)

@@ -1,0 +1,39 @@
+-- `line_parts::gather_braces_at` meets its contract: at each return, what the calls and tests on the way say picks the case of `Braces`.
+use Rattle.std.proofs.Common.{eq-eqb, ne_eqb}
+use Rattle.formats.specs.Format.{pair, through, blank}
+use Rattle.line_parts.specs.Mirror.Braces.{gather_braces, size_and_scale}
+use Rattle.line_parts.proofs.BoundLaws.{size-bound, scale-bound}
+use Rattle.line_parts.proofs.gather_braces_at.Goals as goal
+
+pub byte_of-requires : goal.byte_of-requires
+byte_of-requires c =
+    size-bound _ _ _ _ _ c.decimal_at.ensures c.in-Got-decimal_at.is
+
+pub word_of-requires : goal.word_of-requires
+word_of-requires c =
+    scale-bound _ _ _ _ _ _ c.scale_at.ensures c.in-Got-scale_at.is
+
+pub returns-then-braced-eq0 : goal.returns-then-braced-eq0
+unfolding gather_braces size_and_scale pair through blank
+returns-then-braced-eq0 c =
+    rw (← c.one_of.ensures, c.in-Got.is, eq-eqb _ _ c.if-braced-eq0.true)
+
+pub returns-in-Got-scale_at : goal.returns-in-Got-scale_at
+unfolding gather_braces size_and_scale pair through blank
+returns-in-Got-scale_at c =
+    rw (← c.one_of.ensures, c.in-Got.is, ne_eqb _ _ c.if-braced-eq0.false, ← c.decimal_at.ensures, c.in-Got-decimal_at.is, ← c.scale_at.ensures, c.in-Got-scale_at.is, ← c.byte_of.ensures, ← c.word_of.ensures)
+
+pub returns-in-Stop-scale_at : goal.returns-in-Stop-scale_at
+unfolding gather_braces size_and_scale pair through blank
+returns-in-Stop-scale_at c =
+    rw (← c.one_of.ensures, c.in-Got.is, ne_eqb _ _ c.if-braced-eq0.false, ← c.decimal_at.ensures, c.in-Got-decimal_at.is, ← c.scale_at.ensures, c.in-Stop-scale_at.is)
+
+pub returns-in-Stop-decimal_at : goal.returns-in-Stop-decimal_at
+unfolding gather_braces size_and_scale pair through blank
+returns-in-Stop-decimal_at c =
+    rw (← c.one_of.ensures, c.in-Got.is, ne_eqb _ _ c.if-braced-eq0.false, ← c.decimal_at.ensures, c.in-Stop-decimal_at.is)
+
+pub returns-in-Stop : goal.returns-in-Stop
+unfolding gather_braces size_and_scale pair through blank
+returns-in-Stop c =
+    rw (← c.one_of.ensures, c.in-Stop.is)

@@ -1,0 +1,9 @@
+-- `scatter_writes::row_place` meets its contract: a product of bytes fits.
+use Rattle.std.proofs.Common.{arith, refl}
+use Rattle.staging.proofs.Products.{product_small}
+use Rattle.scatter_writes.proofs.WriteLaws.{row_told}
+use Rattle.scatter_writes.proofs.row_place.Goals as goal
+
+pub returns : goal.returns
+returns c =
+    (row_told c.args.pairs c.args.channel _ _ c.rank-below.ensures refl, omega (arith, product_small c.rank-below.result c.args.pairs.stride (omega arith) (omega arith)))

@@ -1,0 +1,20 @@
+-- `shift::residue` meets its contract: a negative number is its lowest bytes less their span, modulo 2^64.
+use Rattle.std.proofs.Common.{◌^◌, ◌<◌, refl, arith}
+use Rattle.shift.proofs.SpanLaws.{told-some, told-small}
+use Rattle.shift.proofs.ShiftLaws.{residue-plain, residue-negative}
+use Rattle.shift.proofs.residue.Goals as goal
+
+pub nonzero_rem-low : goal.nonzero_rem-low
+nonzero_rem-low c = told-some _ _ c.span_of-all.ensures
+
+pub overflow_mul-low : goal.overflow_mul-low
+overflow_mul-low c = let h = told-small _ _ c.span_of-all.ensures c.args.value c.requires in omega arith
+
+pub returns-then-signed-all : goal.returns-then-signed-all
+returns-then-signed-all c =
+    let fits : c.wrapping_sub_u64.result < 2 ^ 64 = omega arith in
+    residue-negative c.args.signed c.args.size c.args.value _ _ c.requires c.span_of-all.ensures refl _ c.if-signed-all.true fits c.wrapping_sub_u64.ensures.value
+
+pub returns-else-signed-all : goal.returns-else-signed-all
+returns-else-signed-all c =
+    residue-plain c.args.signed c.args.size c.args.value _ _ c.requires c.span_of-all.ensures refl c.if-signed-all.false
