@@ -1,0 +1,6 @@
+-- `shl::shape_of` meets its contract.
+use Rattle.shl.proofs.LaneLaws.{shape-told}
+use Rattle.shl.proofs.shape_of.Goals as goal
+
+pub returns : goal.returns
+returns c = shape-told c.args.plan _ _ c.split-lanes.ensures c.layout_of.ensures
