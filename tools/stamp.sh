@@ -43,7 +43,7 @@ list_paths() (
   for crate in $1; do
     [ -d "crates/$crate/out" ] || mkdir "crates/$crate/out"
   done 2>/dev/null
-  exec find crates.txt $(printf 'crates/%s ' $1) '(' -name must-fail -o -name out ')' -prune -o -print 2>/dev/null
+  exec find crates.txt $(printf 'crates/%s ' $1) '(' -name must-fail -o -path 'crates/*/out' ! -path 'crates/*/*/out' ')' -prune -o -print 2>/dev/null
 )
 
 quote() {

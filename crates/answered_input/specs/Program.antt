@@ -1,5 +1,5 @@
--- What a program that answers a case file on standard input hands on to be written. No contract can say which bytes a read gives, so each statement
--- is of some calls that read.
+-- What a program that answers a case file hands on to be written. No contract can say which bytes a read of standard input gives, so that is told of
+-- some calls that read; of an input whose bytes are known, of these.
 use Rattle.std.specs.Prelude.{◌≡◌, ◌⊎◌, cond, List, [], ℕ, Option, IfSome}
 use Rattle.input.specs.Calls.{Call, Possible, text_of, ended_by}
 
