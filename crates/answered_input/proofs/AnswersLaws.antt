@@ -1,11 +1,12 @@
 -- What was read, finished and answered.
-use Rattle.std.proofs.Common.{◌≡◌, refl, sym, ap, ◌∙◌, subst, Bool, true, false, cond, not, List, [], ℕ, ◌≤◌, arith, length, take, Option, None, Some, inl, inr}
+use Rattle.std.proofs.Common.{◌≡◌, refl, sym, ap, ◌∙◌, subst, Bool, true, false, cond, not, List, [], ℕ, ◌≤◌, arith, length, take, Option, None, Some, ◌⊎◌, inl, inr}
+use Rattle.std.proofs.KnownBytes.{Consumes-whole}
 use borrow.Author.Tests.{not-true, not-false}
 use Rattle.tally.specs.Mirror.Reading.{Reading}
 use Rattle.feeding.specs.Mirror.Feeding.{Machine, fed, finished}
 use Rattle.output.specs.Mirror.Page.{written}
 use Rattle.input.specs.Calls.{text_of, ended_by}
-use Rattle.input.specs.Mirror.Reads.{Reads, ReadsAll}
+use Rattle.input.specs.Mirror.Reads.{Reads, ReadsKnown}
 use Rattle.answering.specs.declared.Form.{Form}
 use Rattle.answering.specs.Mirror.Puts.{Puts}
 use Rattle.answering.specs.Mirror.Bench.{case_output}
@@ -43,17 +44,18 @@ input-answered f line read done ended asked out after used l r e p same =
     record { calls = r.calls; possible = r.possible; puts = subst (λ (t : List ℕ). Puts t out after used) k p }
 
 -- where the bytes that the input has left are known
-pub input-known : (known : Option (List ℕ)) (f : Form) (line : List ℕ) (read done : Machine) (ended asked : Bool) (out after : List ℕ) (used : ℕ) → length line ≡ 16386 →
-    ReadsAll known ended (begun line) read → done ≡ finished read → Puts (ended_output asked f done.reading) out after used → asked ≡ ended → PutsKnown known (case_file_text f) out after used
+pub input-known : (known left : Option (List ℕ)) (f : Form) (line : List ℕ) (read done : Machine) (ended asked : Bool) (out after : List ℕ) (used : ℕ) → length line ≡ 16386 →
+    ReadsKnown known left ended (begun line) read → done ≡ finished read → Puts (ended_output asked f done.reading) out after used → asked ≡ ended → PutsKnown known (case_file_text f) out after used
 unfolding ended_output
-input-known None f line read done ended asked out after used l r e p same = tt
-input-known (Some text) f line read done true asked out after used l r e p same =
-    let m : done ≡ finished (fed text (begun line)) = e ∙ ap finished (r refl) in
-    inl
+input-known known left f line read done true asked out after used l r e p same =
+    let m : done ≡ finished (fed r.text (begun line)) = e ∙ ap finished r.fed in
+    Consumes-whole known left r.text (λ (text : List ℕ). Puts (case_file_text f text) out after used ⊎ Puts [] out after used) r.taken (r.end refl)
+    (inl
     (subst (λ (t : List ℕ). Puts t out after used)
-    (ap (λ (b : Bool). cond b (case_output f done.reading) []) same ∙ ap (λ (x : Machine). case_output f x.reading) m ∙ text-output f text line l ∙ case-file-output f text)
-    p)
-input-known (Some text) f line read done false asked out after used l r e p same =
+    (ap (λ (b : Bool). cond b (case_output f done.reading) []) same ∙ ap (λ (x : Machine). case_output f x.reading) m ∙ text-output f r.text line l ∙ case-file-output f r.text)
+    p))
+input-known None left f line read done false asked out after used l r e p same = tt
+input-known (Some text) left f line read done false asked out after used l r e p same =
     inr (subst (λ (t : List ℕ). Puts t out after used) (ap (λ (b : Bool). cond b (case_output f done.reading) []) same) p)
 
 -- the part of a buffer of 32,813 bytes that was written

@@ -10,8 +10,8 @@ ghost use Rattle.assembler.specs.Assembling.{column_line, assembled_line};
 ghost use Rattle.assembler.specs.Mirror.Parts.{Goes, Passes};
 
 use formats::Base;
-use std::fmt;
 use std::io::{Read, Write};
+use streams::Failure;
 use text::Assembled;
 
 // The line of a refusal.
@@ -173,22 +173,6 @@ fn assemble_block<W: Write>(
         used: 0,
         long: false,
         failed: true,
-    }
-}
-
-// Why assembling stopped before the input's end.
-#[derive(Clone, Copy)]
-enum Failure {
-    Unread,
-    Unwritten,
-}
-
-impl fmt::Display for Failure {
-    fn fmt<W: fmt::Write>(&self, f: &mut fmt::Formatter<W>) -> fmt::Result {
-        match self {
-            Failure::Unread => write!(f, "standard input cannot be read"),
-            Failure::Unwritten => write!(f, "standard output cannot be written"),
-        }
     }
 }
 

@@ -1,37 +1,26 @@
 -- What reading has come to, call by call.
-use Rattle.std.proofs.Common.{◌≡◌, refl, sym, ap, ◌∙◌, subst, Bool, true, false, IsTrue, List, [], ◌∷◌, ◌++◌, append_assoc, ℕ, zero, suc, arith, length, Result, Ok, Err, Option, None, Some}
+use Rattle.std.proofs.Common.{◌≡◌, refl, sym, ap, ◌∙◌, subst, Bool, true, false, List, [], ◌∷◌, ◌++◌, ℕ, zero, suc, arith, length, Result, Ok, Err, Option}
+use Rattle.std.proofs.lemmas.Bool.{false≢true}
 use mathlib.Core.List.{append-nil, flatten}
 use Rattle.std.specs.declared.io.Error.{Error}
 use Rattle.std.specs.Io.{ReadsAtMost}
 use Rattle.std.specs.Io.KnownBytes.{Consumes, IsAtEnd, ReadConsumes}
+use Rattle.std.proofs.KnownBytes.{Consumes-nil, Consumes-trans, Consumes-kept}
 use Rattle.tally.specs.Mirror.Reading.{Contents, Tables}
 use Rattle.feeding.specs.declared.State.{State}
 use Rattle.feeding.specs.Mirror.Feeding.{Machine, machine, fresh, fed}
 use Rattle.feeding.proofs.FeedingLaws.{fed-none, fed-append}
 use Rattle.input.specs.Answers.{answer_of, met_end}
 use Rattle.input.specs.Calls.{Call, call, Moved, bytes_of, Possible, text_of, ended_by}
-use Rattle.input.specs.Mirror.Reads.{Reads, ReadsAll}
+use Rattle.input.specs.Mirror.Reads.{Reads, ReadsKnown}
 use Rattle.input.proofs.CallsLaws.{AllGave, some-gave, one-text, one_end, text-append, end-append, gave-append, possible-append}
-
--- what is known to be left of an input, after bytes were taken and then more
-consumes_more : (before mid after : Option (List ℕ)) (xs ys : List ℕ) → Consumes before mid xs → Consumes mid after ys → Consumes before after (xs ++ ys)
-consumes_more None mid after xs ys h g = tt
-consumes_more (Some left) None after xs ys h g = absurd h
-consumes_more (Some left) (Some bs) None xs ys h g = absurd g
-consumes_more (Some left) (Some bs) (Some cs) xs ys h g = h ∙ ap (λ (l : List ℕ). xs ++ l) g ∙ sym (append_assoc xs ys cs)
-
-consumes_none : (before : Option (List ℕ)) → Consumes before before []
-consumes_none None = tt
-consumes_none (Some left) = refl
 
 -- a read takes what it gives
 read_given : (before after : Option (List ℕ)) (got : Result ℕ Error) (block : List ℕ) → ReadConsumes before after got block → Consumes before after (bytes_of (call got block))
 unfolding bytes_of answer_of
 read_given before after (Ok zero) block h = h.0
 read_given before after (Ok (suc n)) block h = h.0
-read_given None after (Err e) block h = tt
-read_given (Some left) None (Err e) block h = absurd h
-read_given (Some left) (Some bs) (Err e) block h = sym h
+read_given before after (Err e) block h = Consumes-kept before before after [] (Consumes-nil before) h
 
 -- a read that met the end left nothing
 read_end : (before after : Option (List ℕ)) (got : Result ℕ Error) (block : List ℕ) → ReadConsumes before after got block → length block ≡ 65536 → met_end got ≡ true → IsAtEnd after
@@ -59,22 +48,12 @@ none_read before line state contents tables e =
       calls = [];
       gave = tt;
       text = ap (λ (s : State). machine line s contents tables) e ∙ sym (fed-none (machine line fresh contents tables));
-      taken = consumes_none before;
+      taken = Consumes-nil before;
     }
 
 is-empty : (bytes : List ℕ) → length bytes ≡ 0 → bytes ≡ []
 is-empty [] h = refl
 is-empty (b ∷ bytes) h = absurd (omega (arith, h))
-
-all_read : (before after : Option (List ℕ)) (text : List ℕ) (ended : Bool) (m n : Machine) → Consumes before after text → (ended ≡ true → IsAtEnd after) → n ≡ fed text m → ReadsAll before ended m n
-all_read None after text ended m n h g e = tt
-all_read (Some left) None text ended m n h g e = absurd h
-all_read (Some left) (Some bs) text ended m n h g e =
-    λ t. e ∙ ap (λ (l : List ℕ). fed l m) (sym (h ∙ ap (λ (l : List ℕ). text ++ l) (g (is_true ended t)) ∙ append-nil text))
-  where
-    is_true : (b : Bool) → IsTrue b → b ≡ true
-    is_true true t = refl
-    is_true false t = t
 
 module _ (before mid : Option (List ℕ)) (m n : Machine) (f : SoFar before mid m n) where
   text_then : (b : List Call) (o : Machine) → o ≡ fed (text_of b) n → o ≡ fed (text_of (f.calls ++ b)) m
@@ -95,8 +74,8 @@ module _ (before mid : Option (List ℕ)) (m n : Machine) (f : SoFar before mid 
   unfolding text_of ended_by flatten
   none_left = reads_then [] n false tt (sym (fed-none n)) refl
 
-  pub none_left_all : ReadsAll before false m n
-  none_left_all = all_read before mid (text_of f.calls) false m n f.taken (λ h. cc) f.text
+  pub none_left_known : ReadsKnown before mid false m n
+  none_left_known = record { text = text_of f.calls; fed = f.text; taken = f.taken; end = λ t. absurd (false≢true t) }
 
   -- one call more: what it answered, the block as it left it, and its bytes
   module _ (after : Option (List ℕ)) (got : Result ℕ Error) (block bytes : List ℕ) (most : ReadsAtMost got block) (took : ReadConsumes mid after got block) (room : length block ≡ 65536) (b : bytes ≡ bytes_of (call got block)) where
@@ -115,7 +94,7 @@ module _ (before mid : Option (List ℕ)) (m n : Machine) (f : SoFar before mid 
           text = text_then (c ∷ []) o (was_fed o e);
           taken =
               subst (λ (t : List ℕ). Consumes before after t) (sym (text-append f.calls (c ∷ []) ∙ ap (λ (t : List ℕ). text_of f.calls ++ t) (one-text c)))
-              (consumes_more before mid after (text_of f.calls) (bytes_of c) f.taken (read_given mid after got block took));
+              (Consumes-trans before mid after (text_of f.calls) (bytes_of c) f.taken (read_given mid after got block took));
         }
 
     pub call_last : (ended : Bool) → length bytes ≡ 0 → ended ≡ met_end got → Reads ended m n
@@ -124,10 +103,13 @@ module _ (before mid : Option (List ℕ)) (m n : Machine) (f : SoFar before mid 
         (was_fed n (sym (fed-none n) ∙ ap (λ (t : List ℕ). fed t n) (sym (is-empty bytes h))))
         (e ∙ sym (one_end (call got block)))
 
-    pub call_last_all : (ended : Bool) → length bytes ≡ 0 → ended ≡ met_end got → ReadsAll before ended m n
-    call_last_all ended h e =
-        all_read before after (text_of f.calls) ended m n
-        (subst (λ (t : List ℕ). Consumes before after t) (append-nil (text_of f.calls))
-        (consumes_more before mid after (text_of f.calls) [] f.taken (subst (λ (t : List ℕ). Consumes mid after t) (sym b ∙ is-empty bytes h) (read_given mid after got block took))))
-        (λ t. read_end mid after got block took room (sym e ∙ t))
-        f.text
+    pub call_last_known : (ended : Bool) → length bytes ≡ 0 → ended ≡ met_end got → ReadsKnown before after ended m n
+    call_last_known ended h e =
+        record {
+          text = text_of f.calls;
+          fed = f.text;
+          taken =
+              subst (λ (t : List ℕ). Consumes before after t) (append-nil (text_of f.calls))
+              (Consumes-trans before mid after (text_of f.calls) [] f.taken (subst (λ (t : List ℕ). Consumes mid after t) (sym b ∙ is-empty bytes h) (read_given mid after got block took)));
+          end = λ t. read_end mid after got block took room (sym e ∙ t);
+        }

@@ -6,7 +6,7 @@ ghost use Rattle.tally.specs.Mirror.Lent.{lent_contents, lent_tables};
 ghost use Rattle.feeding.specs.Mirror.Feeding.{machine, fresh};
 ghost use Rattle.input.specs.Answers.{answer_of, met_end};
 ghost use Rattle.input.specs.Calls.{call, bytes_of, Moved};
-ghost use Rattle.input.specs.Mirror.Reads.{Reads, ReadsAll};
+ghost use Rattle.input.specs.Mirror.Reads.{Reads, ReadsKnown};
 
 use feeding::State;
 use std::io;
@@ -82,7 +82,7 @@ pub fn read_all<R: Read>(
     surface_lengths: &mut [u16],
 ) -> Input
     ensures some_calls { let b = lent_contents registers memory kernel register_taint surface_taint memory_taint in let t = lent_tables types starts counts predicate_bits predicate_counts surface_bytes surface_lengths in Reads result.ended (machine line.old fresh b.entry t.entry) (machine line.new result.state b.exit t.exit) }
-    ensures known_bytes { let b = lent_contents registers memory kernel register_taint surface_taint memory_taint in let t = lent_tables types starts counts predicate_bits predicate_counts surface_bytes surface_lengths in ReadsAll (R.remaining reader.old) result.ended (machine line.old fresh b.entry t.entry) (machine line.new result.state b.exit t.exit) }
+    ensures known_bytes { let b = lent_contents registers memory kernel register_taint surface_taint memory_taint in let t = lent_tables types starts counts predicate_bits predicate_counts surface_bytes surface_lengths in ReadsKnown (R.remaining reader.old) (R.remaining reader.new) result.ended (machine line.old fresh b.entry t.entry) (machine line.new result.state b.exit t.exit) }
 {
     let mut block = [0u8; 65536];
     let mut state = feeding::start();

@@ -12,8 +12,8 @@ ghost use Rattle.listing.specs.Mirror.Parts.{is_kernel_in, kernel_in, row_listed
 
 use decoder::{Decoded, Instruction};
 use formats::Base;
-use std::fmt;
 use std::io::{Read, Write};
+use streams::Failure;
 
 // The line of a refusal.
 fn put_refusal(out: &mut [u8], at: usize, number: u64, position: u64) -> usize
@@ -304,22 +304,6 @@ fn list_block<W: Write>(
         used: 0,
         long: false,
         failed: true,
-    }
-}
-
-// Why listing stopped before the input's end.
-#[derive(Clone, Copy)]
-enum Failure {
-    Unread,
-    Unwritten,
-}
-
-impl fmt::Display for Failure {
-    fn fmt<W: fmt::Write>(&self, f: &mut fmt::Formatter<W>) -> fmt::Result {
-        match self {
-            Failure::Unread => write!(f, "standard input cannot be read"),
-            Failure::Unwritten => write!(f, "standard output cannot be written"),
-        }
     }
 }
 

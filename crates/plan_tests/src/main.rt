@@ -7,10 +7,9 @@ mod answers;
 mod numbers;
 mod output;
 
-ghost use Rattle.std.specs.Prelude.{◌≡◌, ◌≤◌, ◌<◌, length, IfOk, OnErr};
+ghost use Rattle.std.specs.Prelude.{◌≤◌, ◌<◌, length};
 
 use std::io;
-use std::io::Read;
 
 fn answer_line(
     rt: &impl Print,
@@ -109,24 +108,8 @@ fn answer_lines(rt: &impl Print, text: &[u8]) -> io::Result<()> {
     Ok(())
 }
 
-// Reads until the buffer is full or the input ends, and tells how many bytes stand at the buffer's start. The error is that of the read that failed.
-fn read_full<R: Read>(reader: &mut R, buffer: &mut [u8]) -> io::Result<usize>
-    ensures ok { IfOk result (λ n. n ≤ length buffer.new) }
-    ensures err { OnErr result (length buffer.new ≡ length buffer.old) }
-{
-    let mut done = 0;
-    while done < buffer.len() {
-        let count = reader.read(&mut buffer[done..])?;
-        if count == 0 {
-            break;
-        }
-        done += count;
-    }
-    Ok(done)
-}
-
 fn main(rt: HostRuntime) -> io::Result<()> {
     let mut text = [0u8; 131072];
-    let count = read_full(&mut rt.stdin(), &mut text)?;
+    let count = streams::read_full(&mut rt.stdin(), &mut text)?;
     answer_lines(&rt, &text[..count])
 }

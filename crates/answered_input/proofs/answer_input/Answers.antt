@@ -4,10 +4,10 @@ use Rattle.std.proofs.Math.ListN.{length-replicate}
 use Rattle.answered_input.proofs.AnswersLaws.{input-answered, input-known}
 use Rattle.answered_input.proofs.answer_input.Goals as goal
 
+pub returns-clause-known_bytes : goal.returns-clause-known_bytes
+returns-clause-known_bytes g c =
+    input-known _ _ _ _ _ _ _ _ _ _ _ (length-replicate {A = ℕ} 16386 0) c.read_all-read.ensures.known_bytes c.finish-state.ensures c.answer_ended.ensures refl
+
 pub returns-clause-some_calls : goal.returns-clause-some_calls
 returns-clause-some_calls g c =
     input-answered _ _ _ _ _ _ _ _ _ (length-replicate {A = ℕ} 16386 0) c.read_all-read.ensures.some_calls c.finish-state.ensures c.answer_ended.ensures refl
-
-pub returns-clause-known_bytes : goal.returns-clause-known_bytes
-returns-clause-known_bytes g c =
-    input-known _ _ _ _ _ _ _ _ _ _ (length-replicate {A = ℕ} 16386 0) c.read_all-read.ensures.known_bytes c.finish-state.ensures c.answer_ended.ensures refl

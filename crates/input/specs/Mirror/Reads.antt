@@ -1,5 +1,6 @@
 -- What reading comes to: a machine that was fed what some calls gave.
-use Rattle.std.specs.Prelude.{◌≡◌, Bool, List, ℕ, Option, IfSome, IsTrue}
+use Rattle.std.specs.Prelude.{◌≡◌, Bool, List, ℕ, Option, IsTrue}
+use Rattle.std.specs.Io.KnownBytes.{Consumes, IsAtEnd}
 use Rattle.feeding.specs.Mirror.Feeding.{Machine, fed}
 use Rattle.input.specs.Calls.{Call, Possible, text_of, ended_by}
 
@@ -10,6 +11,10 @@ pub record Reads (ended : Bool) (first last : Machine) : Type 0 where
   pub text : last ≡ fed (text_of calls) first
   pub end : ended ≡ ended_by calls
 
--- where the bytes that the input has left are known, and it has ended, the machine was fed all of them
-abbrev pub ReadsAll : Option (List ℕ) → Bool → Machine → Machine → Type 0
-ReadsAll known ended first last = IfSome known (λ text. IsTrue ended → last ≡ fed text first)
+-- the same where the bytes that the input has left are known, before and after: it was fed those that the input lost, each once and in their order,
+-- and an input that has ended has none left
+pub record ReadsKnown (before after : Option (List ℕ)) (ended : Bool) (first last : Machine) : Type 0 where
+  pub text : List ℕ
+  pub fed : last ≡ fed text first
+  pub taken : Consumes before after text
+  pub end : IsTrue ended → IsAtEnd after
