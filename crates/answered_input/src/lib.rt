@@ -1,4 +1,5 @@
 // A case file, read and answered: what the programs share that read one.
+
 #![tactic(auto)]
 
 ghost use Rattle.tally.specs.Mirror.Reading.{reading, contents, tables};

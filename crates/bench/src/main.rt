@@ -1,4 +1,5 @@
 // The bench: a case file from standard input, its answer to standard output.
+
 #![tactic(auto)]
 
 ghost use Rattle.std.specs.Prelude.{◌≤◌, length};

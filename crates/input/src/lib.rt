@@ -1,4 +1,5 @@
 // An input, read block by block and fed as a case file.
+
 #![tactic(auto)]
 
 ghost use Rattle.std.specs.Prelude.{◌≡◌, length};

@@ -1,4 +1,5 @@
 // The verdict: a case file from standard input, its answer in one line of text to standard output.
+
 #![tactic(auto)]
 
 ghost use Rattle.std.specs.Prelude.{◌≤◌, length};
