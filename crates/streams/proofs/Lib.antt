@@ -1,1 +1,1 @@
-mod FillLaws
+pub mod FillLaws

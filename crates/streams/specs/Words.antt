@@ -1,4 +1,4 @@
--- What a program says when it stops before its input's end, behind its name.
+-- What a program says where it ends with work undone, behind its name.
 use Rattle.std.specs.Prelude.{List, ℕ, codes}
 use Rattle.streams.specs.declared.Failure.{Failure}
 use Rattle.streams.specs.declared.Failure.TheVariants.{Unread, Unwritten}

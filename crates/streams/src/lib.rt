@@ -8,7 +8,7 @@ ghost use Rattle.std.specs.Io.KnownBytes.{Consumes, IsAtEnd};
 use std::io::Read;
 use std::{fmt, io};
 
-// Why a program stops before the input's end, in the words that it says.
+// Why a program ends with work undone, in the words that it says.
 #[derive(Clone, Copy)]
 pub enum Failure {
     Unread,
