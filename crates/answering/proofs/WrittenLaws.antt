@@ -9,7 +9,7 @@ use Rattle.tally.specs.declared.Case.{Case}
 use Rattle.tally.specs.declared.Verdict.{Verdict}
 use Rattle.tally.specs.Mirror.Reading.{Contents, Reading, reading, tables}
 use Rattle.tally.specs.Mirror.Verdicts.{verdict_of}
-use Rattle.details.specs.declared.Detail.TheVariants as detail
+use Rattle.refusal.specs.declared.Detail.TheVariants as detail
 use Rattle.format_writers.specs.Writing as formats
 use Rattle.format_writers.specs.Writing.{wrote}
 use Rattle.verdict_line.specs.VerdictLine.{verdict_line}

@@ -15,7 +15,7 @@ ghost use Rattle.answering.specs.Mirror.Forms.{outcome_text, refusal_text};
 ghost use Rattle.answering.specs.Mirror.Puts.{Puts};
 ghost use Rattle.answering.specs.Mirror.Bench.{good_output, case_output};
 
-use details::Detail;
+use refusal::Detail;
 use run::Answer;
 use step::Constants;
 use tally::Case;

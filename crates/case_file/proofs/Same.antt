@@ -6,7 +6,7 @@ use Prim.Native.Nat.{ℕ, zero, suc}
 use lib.Dec.{eqb}
 use Rattle.hex_text.specs.Bytes.{hex_bytes}
 use Rattle.line_blocks.specs.LinesOf.{lines_of}
-use Rattle.details.specs.declared.Detail.TheVariants as detail
+use Rattle.refusal.specs.declared.Detail.TheVariants as detail
 use Rattle.output.specs.Output.{answer_line, buffer_lines, output_bytes}
 use Rattle.run.specs.Run.{Outcome, run}
 use Rattle.answering.specs.Outcome.{outcome_output, answer_verdict}

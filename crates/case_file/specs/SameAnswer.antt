@@ -1,6 +1,6 @@
 -- The bench's lines and the verdict tell one answer.
 use Rattle.std.specs.Prelude.{◌≡◌, List, ◌++◌, ℕ}
-use Rattle.details.specs.declared.Detail.{Detail}
+use Rattle.refusal.specs.declared.Detail.{Detail}
 use Rattle.verdict_line.specs.VerdictLine.{verdict_line}
 use Rattle.output.specs.Output.{answer_line}
 

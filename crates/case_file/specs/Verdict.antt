@@ -2,7 +2,7 @@
 use Rattle.std.specs.Prelude.{ℕ, zero, suc, List, [], map}
 use Rattle.hex_text.specs.Bytes.{hex_bytes}
 use Rattle.line_blocks.specs.LinesOf.{lines_of}
-use Rattle.details.specs.declared.Detail.TheVariants as detail
+use Rattle.refusal.specs.declared.Detail.TheVariants as detail
 use Rattle.verdict_line.specs.VerdictLine.{verdict_line}
 use Rattle.run.specs.Run.{run}
 use Rattle.answering.specs.Outcome.{answer_verdict}

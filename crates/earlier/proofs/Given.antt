@@ -6,9 +6,9 @@ use mathlib.Core.List.{List, [], ◌∷◌, map}
 use lib.Dec.{ltb, leb, eqb}
 use lib.ListN.{length}
 use borrow.Author.Tests.{le-leb, eqb-true}
-use Rattle.details.specs.declared.Detail.{Detail}
-use Rattle.details.specs.declared.Detail.TheVariants as detail
-use Rattle.details.specs.Details.{names_operand}
+use Rattle.refusal.specs.declared.Detail.{Detail}
+use Rattle.refusal.specs.declared.Detail.TheVariants as detail
+use Rattle.refusal.specs.Details.{names_operand}
 use Rattle.element_types.specs.Types.{size_of}
 use Rattle.exec_byte.specs.Exec.{exec_size}
 use Rattle.predicate_field.specs.Predicate.{has_predicate}

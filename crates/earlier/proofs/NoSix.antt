@@ -3,7 +3,7 @@ use Prim.Native.Nat.{ℕ}
 use mathlib.Core.Path.{◌≡◌, refl, sym, subst}
 use mathlib.Core.Bool.{Bool, true, false, cond}
 use lib.Dec.{eqb}
-use Rattle.details.specs.Details.{names_operand}
+use Rattle.refusal.specs.Details.{names_operand}
 use Rattle.tables.specs.Tables.{Tables}
 use Rattle.decoder.specs.declared.Instruction.{Instruction}
 use Rattle.plan.specs.Checked.{checked}

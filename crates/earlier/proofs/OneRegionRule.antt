@@ -8,9 +8,9 @@ use lib.Dec.{ltb, leb}
 use lib.ListN.{length}
 use borrow.Author.Tests.{ltb-true, lt-ltb, ne_eqb}
 use Rattle.element_types.specs.Types.{size_of}
-use Rattle.details.specs.declared.Detail.{Detail}
-use Rattle.details.specs.declared.Detail.TheVariants as detail
-use Rattle.details.specs.Details.{names_operand}
+use Rattle.refusal.specs.declared.Detail.{Detail}
+use Rattle.refusal.specs.declared.Detail.TheVariants as detail
+use Rattle.refusal.specs.Details.{names_operand}
 use Rattle.exec_byte.specs.Exec.{exec_size}
 use Rattle.operand_fields.specs.declared.Raw.{Raw}
 use Rattle.operand_fields.specs.declared.Operand.{Operand}

@@ -7,8 +7,8 @@ use native.Mathlib.Omega.{arith}
 use lib.Dec.{ltb, leb, eqb}
 use lib.ListN.{length, get_or}
 use borrow.Author.Tests.{eq-eqb}
-use Rattle.details.specs.declared.Detail.TheVariants as detail
-use Rattle.details.specs.Details.{names_operand}
+use Rattle.refusal.specs.declared.Detail.TheVariants as detail
+use Rattle.refusal.specs.Details.{names_operand}
 use Rattle.predicate_field.specs.Predicate.{has_predicate, predicate_id}
 use Rattle.predicate_table.specs.Predicates.{Predicates, predicate_at}
 use Rattle.tables.specs.Tables.{Tables}

@@ -1,6 +1,6 @@
 -- The numbers that a run gives: 6 is none of them (document 02, request 2: "6 becomes 20 to 24", and 25), and 17 came with request 3.
 use Rattle.std.specs.Prelude.{ℕ, Bool, ◌&&◌, ◌||◌, leb, eqb}
-use Rattle.details.specs.Details.{names_operand}
+use Rattle.refusal.specs.Details.{names_operand}
 
 -- before predicates had counts
 unfoldable pub is_given_uncounted : ℕ → Bool

@@ -2,7 +2,7 @@
 -- given back": "A run then tests 8; predicate 5; surface 5; each operand in order 5, 4 (type), 6, 7; 9". The tests of exec byte and pred word are
 -- those of now, 17 among them, and registers have the size of now.
 use Rattle.std.specs.Prelude.{ℕ, zero, suc, cond, not, List, [], ◌∷◌, map, ltb, length}
-use Rattle.details.specs.Details.{names_operand}
+use Rattle.refusal.specs.Details.{names_operand}
 use Rattle.element_types.specs.Types.{size_of}
 use Rattle.exec_byte.specs.Exec.{exec_size}
 use Rattle.operand_fields.specs.declared.General.{General}

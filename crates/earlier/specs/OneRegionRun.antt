@@ -1,6 +1,6 @@
 -- The run with document 01's one rule of regions in the place of 20 to 25, whose numbers tell nothing.
 use Rattle.std.specs.Prelude.{ℕ, zero, suc, cond, length}
-use Rattle.details.specs.declared.Detail.TheVariants as detail
+use Rattle.refusal.specs.declared.Detail.TheVariants as detail
 use Rattle.cells.specs.Effect.{Effect, refused}
 use Rattle.reader.specs.Reply.{on_reply}
 use Rattle.decoder.specs.declared.Instruction.{Instruction}

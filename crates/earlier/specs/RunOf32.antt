@@ -3,7 +3,7 @@ use Rattle.std.specs.Prelude.{ℕ, ◌+◌, ◌*◌, ◌-◌, ◌/◌, ◌%◌, 
 use Rattle.element_types.specs.Types.{UD, UQ, size_of, is_listed}
 use Rattle.bits.specs.Below.{every_below}
 use Rattle.exec_byte.specs.Exec.{exec_size}
-use Rattle.details.specs.declared.Detail.TheVariants as detail
+use Rattle.refusal.specs.declared.Detail.TheVariants as detail
 use Rattle.cells.specs.Buffer.{Buffer}
 use Rattle.cells.specs.Writes.{copy_writes}
 use Rattle.cells.specs.Over.{each, some}

@@ -1,7 +1,7 @@
 -- The run before predicates had counts (document 02, request 3): no definition here asks for one. Of a predicate its bits were known, and its only
 -- test was 5. Document 01, "The numbers given back": "A run then tests 8; predicate 5; surface 5; ..". Registers have the size of now.
 use Rattle.std.specs.Prelude.{ℕ, Bool, cond, ◌&&◌, List, ltb, leb, length, get_or}
-use Rattle.details.specs.declared.Detail.TheVariants as detail
+use Rattle.refusal.specs.declared.Detail.TheVariants as detail
 use Rattle.cells.specs.Effect.{refused}
 use Rattle.reader.specs.Reply.{on_reply}
 use Rattle.predicate_field.specs.Predicate.{has_predicate, predicate_id}

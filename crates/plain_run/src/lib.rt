@@ -11,7 +11,7 @@ ghost use Rattle.step.specs.State.{setup};
 ghost use Rattle.plain_run.specs.PlainRun.{plain_run, plain_outcome, without_marks};
 ghost use Rattle.plain_run.specs.Mirror.TooLong.{too_long};
 
-use details::Detail;
+use refusal::Detail;
 use run::Answer;
 use step::Constants;
 

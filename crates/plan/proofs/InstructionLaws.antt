@@ -10,8 +10,8 @@ use Rattle.element_types.specs.Types.{UD, UQ}
 use Rattle.exec_byte.specs.Exec.{exec_size}
 use Rattle.tables.specs.Tables.{Tables}
 use Rattle.field_groups.specs.declared.Control.{Control}
-use Rattle.details.specs.declared.Detail.{Detail}
-use Rattle.details.specs.declared.Detail.TheVariants as detail
+use Rattle.refusal.specs.declared.Detail.{Detail}
+use Rattle.refusal.specs.declared.Detail.TheVariants as detail
 use Rattle.decoder.specs.declared.Shl.{Shl}
 use Rattle.decoder.specs.declared.Gather.{Gather}
 use Rattle.decoder.specs.declared.Scatter.{Scatter}

@@ -4,7 +4,7 @@ use mathlib.Core.Path.{◌≡◌, refl, sym, ap, ◌∙◌}
 use mathlib.Core.Bool.{Bool, true, false, cond, not, false≢true}
 use lib.Dec.{ltb}
 use Rattle.element_types.specs.Types.{size_of}
-use Rattle.details.specs.Details.{names_operand}
+use Rattle.refusal.specs.Details.{names_operand}
 use Rattle.exec_byte.specs.Exec.{exec_size}
 use Rattle.tables.specs.Variables.{Variables}
 use Rattle.operand_fields.specs.declared.General.{General}

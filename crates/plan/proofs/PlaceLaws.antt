@@ -7,8 +7,8 @@ use native.Mathlib.Omega.{arith}
 use lib.Dec.{ltb, leb}
 use lib.ListN.{length}
 use borrow.Author.Tests.{ltb-false}
-use Rattle.details.specs.declared.Detail.TheVariants as detail
-use Rattle.details.specs.Details.{names_operand, operand_detail}
+use Rattle.refusal.specs.declared.Detail.TheVariants as detail
+use Rattle.refusal.specs.Details.{names_operand, operand_detail}
 use Rattle.tables.specs.Tables.{Tables}
 use Rattle.tables.specs.Variables.{Variables}
 use Rattle.predicate_table.specs.declared.PredicateRecord.{PredicateRecord}

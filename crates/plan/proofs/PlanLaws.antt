@@ -13,7 +13,7 @@ use Rattle.lengths.specs.declared.Lengths.{Lengths}
 use Rattle.tables.specs.Tables.{Tables, tables_good}
 use Rattle.tables.proofs.Laws.{placed, surface-inside}
 use Rattle.exec_byte.specs.Exec.{exec_size, exec_offset}
-use Rattle.details.specs.declared.Detail.TheVariants as detail
+use Rattle.refusal.specs.declared.Detail.TheVariants as detail
 use Rattle.decoder.specs.declared.Shl.{Shl}
 use Rattle.decoder.specs.declared.Gather.{Gather}
 use Rattle.decoder.specs.declared.Scatter.{Scatter}

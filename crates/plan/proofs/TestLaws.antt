@@ -4,7 +4,7 @@ use Prim.Native.Nat.{ℕ}
 use native.Mathlib.Omega.{arith}
 use lib.Dec.{ltb}
 use borrow.Author.Tests.{ltb-true, ltb-false}
-use Rattle.details.specs.declared.Detail.{Detail}
+use Rattle.refusal.specs.declared.Detail.{Detail}
 use Rattle.regions.proofs.ReachLaws.{cond_either}
 use Rattle.plan.specs.declared.Plan.{Plan}
 use Rattle.plan.specs.Plans.{refused_plan, tested}

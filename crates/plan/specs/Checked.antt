@@ -7,7 +7,7 @@ use Rattle.std.specs.Prelude.{ℕ, cond, not, List, [], ◌∷◌, ltb, length}
 use Rattle.element_types.specs.Types.{UD, UQ}
 use Rattle.tables.specs.Tables.{Tables}
 use Rattle.surface_table.specs.Surfaces.{Surfaces, surface_length, surface_start}
-use Rattle.details.specs.declared.Detail.TheVariants as detail
+use Rattle.refusal.specs.declared.Detail.TheVariants as detail
 use Rattle.decoder.specs.declared.Shl.{Shl}
 use Rattle.decoder.specs.declared.Gather.{Gather}
 use Rattle.decoder.specs.declared.Scatter.{Scatter}

@@ -1,8 +1,8 @@
 -- Which operand a refusal names, and by which rule. Document 02, request 2: "name the operand by its place in field order, from 1, surfaces not
 -- counted".
 use Rattle.std.specs.Prelude.{ℕ, suc, ◌≡◌, true, false, List, [], ◌∷◌}
-use Rattle.details.specs.declared.Detail.TheVariants as detail
-use Rattle.details.specs.Details.{names_operand}
+use Rattle.refusal.specs.declared.Detail.TheVariants as detail
+use Rattle.refusal.specs.Details.{names_operand}
 use Rattle.element_types.specs.Types.{UD, UQ}
 use Rattle.exec_byte.specs.Exec.{exec_size}
 use Rattle.tables.specs.Tables.{Tables}

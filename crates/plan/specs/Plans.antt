@@ -1,9 +1,9 @@
 -- What a run needs of an accepted instruction, and what stands for a refused one. A plan has two sources, left and right, and a payload:
 -- SHL's Src0, Src1 and Dst; a gather's Offset, Element_offset and Dst; a scatter's Address, Element_offset and Src.
 use Rattle.std.specs.Prelude.{ℕ, suc, cond, false, List, [], ◌∷◌, ltb, replicate}
-use Rattle.details.specs.declared.Detail.{Detail}
-use Rattle.details.specs.declared.Detail.TheVariants as detail
-use Rattle.details.specs.Details.{operand_detail}
+use Rattle.refusal.specs.declared.Detail.{Detail}
+use Rattle.refusal.specs.declared.Detail.TheVariants as detail
+use Rattle.refusal.specs.Details.{operand_detail}
 use Rattle.field_groups.specs.declared.Control.{Control}
 use Rattle.operands.specs.declared.Elements.{Elements}
 use Rattle.operands.specs.declared.Located.{Located}

@@ -3,7 +3,7 @@
 #![tactic(auto)]
 
 ghost use Rattle.std.specs.Prelude.{◌≡◌};
-ghost use Rattle.details.specs.Details.{operand_detail};
+ghost use Rattle.refusal.specs.Details.{operand_detail};
 ghost use Rattle.tables.specs.Tables.{tables};
 ghost use Rattle.tables.specs.Borrowed.{variable_table};
 ghost use Rattle.predicate_table.specs.Borrowed.{predicate_table};
@@ -13,7 +13,7 @@ ghost use Rattle.plan.specs.Plans.{refused_plan, shl_plan, gather_plan, scatter_
 ghost use Rattle.plan.specs.Checked.{checked_shl, checked_gather_operands, surface_part, checked_gather, checked_scatter, checked_send, checked};
 
 use decoder::{Gather, Instruction, RawSend, Scatter, Shl};
-use details::Detail;
+use refusal::Detail;
 use field_groups::Control;
 use operands::{Elements, TypeRule};
 use region_rules::Role;
@@ -90,7 +90,7 @@ fn refused(number: u8, detail: Detail) -> Plan
 fn refused_at(number: u8, place: u8) -> Plan
     ensures { result ≡ refused_plan number (operand_detail number place) }
 {
-    refused(number, details::of_operand(number, place))
+    refused(number, refusal::of_operand(number, place))
 }
 
 fn control_of(instruction: Instruction) -> Control

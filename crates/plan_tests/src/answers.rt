@@ -4,7 +4,7 @@ ghost use Rattle.std.specs.Prelude.{◌≤◌};
 use crate::{numbers, output};
 use channels::Lanes;
 use decoder::{Decoded, Instruction};
-use details::Detail;
+use refusal::Detail;
 use lengths::{Lengths, TaintLengths};
 use operands::Elements;
 use plan::Plan;

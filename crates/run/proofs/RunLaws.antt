@@ -6,7 +6,7 @@ use native.Mathlib.Numerals.{add-one}
 use lib.ListN.{length}
 use borrow.Author.Tests.{lt-ltb, le-ltb}
 use Rattle.little_endian.specs.LittleEndian.{Bytes}
-use Rattle.details.specs.declared.Detail.{Detail}
+use Rattle.refusal.specs.declared.Detail.{Detail}
 use Rattle.step.specs.declared.Progress.{Progress}
 use Rattle.step.specs.State.{Setup, State, lengths_of}
 use Rattle.step.specs.Step.{step_at}

@@ -6,7 +6,7 @@ use lib.ListN.{get_or, drop}
 use Prim.Native.Nat.{ℕ}
 use Rattle.tables.specs.Tables.{tables_good}
 use Rattle.step.specs.State.{Setup, State, lengths_of}
-use Rattle.details.proofs.OperandLaws.{values-tell}
+use Rattle.refusal.proofs.OperandLaws.{values-tell}
 use Rattle.run.specs.declared.Answer.{Answer}
 use Rattle.run.specs.Run.{numbers_of, stopped, run_through, run}
 

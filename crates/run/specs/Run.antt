@@ -1,9 +1,9 @@
 -- A run. Document 01, "The numbers given back": "A run answers number, instructions completed and byte position of the refused instruction
 -- (or the end). 13 answers 0 and 0. Earlier instructions stand." With the number goes what it tells (document 02, request 2).
 use Rattle.std.specs.Prelude.{ℕ, zero, suc, cond, List, ◌∷◌, length, ltb}
-use Rattle.details.specs.declared.Detail.{Detail}
-use Rattle.details.specs.declared.Detail.TheVariants as detail
-use Rattle.details.specs.Details.{values_of}
+use Rattle.refusal.specs.declared.Detail.{Detail}
+use Rattle.refusal.specs.declared.Detail.TheVariants as detail
+use Rattle.refusal.specs.Details.{values_of}
 use Rattle.tables.specs.Tables.{tables_good}
 use Rattle.step.specs.State.{Setup, State, lengths_of}
 use Rattle.step.specs.Step.{Stepped, step_at, after}

@@ -11,7 +11,7 @@ ghost use Rattle.step.specs.State.{setup};
 ghost use Rattle.step.specs.Borrowed.{lent};
 ghost use Rattle.run.specs.Run.{outcome, run_through, run};
 
-use details::Detail;
+use refusal::Detail;
 use lengths::{Lengths, TaintLengths};
 use step::Constants;
 

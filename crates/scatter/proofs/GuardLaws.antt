@@ -1,7 +1,7 @@
 -- A scatter of a plan that does not fit, and of one that fits: the effect from the room is the effect of `Scatter`.
 use Rattle.std.proofs.Common.{◌≡◌, ℕ, ◌≤◌, Bool, true, false, not, List, sym, ap, ◌∙◌}
-use Rattle.details.specs.declared.Detail.TheVariants as detail
-use Rattle.details.specs.declared.Status.{Status}
+use Rattle.refusal.specs.declared.Detail.TheVariants as detail
+use Rattle.refusal.specs.declared.Status.{Status}
 use Rattle.cells.specs.Buffer.{Buffer}
 use Rattle.cells.specs.Effect.{refused, MemoryDone}
 use Rattle.cells.proofs.EffectLaws.{unless-refused, unless-passed}

@@ -1,9 +1,9 @@
 -- "10 over all lanes; 11 over all; 12 over all", then the writes: what each test's answer leaves of the effect from the room.
 use Rattle.std.proofs.Common.{◌≡◌, ℕ, Bool, true, false, List, [], sym, refl, ap, ◌∙◌}
-use Rattle.details.specs.declared.Detail.{Detail}
-use Rattle.details.specs.declared.Detail.TheVariants as detail
-use Rattle.details.specs.declared.Status.{Status}
-use Rattle.details.specs.Details.{is_some}
+use Rattle.refusal.specs.declared.Detail.{Detail}
+use Rattle.refusal.specs.declared.Detail.TheVariants as detail
+use Rattle.refusal.specs.declared.Status.{Status}
+use Rattle.refusal.specs.Details.{is_some}
 use Rattle.cells.specs.Buffer.{Buffer}
 use Rattle.cells.specs.Writes.{written_all}
 use Rattle.cells.specs.Effect.{Effect, refused, writing, MemoryDone}

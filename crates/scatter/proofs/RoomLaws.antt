@@ -1,6 +1,6 @@
 -- The effect worked out from the room, and from each lane's sum, is the effect of `Scatter`, whose sources stand in the registers.
 use Rattle.std.proofs.Common.{◌≡◌, ℕ, ◌+◌, ◌-◌, ◌*◌, ◌%◌, ◌^◌, ◌<◌, ◌≤◌, Bool, true, false, ◌&&◌, leb, List, get_or, sym, ap, ◌∙◌, ap₂, arith, leb-true}
-use Rattle.details.specs.declared.Detail.{Detail}
+use Rattle.refusal.specs.declared.Detail.{Detail}
 use Rattle.cells.specs.Buffer.{Buffer}
 use Rattle.cells.specs.Writes.{copy_writes}
 use Rattle.cells.specs.Over.{each, some, first_pair}

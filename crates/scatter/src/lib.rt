@@ -9,7 +9,7 @@ ghost use Rattle.scatter.specs.Mirror.Guarded.{scatter_fits, window, scatter_gua
 ghost use Rattle.scatter.specs.Mirror.FromRoom.{layout_for, pairs_of, sources_staged, lane_sum, WorkedOut, room_effect};
 
 use channels::Lanes;
-use details::{Detail, Status};
+use refusal::{Detail, Status};
 use operands::Elements;
 use plan::Plan;
 use scatter_pairs::{Pairs, Rule};
@@ -87,7 +87,7 @@ fn from_room(
         };
     }
     let misaligned = scatter_pairs::first_breaking(Rule::Aligned, pairs, on, sums);
-    if details::is_some(misaligned) {
+    if refusal::is_some(misaligned) {
         return Status {
             number: 11,
             detail: misaligned,
@@ -95,7 +95,7 @@ fn from_room(
     }
     let inside = Rule::Inside(base, memory.len() as u64);
     let outside = scatter_pairs::first_breaking(inside, pairs, on, sums);
-    if details::is_some(outside) {
+    if refusal::is_some(outside) {
         return Status {
             number: 12,
             detail: outside,

@@ -5,9 +5,9 @@ use mathlib.Core.Logic.{⊎_elim}
 use mathlib.Core.Bool.{Bool, true, false}
 use mathlib.Core.List.{List, []}
 use native.Mathlib.Omega.{arith}
-use Rattle.details.specs.declared.Detail.{Detail}
-use Rattle.details.specs.declared.Detail.TheVariants as detail
-use Rattle.details.specs.Details.{is_some}
+use Rattle.refusal.specs.declared.Detail.{Detail}
+use Rattle.refusal.specs.declared.Detail.TheVariants as detail
+use Rattle.refusal.specs.Details.{is_some}
 use Rattle.cells.specs.Buffer.{Buffer}
 use Rattle.cells.specs.Over.{among, each, some, first_pair}
 use Rattle.cells.specs.Effect.{Effect, unless, unless_found, writing}

@@ -3,8 +3,8 @@ use mathlib.Core.Path.{◌≡◌, refl, ap}
 use mathlib.Core.Bool.{Bool, true, false, cond}
 use mathlib.Core.List.{List}
 use Prim.Native.Nat.{ℕ}
-use Rattle.details.specs.declared.Detail.{Detail}
-use Rattle.details.specs.Details.{is_some}
+use Rattle.refusal.specs.declared.Detail.{Detail}
+use Rattle.refusal.specs.Details.{is_some}
 use Rattle.cells.specs.Buffer.{Buffer}
 use Rattle.cells.specs.Over.{some}
 use Rattle.cells.specs.Effect.{Effect, unless}

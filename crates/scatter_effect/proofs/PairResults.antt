@@ -10,7 +10,7 @@ use lib.Dec.{leb}
 use lib.ListN.{length, get_or}
 use borrow.Author.Tests.{leb-true, not-false}
 use Rattle.scatter_effect.specs.Results.{EnabledPair, Later, PairsHold, place}
-use Rattle.details.specs.Details.{is_some}
+use Rattle.refusal.specs.Details.{is_some}
 use Rattle.cells.specs.Buffer.{Buffer, is_tainted, mark_of}
 use Rattle.cells.specs.Writes.{Write, written_all}
 use Rattle.cells.specs.Over.{among, each, some}

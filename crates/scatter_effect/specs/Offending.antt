@@ -1,8 +1,8 @@
 -- Which pair a scatter's refusal names, said of all enabled pairs. Document 02, request 2: "11 and 12 now carry channel and lane of the first
 -- offending pair, in document 01's order"; document 01: "c outer, i inner", "Only enabled pairs are tested".
 use Rattle.std.specs.Prelude.{ℕ, ◌≡◌, Bool, true, false, List}
-use Rattle.details.specs.declared.Detail.{Detail}
-use Rattle.details.specs.declared.Detail.TheVariants as detail
+use Rattle.refusal.specs.declared.Detail.{Detail}
+use Rattle.refusal.specs.declared.Detail.TheVariants as detail
 use Rattle.plan.specs.declared.Plan.{Plan}
 use Rattle.scatter_effect.specs.Scatter.{Window, target, misaligned, outside}
 use Rattle.scatter_effect.specs.Results.{EnabledPair, Later}

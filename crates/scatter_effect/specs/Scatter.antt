@@ -1,7 +1,7 @@
 -- What SVM SCATTER4_SCALED does. Document 01, "Which channels, which results" and "How marks move".
 use Rattle.std.specs.Prelude.{ℕ, ◌+◌, ◌*◌, ◌-◌, ◌%◌, ◌^◌, Bool, not, ◌&&◌, List, [], get_or, leb, eqb}
-use Rattle.details.specs.declared.Detail.{Detail}
-use Rattle.details.specs.declared.Detail.TheVariants as detail
+use Rattle.refusal.specs.declared.Detail.{Detail}
+use Rattle.refusal.specs.declared.Detail.TheVariants as detail
 use Rattle.cells.specs.Buffer.{Buffer}
 use Rattle.cells.specs.Writes.{Write, copy_writes}
 use Rattle.cells.specs.Over.{among, each, some, first_pair}

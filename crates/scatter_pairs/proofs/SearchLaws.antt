@@ -1,6 +1,6 @@
 -- Where the searches over lanes and channels begin and where they end, in the words of `Search`.
 use Rattle.std.proofs.Common.{◌≡◌, ℕ, ◌+◌, ◌-◌, ◌<◌, ◌≤◌, Bool, true, false, ◌&&◌, List, get_or}
-use Rattle.details.specs.declared.Detail.TheVariants as detail
+use Rattle.refusal.specs.declared.Detail.TheVariants as detail
 use Rattle.cells.specs.Over.{among_from, some, first_lane, first_pair}
 use Rattle.cells.proofs.SearchLaws.{some-begun}
 use Rattle.cells.proofs.AmongLaws.{among-begun}

@@ -8,7 +8,7 @@ ghost use Rattle.scatter_effect.specs.Scatter.{outside};
 ghost use Rattle.scatter_pairs.specs.Mirror.Rules.{breaks};
 ghost use Rattle.scatter_pairs.specs.Mirror.Search.{target_from, some_tainted, first_breaking};
 
-use details::Detail;
+use refusal::Detail;
 use staging::Layout;
 
 // What every target address has to meet. The window is given by its base and its length.

@@ -2,7 +2,7 @@
 use mathlib.Core.Path.{◌≡◌, refl}
 use mathlib.Core.List.{List, []}
 use Prim.Native.Nat.{ℕ}
-use Rattle.details.specs.declared.Detail.TheVariants as detail
+use Rattle.refusal.specs.declared.Detail.TheVariants as detail
 use Rattle.cells.specs.Buffer.{Buffer}
 use Rattle.cells.proofs.RefusalLaws.{WritesOnlyWhenDone, done-writes}
 use Rattle.plan.specs.declared.Plan.{Plan}

@@ -1,7 +1,7 @@
 -- Two steps that go the same way: the same number, which tells the same, and next position, and related states after them.
 use mathlib.Core.Path.{◌≡◌, refl}
 use Prim.Native.Nat.{ℕ}
-use Rattle.details.specs.declared.Detail.TheVariants as detail
+use Rattle.refusal.specs.declared.Detail.TheVariants as detail
 use Rattle.cells.specs.Effect.{Effect, refused}
 use Rattle.cells.proofs.Related.{Related, none, EffectsAlike, related-after}
 use Rattle.step.specs.State.{State}

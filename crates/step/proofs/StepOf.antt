@@ -1,6 +1,6 @@
 -- A step, by what stands decoded at its position: a refusal, or the effect of the instruction's plan.
 use Prim.Native.Nat.{ℕ}
-use Rattle.details.specs.declared.Detail.TheVariants as detail
+use Rattle.refusal.specs.declared.Detail.TheVariants as detail
 use Rattle.cells.specs.Effect.{Effect, refused}
 use Rattle.reader.specs.Reply.{Reply, Read, on_reply}
 use Rattle.decoder.specs.declared.Instruction.{Instruction}

@@ -1,6 +1,6 @@
 -- One step: decode the instruction at a position, test it, and work out its effect.
 use Rattle.std.specs.Prelude.{ℕ, not, length, eqb}
-use Rattle.details.specs.declared.Detail.TheVariants as detail
+use Rattle.refusal.specs.declared.Detail.TheVariants as detail
 use Rattle.cells.specs.Writes.{written_all}
 use Rattle.cells.specs.Effect.{Effect, refused, unless}
 use Rattle.reader.specs.Reply.{on_reply}

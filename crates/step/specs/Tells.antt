@@ -1,8 +1,8 @@
 -- What the number of an instruction tells. Document 02, request 2: 20 to 25 "name the operand", 11 and 12 carry the first offending pair, and no
 -- other number tells anything.
 use Rattle.std.specs.Prelude.{◌≡◌, ℕ, suc}
-use Rattle.details.specs.declared.Detail.{Detail}
-use Rattle.details.specs.declared.Detail.TheVariants as detail
+use Rattle.refusal.specs.declared.Detail.{Detail}
+use Rattle.refusal.specs.declared.Detail.TheVariants as detail
 use Rattle.reader.specs.Reply.{refused, got}
 use Rattle.decoder.specs.declared.Instruction.{Instruction}
 use Rattle.decoder.specs.Decoding.{instruction_at}

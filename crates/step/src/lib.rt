@@ -13,7 +13,7 @@ ghost use Rattle.step.specs.Step.{plan_effect, step_at, after};
 ghost use Rattle.step.specs.Mirror.Fits.{Fits};
 
 use decoder::Decoded;
-use details::{Detail, Status};
+use refusal::{Detail, Status};
 use plan::{Operation, Plan};
 
 // What stays the same in a run beside the borrowed slices: the memory window's base, the execution mask (EM), and the bytes of a register.

@@ -4,7 +4,7 @@ use mathlib.Core.List.{[], ◌∷◌, ◌++◌}
 use Rattle.hex_text.specs.Digits.{character_of}
 use Rattle.formats.specs.Text.{text}
 use Rattle.formats.specs.Numerals.{digits}
-use Rattle.details.specs.declared.Detail.TheVariants as detail
+use Rattle.refusal.specs.declared.Detail.TheVariants as detail
 use Rattle.verdict_line.specs.VerdictLine.{detail_text, verdict_line}
 
 written-lines :

@@ -14,8 +14,8 @@ use Rattle.format_writers.specs.Writing.{wrote, written}
 use Rattle.formats.proofs.Tests.{both}
 use Rattle.formats.proofs.ShortLaws.{short-number, digits-most}
 use Rattle.format_writers.proofs.WritingLaws.{wrote_then}
-use Rattle.details.specs.declared.Detail.{Detail}
-use Rattle.details.specs.declared.Detail.TheVariants as detail
+use Rattle.refusal.specs.declared.Detail.{Detail}
+use Rattle.refusal.specs.declared.Detail.TheVariants as detail
 use Rattle.verdict_line.specs.VerdictLine.{detail_text, verdict_line}
 
 digits-byte : (v : ℕ) → v < 256 → length (digits_of 10 v) ≤ 3

@@ -3,8 +3,8 @@
 use Rattle.std.specs.Prelude.{ℕ, List, [], ◌∷◌, ◌++◌}
 use Rattle.formats.specs.Text.{text}
 use Rattle.formats.specs.Numerals.{digits_of}
-use Rattle.details.specs.declared.Detail.{Detail}
-use Rattle.details.specs.declared.Detail.TheVariants as detail
+use Rattle.refusal.specs.declared.Detail.{Detail}
+use Rattle.refusal.specs.declared.Detail.TheVariants as detail
 
 -- ` operand PLACE`, ` channel CHANNEL lane LANE`, or nothing
 unfoldable pub detail_text : Detail → List ℕ

@@ -6,7 +6,7 @@ ghost use Rattle.std.specs.Prelude.{◌≡◌, ◌≤◌, length};
 ghost use Rattle.format_writers.specs.Writing.{wrote, written};
 ghost use Rattle.verdict_line.specs.VerdictLine.{detail_text, verdict_line};
 
-use details::Detail;
+use refusal::Detail;
 use formats::Base;
 
 // What the answer tells beside its number, at `at` and after, and the place past it.

@@ -1,8 +1,8 @@
 -- What a whole run does, said of every one of its instructions. Demand 2: an instruction is refused exactly when the papers' numbers say so;
 -- every accepted one leaves each enabled channel the defined result, and no other byte changes.
 use Rattle.std.specs.Prelude.{◌≡◌, true, false, ℕ, suc, ◌<◌, length}
-use Rattle.details.specs.declared.Detail.{Detail}
-use Rattle.details.specs.declared.Detail.TheVariants as detail
+use Rattle.refusal.specs.declared.Detail.{Detail}
+use Rattle.refusal.specs.declared.Detail.TheVariants as detail
 use Rattle.tables.specs.Tables.{tables_good}
 use Rattle.step.specs.State.{Setup, State, lengths_of}
 use Rattle.step.specs.FirstFailing.{first_failing}

@@ -32,7 +32,7 @@ use Rattle.plan.specs.Control.{control_of}
 use Rattle.payloads.specs.Needed.{elements_needed, enabled_below, channel_stride, scatter_needed, registers_needed, block_bytes}
 use Rattle.plan.specs.Plans.{refused_plan, tested, shl_plan, gather_plan, scatter_plan}
 use Rattle.cells.specs.Buffer.{is_tainted, mark_of, any_tainted}
-use Rattle.details.specs.Details.{is_some, names_operand, operand_detail}
+use Rattle.refusal.specs.Details.{is_some, names_operand, operand_detail}
 use Rattle.cells.specs.Effect.{unless}
 use Rattle.cells.specs.Over.{among_from, among, each, some, first_lane, first_pair}
 use Rattle.cells.specs.Writes.{written_all, number_writes, copy_writes}

@@ -1,6 +1,6 @@
 -- What is written of an answer, in each of the two forms.
 use Rattle.std.specs.Prelude.{ℕ, List}
-use Rattle.details.specs.declared.Detail.TheVariants as detail
+use Rattle.refusal.specs.declared.Detail.TheVariants as detail
 use Rattle.verdict_line.specs.VerdictLine.{verdict_line}
 use Rattle.output.specs.Output.{answer_line}
 use Rattle.run.specs.Run.{Outcome}

@@ -2,7 +2,7 @@
 -- what the guard asks: it passes (`sound-fits` in `proofs/SoundLaws.antt`; `planned-fits` of the crate step).
 use Rattle.std.specs.Prelude.{ℕ, Bool, not, ◌&&◌}
 use Rattle.cells.specs.Buffer.{Buffer}
-use Rattle.details.specs.declared.Detail.TheVariants as detail
+use Rattle.refusal.specs.declared.Detail.TheVariants as detail
 use Rattle.cells.specs.Effect.{Effect, unless}
 use Rattle.exec_byte.specs.Exec.{exec_size}
 use Rattle.plan.specs.declared.Plan.{Plan}

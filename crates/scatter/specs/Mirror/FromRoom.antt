@@ -1,7 +1,7 @@
 -- A scatter whose sources stand in the room, and whose lanes were each worked out once: whether a lane is on, and the sum of its address and
 -- its element offset. `proofs/RoomLaws.antt` shows that it is the scatter of `Scatter`, whose sources stand in the registers.
 use Rattle.std.specs.Prelude.{◌≡◌, ℕ, ◌+◌, ◌%◌, ◌^◌, ◌<◌, Bool, false, List, [], slice_index, slice_index_or}
-use Rattle.details.specs.declared.Detail.TheVariants as detail
+use Rattle.refusal.specs.declared.Detail.TheVariants as detail
 use Rattle.cells.specs.Buffer.{Buffer}
 use Rattle.cells.specs.Effect.{Effect, unless, unless_found, writing}
 use Rattle.exec_byte.specs.Exec.{exec_size}

@@ -2,7 +2,7 @@
 -- scatter passes (`sound-fits` in `proofs/SoundLaws.antt`; `planned-fits` of the crate step). A plan whose elements have no place in the room is
 -- refused with 7 and writes nothing.
 use Rattle.std.specs.Prelude.{ℕ, Bool, not, ◌&&◌, List, length, nat_le}
-use Rattle.details.specs.declared.Detail.TheVariants as detail
+use Rattle.refusal.specs.declared.Detail.TheVariants as detail
 use Rattle.cells.specs.Buffer.{Buffer}
 use Rattle.cells.specs.Effect.{Effect, unless}
 use Rattle.exec_byte.specs.Exec.{exec_size}

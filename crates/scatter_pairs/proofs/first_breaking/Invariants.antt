@@ -1,5 +1,5 @@
 use Rattle.std.proofs.Common.{◌≡◌, ◌-◌, ◌≤◌}
-use Rattle.details.specs.declared.Detail.TheVariants as detail
+use Rattle.refusal.specs.declared.Detail.TheVariants as detail
 use Rattle.scatter_pairs.proofs.SearchLaws.{ChannelsLeft, LanesLeft}
 use Rattle.scatter_pairs.proofs.first_breaking.Given as goal
 

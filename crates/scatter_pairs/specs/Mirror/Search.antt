@@ -1,7 +1,7 @@
 -- What is asked of the pairs of a scatter whose sources stand in the room, and whose lanes were each worked out once: whether a lane is on, and
 -- the sum of its address and its element offset.
 use Rattle.std.specs.Prelude.{ℕ, ◌+◌, ◌*◌, ◌%◌, ◌^◌, Bool, false, List, slice_index, slice_index_or}
-use Rattle.details.specs.declared.Detail.{Detail}
+use Rattle.refusal.specs.declared.Detail.{Detail}
 use Rattle.cells.specs.Over.{among, some, first_pair}
 use Rattle.bits.specs.Bits.{bit}
 use Rattle.staging.specs.declared.Layout.{Layout}

@@ -1,8 +1,8 @@
 -- What an answer tells beside its number. Document 02, request 2: "name the operand by its place in field order, from 1, surfaces not counted",
 -- and "11 and 12 now carry channel and lane of the first offending pair".
 use Rattle.std.specs.Prelude.{ℕ, Bool, true, false, cond, ◌&&◌, List, [], ◌∷◌, leb}
-use Rattle.details.specs.declared.Detail.{Detail}
-use Rattle.details.specs.declared.Detail.TheVariants as detail
+use Rattle.refusal.specs.declared.Detail.{Detail}
+use Rattle.refusal.specs.declared.Detail.TheVariants as detail
 
 -- the values that each case stands for: the operand's place, or the pair's channel and lane
 unfoldable pub values_of : Detail → List ℕ

@@ -1,6 +1,6 @@
--- `details::of_operand` meets its contract.
-use Rattle.details.proofs.OperandLaws.{operand-named, operand-unnamed}
-use Rattle.details.proofs.of_operand.Goals as goal
+-- `refusal::of_operand` meets its contract.
+use Rattle.refusal.proofs.OperandLaws.{operand-named, operand-unnamed}
+use Rattle.refusal.proofs.of_operand.Goals as goal
 
 pub returns-then-number : goal.returns-then-number
 returns-then-number c = operand-named _ _ c.if-number.true

@@ -5,9 +5,9 @@ use mathlib.Core.Bool.{true, false, ◌&&◌}
 use mathlib.Core.List.{List}
 use lib.Dec.{leb}
 use lib.ListN.{get_or}
-use Rattle.details.specs.declared.Detail.{Detail}
-use Rattle.details.specs.declared.Detail.TheVariants as detail
-use Rattle.details.specs.Details.{values_of, names_operand, operand_detail}
+use Rattle.refusal.specs.declared.Detail.{Detail}
+use Rattle.refusal.specs.declared.Detail.TheVariants as detail
+use Rattle.refusal.specs.Details.{values_of, names_operand, operand_detail}
 
 pub operand-named : (number place : ℕ) → (leb 20 number && leb number 25) ≡ true → detail.Operand place ≡ operand_detail number place
 unfolding operand_detail names_operand
@@ -17,7 +17,7 @@ pub operand-unnamed : (number place : ℕ) → (leb 20 number && leb number 25) 
 unfolding operand_detail names_operand
 operand-unnamed number place e = rw e
 
--- equal values, equal details
+-- equal values, equal refusal
 pub values-tell : (d e : Detail) → values_of d ≡ values_of e → d ≡ e
 unfolding values_of
 values-tell detail.None detail.None h = refl

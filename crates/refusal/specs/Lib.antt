@@ -1,1 +1,2 @@
 pub mod Details
+pub mod Numbers

@@ -1,7 +1,7 @@
--- `details::is_some` meets its contract.
+-- `refusal::is_some` meets its contract.
 use Rattle.std.proofs.Common.{refl}
-use Rattle.details.specs.Details.{is_some}
-use Rattle.details.proofs.is_some.Goals as goal
+use Rattle.refusal.specs.Details.{is_some}
+use Rattle.refusal.proofs.is_some.Goals as goal
 
 pub returns-in-None : goal.returns-in-None
 unfolding is_some
