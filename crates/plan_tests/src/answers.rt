@@ -3,7 +3,7 @@ ghost use Rattle.std.specs.Prelude.{◌≤◌};
 
 use crate::{numbers, output};
 use channels::Lanes;
-use decoder::{Decoded, Instruction};
+use decoder::Instruction;
 use refusal::Detail;
 use lengths::{Lengths, TaintLengths};
 use operands::Elements;
@@ -218,12 +218,12 @@ pub(crate) fn instruction(
 ) -> io::Result<()> {
     let kernel = numbers::kernel_of(line);
     match decoder::decode(&kernel, 0) {
-        Decoded::Accepted(instruction, _) => {
+        Ok((instruction, _)) => {
             let plan = plan_of(register_size, instruction, variables, predicates, surfaces);
             planned(rt, plan)?;
         }
-        Decoded::Refused(number) => {
-            output::number(rt, number as u64)?;
+        Err(refusal) => {
+            output::number(rt, u64::from(refusal.number()))?;
         }
     }
     output::text(rt, b"\n")

@@ -7,14 +7,11 @@ use mathlib.Core.Bool.{true}
 use mathlib.Core.List.{List}
 use native.Mathlib.Omega.{arith}
 use Rattle.little_endian.specs.LittleEndian.{Bytes}
-use Rattle.reader.specs.declared.Cursor.{Cursor}
 use Rattle.reader.specs.Reply.{got}
 use Rattle.fields.proofs.ExecGood.{EightOrSixteen}
 use Rattle.decoder.specs.declared.Instruction.{Instruction}
 use Rattle.decoder.specs.declared.Instruction.TheVariants as instruction
-use Rattle.decoder.specs.declared.Decoded.{Decoded}
-use Rattle.decoder.specs.declared.Decoded.TheVariants as decoded
-use Rattle.decoder.specs.Decoding.{instruction_at, decoded_reply}
+use Rattle.decoder.specs.Decoding.{instruction_at}
 use Rattle.decoder.proofs.ScatterLaws.{decoded-scatter}
 use Rattle.exec_byte.specs.Exec.{exec_size}
 use Rattle.lengths.specs.Lengths.{chosen_size}
@@ -61,5 +58,5 @@ module _ (kernel : List ℕ) (number : ℕ) (t : Tables) (at : ℕ) (b : Bytes k
   planned-fits i next is = record { when-accepted = decoded-fits i next is }
 
   -- as the code learns it
-  pub told-fits : (d : Decoded) (i : Instruction) (c : Cursor) (p : Plan) → decoded_reply d ≡ instruction_at kernel at → d ≡ decoded.Accepted i c → p ≡ checked (chosen_size number) t i → Fits p
-  told-fits d i c p told is plan = subst Fits (sym plan) (planned-fits i c.at (sym told ∙ ap decoded_reply is))
+  pub told-fits : (i : Instruction) (next : ℕ) (p : Plan) → got i next ≡ instruction_at kernel at → p ≡ checked (chosen_size number) t i → Fits p
+  told-fits i next p told plan = subst Fits (sym plan) (planned-fits i next (sym told))

@@ -5,12 +5,10 @@ use Prim.Native.Nat.{ℕ}
 use Rattle.refusal.specs.declared.Detail.TheVariants as detail
 use Rattle.refusal.specs.declared.Status.{Status}
 use Rattle.cells.specs.Effect.{refused}
-use Rattle.reader.specs.declared.Cursor.{Cursor}
-use Rattle.reader.specs.Reply.{Reply, Read}
-use Rattle.decoder.specs.declared.Decoded.{Decoded}
-use Rattle.decoder.specs.declared.Decoded.TheVariants as decoded
+use Rattle.reader.specs.Reply.{Reply, Read, got}
+use Rattle.reader.specs.Reply as reply
 use Rattle.decoder.specs.declared.Instruction.{Instruction}
-use Rattle.decoder.specs.Decoding.{instruction_at, decoded_reply}
+use Rattle.decoder.specs.Decoding.{instruction_at}
 use Rattle.plan.specs.declared.Plan.{Plan}
 use Rattle.plan.specs.Checked.{checked}
 use Rattle.step.specs.declared.Progress.{Progress}
@@ -32,15 +30,14 @@ module _ (x : Setup) (at : ℕ) (s : State) where
   unchanged : (n : ℕ) → after (refused n detail.None) s ≡ s
   unchanged n = λ i. record { registers = unwritten [] s.registers refl i; surfaces = s.surfaces; memory = unwritten [] s.memory refl i }
 
-  module _ (d : Decoded) (told : decoded_reply d ≡ instruction_at x.kernel at) where
-    pub accepted-advances : (i : Instruction) (c : Cursor) (p : Plan) (r : Status) (u : State) → d ≡ decoded.Accepted i c → p ≡ checked (register_bytes x) x.tables i → (r.number ≡ (plan_effect x.constants p s).number) × (r.detail ≡ (plan_effect x.constants p s).detail) × (u ≡ after (plan_effect x.constants p s) s)
-        → Takes s (step_at x at s) (record { number = r.number; detail = r.detail; next = c.at }) u
-    accepted-advances i c p r u is plan done =
-        let taken : Takes s (record { next = c.at; effect = plan_effect x.constants (checked (register_bytes x) x.tables i) s }) (record { number = r.number; detail = r.detail; next = c.at }) u =
-        (done.0 ∙ ap (λ (q : Plan). (plan_effect x.constants q s).number) plan, done.1 ∙ ap (λ (q : Plan). (plan_effect x.constants q s).detail) plan, refl, done.2 ∙ ap (λ (q : Plan). after (plan_effect x.constants q s) s) plan)
-        in
-        subst (λ (t : Stepped). Takes s t (record { number = r.number; detail = r.detail; next = c.at }) u) (stepped (decoded_reply (decoded.Accepted i c)) (sym told ∙ ap decoded_reply is)) taken
+  pub accepted-advances : (i : Instruction) (next : ℕ) (p : Plan) (r : Status) (u : State) → got i next ≡ instruction_at x.kernel at → p ≡ checked (register_bytes x) x.tables i → (r.number ≡ (plan_effect x.constants p s).number) × (r.detail ≡ (plan_effect x.constants p s).detail) × (u ≡ after (plan_effect x.constants p s) s)
+      → Takes s (step_at x at s) (record { number = r.number; detail = r.detail; next = next }) u
+  accepted-advances i next p r u told plan done =
+      let taken : Takes s (record { next = next; effect = plan_effect x.constants (checked (register_bytes x) x.tables i) s }) (record { number = r.number; detail = r.detail; next = next }) u =
+      (done.0 ∙ ap (λ (q : Plan). (plan_effect x.constants q s).number) plan, done.1 ∙ ap (λ (q : Plan). (plan_effect x.constants q s).detail) plan, refl, done.2 ∙ ap (λ (q : Plan). after (plan_effect x.constants q s) s) plan)
+      in
+      subst (λ (t : Stepped). Takes s t (record { number = r.number; detail = r.detail; next = next }) u) (stepped (got i next) (sym told)) taken
 
-    pub refusal-advances : (n : ℕ) → d ≡ decoded.Refused n → Takes s (step_at x at s) (record { number = n; detail = detail.None; next = at }) s
-    refusal-advances n is =
-        subst (λ (t : Stepped). Takes s t (record { number = n; detail = detail.None; next = at }) s) (stepped (decoded_reply (decoded.Refused n)) (sym told ∙ ap decoded_reply is)) (refl, refl, refl, sym (unchanged n))
+  pub refusal-advances : (n : ℕ) → reply.refused n ≡ instruction_at x.kernel at → Takes s (step_at x at s) (record { number = n; detail = detail.None; next = at }) s
+  refusal-advances n told =
+      subst (λ (t : Stepped). Takes s t (record { number = n; detail = detail.None; next = at }) s) (stepped (reply.refused n) (sym told)) (refl, refl, refl, sym (unchanged n))

@@ -12,7 +12,6 @@ ghost use Rattle.step.specs.Borrowed.{lent};
 ghost use Rattle.step.specs.Step.{plan_effect, step_at, after};
 ghost use Rattle.step.specs.Mirror.Fits.{Fits};
 
-use decoder::Decoded;
 use refusal::{Detail, Status};
 use plan::{Operation, Plan};
 
@@ -113,7 +112,7 @@ pub fn step(
         (result.number ≡ t.effect.number) × (result.detail ≡ t.effect.detail) × (result.next ≡ t.next) × (s.exit ≡ after t.effect s.entry) }
 {
     match decoder::decode(kernel, at) {
-        Decoded::Accepted(instruction, cursor) => {
+        Ok((instruction, cursor)) => {
             let plan = plan::check(
                 lengths::chosen_size(constants.register_size),
                 types,
@@ -141,8 +140,8 @@ pub fn step(
                 next: cursor.at,
             }
         }
-        Decoded::Refused(number) => Progress {
-            number,
+        Err(refusal) => Progress {
+            number: refusal.number(),
             detail: Detail::None,
             next: at,
         },
