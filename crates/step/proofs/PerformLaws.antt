@@ -7,7 +7,10 @@ use native.Mathlib.Omega.{arith}
 use lib.ListN.{length}
 use Rattle.refusal.specs.declared.Detail.{Detail}
 use Rattle.refusal.specs.declared.Detail.TheVariants as detail
+use Rattle.std.specs.Prelude.{Result}
+use Rattle.refusal.specs.declared.Refusal.{Refusal}
 use Rattle.refusal.specs.declared.Status.{Status}
+use Rattle.refusal.specs.Numbers.{number_given, detail_given}
 use Rattle.cells.specs.Buffer.{Buffer}
 use Rattle.cells.specs.Writes.{written_all}
 use Rattle.cells.specs.Effect.{Effect, refused, RegistersDone, MemoryDone}
@@ -17,10 +20,10 @@ use Rattle.plan.specs.declared.Operation.TheVariants as operation
 use Rattle.staging.specs.Lanes.{lanes_on}
 use Rattle.shl.specs.Mirror.Guarded.{shl_guarded}
 use Rattle.shl.proofs.GuardLaws as shl
-use Rattle.shl_effect.proofs.Refusal.{shl-spares-memory, shl-detail}
+use Rattle.shl_effect.proofs.Refusal.{shl-spares-memory}
 use Rattle.gather.specs.Mirror.Guarded.{gather_guarded}
 use Rattle.gather.proofs.GuardLaws as gather
-use Rattle.gather_effect.proofs.Refusal.{gather-spares-memory, gather-detail}
+use Rattle.gather_effect.proofs.Refusal.{gather-spares-memory}
 use Rattle.scatter_effect.specs.Scatter.{Window}
 use Rattle.scatter.specs.Mirror.Guarded.{scatter_guarded}
 use Rattle.scatter.proofs.GuardLaws as scatter
@@ -60,33 +63,33 @@ module _ (k : Constants) (p : Plan) (s : State) where
     fit : (o : Operation) → p.operation ≡ o → fits_for o p ≡ true
     fit o is = subst (λ (q : Operation). fits_for q p ≡ true) is (fits.when-accepted (omega arith))
 
-    pub shl-performs : (n : ℕ) (b : Buffer) → p.operation ≡ operation.Shl → RegistersDone (shl_guarded k.mask p s.registers) n s.registers b
-        → Performs (record { number = n; detail = detail.None }) (record { registers = b; surfaces = s.surfaces; memory = s.memory })
+    pub shl-performs : (r : Result (Unit {0}) Refusal) (n : Status) (b : Buffer) → (n.number ≡ number_given r) × (n.detail ≡ detail_given r) → p.operation ≡ operation.Shl → RegistersDone (shl_guarded k.mask p s.registers) r s.registers b
+        → Performs n (record { registers = b; surfaces = s.surfaces; memory = s.memory })
     unfolding acted fits_for
-    shl-performs n b is made =
+    shl-performs r n b told is made =
         let g = shl.guard-passes k.mask p s.registers (fit _ is) in
-        performs (shl_guarded k.mask p s.registers) (record { number = n; detail = detail.None }) b s.memory (g ∙ sym (acts _ is)) made.0
-        (sym (ap (λ (e : Effect). e.detail) g ∙ shl-detail p (lanes_on k.mask p) s.registers)) made.1
+        performs (shl_guarded k.mask p s.registers) n b s.memory (g ∙ sym (acts _ is)) (told.0 ∙ made.0)
+        (told.1 ∙ made.1) made.2
         (sym (unwritten _ _ (ap (λ (e : Effect). e.memory) g ∙ shl-spares-memory p (lanes_on k.mask p) s.registers)))
 
-    pub gather-performs : (n : ℕ) (b : Buffer) → p.operation ≡ operation.Gather → RegistersDone (gather_guarded k.mask p s.registers s.surfaces) n s.registers b
-        → Performs (record { number = n; detail = detail.None }) (record { registers = b; surfaces = s.surfaces; memory = s.memory })
+    pub gather-performs : (r : Result (Unit {0}) Refusal) (n : Status) (b : Buffer) → (n.number ≡ number_given r) × (n.detail ≡ detail_given r) → p.operation ≡ operation.Gather → RegistersDone (gather_guarded k.mask p s.registers s.surfaces) r s.registers b
+        → Performs n (record { registers = b; surfaces = s.surfaces; memory = s.memory })
     unfolding acted fits_for
-    gather-performs n b is made =
+    gather-performs r n b told is made =
         let g = gather.guard-passes k.mask p s.registers s.surfaces (fit _ is) in
-        performs (gather_guarded k.mask p s.registers s.surfaces) (record { number = n; detail = detail.None }) b s.memory (g ∙ sym (acts _ is)) made.0
-        (sym (ap (λ (e : Effect). e.detail) g ∙ gather-detail p (lanes_on k.mask p) s.registers s.surfaces)) made.1
+        performs (gather_guarded k.mask p s.registers s.surfaces) n b s.memory (g ∙ sym (acts _ is)) (told.0 ∙ made.0)
+        (told.1 ∙ made.1) made.2
         (sym (unwritten _ _ (ap (λ (e : Effect). e.memory) g ∙ gather-spares-memory p (lanes_on k.mask p) s.registers s.surfaces)))
 
     abbrev window : Window
     window = record { base = k.base; length = length s.memory.bytes }
 
-    pub scatter-performs : (r : Status) (m : Buffer) → p.operation ≡ operation.Scatter → MemoryDone (scatter_guarded window k.mask p s.registers) r s.memory m
-        → Performs r (record { registers = s.registers; surfaces = s.surfaces; memory = m })
+    pub scatter-performs : (r : Result (Unit {0}) Refusal) (n : Status) (m : Buffer) → (n.number ≡ number_given r) × (n.detail ≡ detail_given r) → p.operation ≡ operation.Scatter → MemoryDone (scatter_guarded window k.mask p s.registers) r s.memory m
+        → Performs n (record { registers = s.registers; surfaces = s.surfaces; memory = m })
     unfolding acted fits_for
-    scatter-performs r m is made =
+    scatter-performs r n m told is made =
         let g = scatter.guard-passes window k.mask p s.registers (fit _ is) in
-        performs (scatter_guarded window k.mask p s.registers) r s.registers m (g ∙ sym (acts _ is)) made.0 made.1
+        performs (scatter_guarded window k.mask p s.registers) n s.registers m (g ∙ sym (acts _ is)) (told.0 ∙ made.0) (told.1 ∙ made.1)
         (sym (unwritten _ _ (ap (λ (e : Effect). e.registers) g ∙ scatter-spares-registers window p (lanes_on k.mask p) s.registers)))
         made.2
 

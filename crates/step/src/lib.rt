@@ -3,6 +3,7 @@
 #![tactic(auto)]
 
 ghost use Rattle.std.specs.Prelude.{◌≡◌};
+ghost use Rattle.refusal.specs.Numbers.{number_given, detail_given};
 ghost use Rattle.tables.specs.Tables.{tables};
 ghost use Rattle.tables.specs.Borrowed.{variable_table};
 ghost use Rattle.predicate_table.specs.Borrowed.{predicate_table};
@@ -13,7 +14,7 @@ ghost use Rattle.step.specs.Step.{plan_effect, step_at, after};
 ghost use Rattle.step.specs.Mirror.Fits.{Fits};
 
 use decoder::Decoded;
-use refusal::{Detail, Status};
+use refusal::{Detail, Refusal, Status};
 use plan::{Operation, Plan};
 
 // What stays the same in a run beside the borrowed slices: the memory window's base, the execution mask (EM), and the bytes of a register.
@@ -30,6 +31,22 @@ pub struct Progress {
     pub number: u8,
     pub detail: Detail,
     pub next: usize,
+}
+
+// The number of what an executor answers, with what it tells.
+fn status_of(given: Result<(), Refusal>) -> Status
+    ensures { (result.number ≡ number_given given) × (result.detail ≡ detail_given given) }
+{
+    match given {
+        Ok(_) => Status {
+            number: 0,
+            detail: Detail::None,
+        },
+        Err(refusal) => Status {
+            number: refusal.number(),
+            detail: refusal.detail(),
+        },
+    }
 }
 
 // Does what a plan says: its refusal with nothing written, or what the instruction itself gives. The executors ask again what every plan
@@ -58,22 +75,18 @@ fn perform(
     }
     let operation = plan.operation;
     match operation {
-        Operation::Shl => Status {
-            number: shl::shl(plan, constants.mask, registers, register_taint),
-            detail: Detail::None,
-        },
-        Operation::Gather => Status {
-            number: gather::gather(
-                plan,
-                constants.mask,
-                registers,
-                register_taint,
-                surfaces,
-                surface_taint,
-            ),
-            detail: Detail::None,
-        },
-        Operation::Scatter => scatter::scatter(
+        Operation::Shl => {
+            status_of(shl::shl(plan, constants.mask, registers, register_taint))
+        }
+        Operation::Gather => status_of(gather::gather(
+            plan,
+            constants.mask,
+            registers,
+            register_taint,
+            surfaces,
+            surface_taint,
+        )),
+        Operation::Scatter => status_of(scatter::scatter(
             plan,
             constants.mask,
             constants.base,
@@ -81,7 +94,7 @@ fn perform(
             register_taint,
             memory,
             memory_taint,
-        ),
+        )),
         Operation::Refused => Status {
             number: 9,
             detail: Detail::None,
