@@ -20,8 +20,8 @@ use Rattle.exec_byte.specs.Exec.{exec_size}
 use Rattle.lengths.specs.Lengths.{chosen_size}
 use Rattle.tables.specs.Tables.{Tables}
 use Rattle.lengths.proofs.Limits.{chosen-either}
-use Rattle.plan.specs.declared.Plan.{Plan}
-use Rattle.plan.specs.declared.Operation.{Operation}
+use Rattle.plan.specs.Plan.{Plan}
+use Rattle.plan.specs.Operation.{Operation}
 use Rattle.plan.specs.Checked.{checked}
 use Rattle.payloads.proofs.ChannelLaws.{stride-at-most}
 use Rattle.plan.proofs.InstructionLaws.{plan-keeps}

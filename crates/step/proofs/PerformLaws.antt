@@ -14,9 +14,9 @@ use Rattle.refusal.specs.Numbers.{number_given, detail_given}
 use Rattle.cells.specs.Buffer.{Buffer}
 use Rattle.cells.specs.Writes.{written_all}
 use Rattle.cells.specs.Effect.{Effect, refused, RegistersDone, MemoryDone}
-use Rattle.plan.specs.declared.Plan.{Plan}
-use Rattle.plan.specs.declared.Operation.{Operation}
-use Rattle.plan.specs.declared.Operation.TheVariants as operation
+use Rattle.plan.specs.Plan.{Plan}
+use Rattle.plan.specs.Operation.{Operation}
+use Rattle.plan.specs.Operation as operation
 use Rattle.staging.specs.Lanes.{lanes_on}
 use Rattle.shl.specs.Mirror.Guarded.{shl_guarded}
 use Rattle.shl.proofs.GuardLaws as shl
