@@ -7,6 +7,7 @@ ghost use Rattle.tally.specs.Mirror.Lent.{lent_contents, lent_tables};
 ghost use Rattle.line_blocks.specs.Mirror.Rows.{is_begun};
 ghost use Rattle.feeding.specs.Mirror.Feeding.{machine, fresh, read_on, fed, finished};
 
+use line_blocks::Begun;
 use tally::Case;
 
 // How many characters of the line begun stand in the line buffer, whether there were more, and what the lines before came to.
@@ -93,7 +94,7 @@ pub fn feed(
     let mut i = read_on(state.case.bad, 0, block.len());
     while i < block.len() {
         let end = line_blocks::line_end(block, i);
-        let begun = line_blocks::push_all(line, &block[i..end], used, long);
+        let begun = line_blocks::push_all(line, &block[i..end], Begun { used, long });
         if block.len() <= end {
             used = begun.used;
             long = begun.long;
