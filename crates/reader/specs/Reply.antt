@@ -31,6 +31,11 @@ abbrev pub reply : {A : Type 0} → Result (A × Cursor) Refusal → Reply (Read
 reply (Ok r) = got r.0 r.1.at
 reply (Err e) = refused (refusal.number_of e)
 
+-- what any other function of the code answers that may refuse
+abbrev pub outcome : {A : Type 0} → Result A Refusal → Reply A
+outcome (Ok v) = done v
+outcome (Err e) = refused (refusal.number_of e)
+
 -- what follows the values; a refusal stays
 abbrev pub and_then : {A B : Type 0} → Reply A → (A → Reply B) → Reply B
 and_then (refused n) f = refused n

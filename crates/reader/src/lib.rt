@@ -51,7 +51,7 @@ impl Stored for u16 {
 
     #[tactic(auto, unfolding(little_endian::specs::LittleEndian::number_at))]
     fn stored_at(kernel: &[u8], at: usize) -> u16 {
-        u16::from(kernel[at]) + 256 * u16::from(kernel[at + 1])
+        u16::from_le_bytes([kernel[at], kernel[at + 1]])
     }
 }
 
@@ -64,7 +64,7 @@ impl Stored for u32 {
 
     #[tactic(auto, unfolding(little_endian::specs::LittleEndian::number_at))]
     fn stored_at(kernel: &[u8], at: usize) -> u32 {
-        u32::from(u16::stored_at(kernel, at)) + 65536 * u32::from(u16::stored_at(kernel, at + 2))
+        u32::from_le_bytes([kernel[at], kernel[at + 1], kernel[at + 2], kernel[at + 3]])
     }
 }
 

@@ -14,4 +14,6 @@ slice_bounds-result-start c =
     omega (arith, h.past)
 
 pub slice_bounds-result-end : goal.slice_bounds-result-end
-slice_bounds-result-end c = (accepted-within _ _ _ _ (λ k. (c.type_inv.kernel k).fits) (sym c.in-Ok.ensures)).inside
+slice_bounds-result-end c =
+    let h = accepted-within _ _ _ _ (λ k. (c.type_inv.kernel k).fits) (sym c.in-Ok.ensures) in
+    omega (arith, h.inside)
