@@ -113,6 +113,18 @@ pub struct TableBuffers<'a> {
     pub surface_lengths: &'a mut [u16],
 }
 
+// The same tables, lent to be read.
+#[derive(Clone, Copy)]
+pub struct TableViews<'a> {
+    pub types: &'a [u8],
+    pub starts: &'a [u16],
+    pub counts: &'a [u16],
+    pub predicate_bits: &'a [u32],
+    pub predicate_counts: &'a [u8],
+    pub surface_bytes: &'a [u8],
+    pub surface_lengths: &'a [u16],
+}
+
 // Why a case is not run.
 #[derive(Clone, Copy)]
 pub enum Unfit {

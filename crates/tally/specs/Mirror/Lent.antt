@@ -2,6 +2,7 @@
 use Rattle.std.specs.Prelude.{◌≡◌}
 use Rattle.tally.specs.declared.ContentBuffers.{ContentBuffers}
 use Rattle.tally.specs.declared.TableBuffers.{TableBuffers}
+use Rattle.tally.specs.declared.TableViews.{TableViews}
 use Rattle.tally.specs.Mirror.Reading.{Contents, contents, Tables, tables}
 
 abbrev pub contents_of : ContentBuffers → Contents
@@ -9,6 +10,9 @@ contents_of b = contents b.registers.now b.memory.now b.kernel.now b.register_ta
 
 abbrev pub tables_of : TableBuffers → Tables
 tables_of b = tables b.types.now b.starts.now b.counts.now b.predicate_bits.now b.predicate_counts.now b.surface_bytes.now b.surface_lengths.now
+
+abbrev pub tables_seen : TableViews → Tables
+tables_seen v = tables v.types.now v.starts.now v.counts.now v.predicate_bits.now v.predicate_counts.now v.surface_bytes.now v.surface_lengths.now
 
 -- The references that were lent.
 pub record SameContents (old new : ContentBuffers) : Type 0 where
