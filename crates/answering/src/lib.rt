@@ -9,6 +9,7 @@ ghost use Rattle.tally.specs.Mirror.Verdicts.{taint_length};
 ghost use Rattle.output.specs.Mirror.Page.{page, written};
 ghost use Rattle.output.specs.Output.{buffer_lines, output_bytes};
 ghost use Rattle.step.specs.Borrowed.{lent};
+ghost use Rattle.run.specs.Answer.{answer_of};
 ghost use Rattle.run.specs.Run.{outcome, run};
 ghost use Rattle.answering.specs.Mirror.Setting.{taint_of, setup_of};
 ghost use Rattle.answering.specs.Mirror.Forms.{outcome_text, refusal_text};
@@ -17,7 +18,7 @@ ghost use Rattle.answering.specs.Mirror.Bench.{good_output, case_output};
 
 use refusal::Detail;
 use run::Answer;
-use step::Constants;
+use step::{Constants, Room};
 use tally::Case;
 
 // What is written of an answer: the 40 line and the buffers, or the verdict line.
@@ -65,7 +66,7 @@ fn surface_taint_or_zeros(case: Case, taint: [u8; 8192]) -> [u8; 8192]
 }
 
 // The run, over tables and a kernel that are cut to what was read.
-fn run_case(
+fn run_case<'a>(
     case: Case,
     kernel: &[u8],
     types: &[u8],
@@ -74,14 +75,14 @@ fn run_case(
     predicate_bits: &[u32],
     predicate_counts: &[u8],
     surface_lengths: &[u16],
-    surfaces: &[u8],
-    surface_taint: &[u8],
-    registers: &mut [u8],
-    register_taint: &mut [u8],
-    memory: &mut [u8],
-    memory_taint: &mut [u8],
+    surfaces: &'a [u8],
+    surface_taint: &'a [u8],
+    registers: &'a mut [u8],
+    register_taint: &'a mut [u8],
+    memory: &'a mut [u8],
+    memory_taint: &'a mut [u8],
 ) -> Answer
-    ensures { let t = tables types.now starts.now counts.now predicate_bits.now predicate_counts.now surfaces.now surface_lengths.now in let s = lent registers register_taint surfaces surface_taint memory memory_taint in (outcome result s.exit ≡ run (setup_of case kernel.now t) s.entry) × (result.completed ≤ 4096) × (result.position ≤ 4096) }
+    ensures { let t = tables types.now starts.now counts.now predicate_bits.now predicate_counts.now surfaces.now surface_lengths.now in let s = lent registers register_taint surfaces surface_taint memory memory_taint in (outcome (answer_of result) s.exit ≡ run (setup_of case kernel.now t) s.entry) × (result.completed ≤ 4096) × (result.position ≤ 4096) }
 {
     let constants = Constants {
         base: case.settings.base,
@@ -90,6 +91,14 @@ fn run_case(
     };
     let variables = tally::met_of(2, case);
     let predicates = tally::met_of(3, case);
+    let mut room = Room {
+        registers,
+        register_taint,
+        memory,
+        memory_taint,
+        surfaces,
+        surface_taint,
+    };
     run::run(
         line_blocks::first_bytes(kernel, tally::length_of(7, case)),
         line_blocks::first_bytes(types, variables),
@@ -99,12 +108,7 @@ fn run_case(
         line_blocks::first_bytes(predicate_counts, predicates),
         feeding::first_words(surface_lengths, tally::met_of(4, case)),
         constants,
-        surfaces,
-        surface_taint,
-        registers,
-        register_taint,
-        memory,
-        memory_taint,
+        &mut room,
     )
 }
 

@@ -1,4 +1,5 @@
 pub mod StepOf
+pub mod Rooms
 pub mod Unwritten
 pub mod AcceptedLaws
 pub mod FitsLaws

@@ -1,4 +1,4 @@
-// One step of a run: what an instruction does, and the instruction at a position, over the caller's buffers.
+// One step of a run: what an instruction does, and the instruction at a position, over the room that the caller lent.
 
 #![tactic(auto)]
 
@@ -8,7 +8,7 @@ ghost use Rattle.tables.specs.Borrowed.{variable_table};
 ghost use Rattle.predicate_table.specs.Borrowed.{predicate_table};
 ghost use Rattle.surface_table.specs.Borrowed.{surface_table};
 ghost use Rattle.step.specs.State.{setup};
-ghost use Rattle.step.specs.Borrowed.{lent};
+ghost use Rattle.step.specs.Borrowed.{state_of, Goes};
 ghost use Rattle.step.specs.Step.{plan_effect, step_at, after};
 ghost use Rattle.step.specs.Mirror.Fits.{Fits};
 
@@ -24,6 +24,18 @@ pub struct Constants {
     pub register_size: u8,
 }
 
+// What instructions read and write, each byte with its taint. The references stand side by side: from a struct within another the caller would
+// not get its slices back.
+#[derive(Drop)]
+pub struct Room<'a> {
+    pub registers: &'a mut [u8],
+    pub register_taint: &'a mut [u8],
+    pub memory: &'a mut [u8],
+    pub memory_taint: &'a mut [u8],
+    pub surfaces: &'a [u8],
+    pub surface_taint: &'a [u8],
+}
+
 // What one instruction gave: its number with what it tells, and where the next one begins.
 #[derive(Clone, Copy)]
 pub struct Progress {
@@ -34,20 +46,10 @@ pub struct Progress {
 
 // Does what a plan says: its refusal with nothing written, or what the instruction itself gives. The executors ask again what every plan
 // of a decoded and checked instruction has; no such plan is refused there.
-fn perform(
-    plan: Plan,
-    constants: Constants,
-    surfaces: &[u8],
-    surface_taint: &[u8],
-    registers: &mut [u8],
-    register_taint: &mut [u8],
-    memory: &mut [u8],
-    memory_taint: &mut [u8],
-) -> Status
+fn perform(plan: Plan, constants: Constants, room: &mut Room<'_>) -> Status
     requires { Fits plan }
-    ensures { let s = lent registers register_taint surfaces surface_taint memory memory_taint in
-        let e = plan_effect constants plan s.entry in
-        (result.number ≡ e.number) × (result.detail ≡ e.detail) × (s.exit ≡ after e s.entry) }
+    ensures answer { let e = plan_effect constants plan (state_of room.old) in (result.number ≡ e.number) × (result.detail ≡ e.detail) }
+    ensures room { Goes room.old room.new (after (plan_effect constants plan (state_of room.old)) (state_of room.old)) }
 {
     if 0 < plan.number {
         let detail = plan.detail;
@@ -56,6 +58,8 @@ fn perform(
             detail,
         };
     }
+    let registers = &mut *room.registers;
+    let register_taint = &mut *room.register_taint;
     let operation = plan.operation;
     match operation {
         Operation::Shl => Status {
@@ -68,20 +72,24 @@ fn perform(
                 constants.mask,
                 registers,
                 register_taint,
-                surfaces,
-                surface_taint,
+                room.surfaces,
+                room.surface_taint,
             ),
             detail: Detail::None,
         },
-        Operation::Scatter => scatter::scatter(
-            plan,
-            constants.mask,
-            constants.base,
-            registers,
-            register_taint,
-            memory,
-            memory_taint,
-        ),
+        Operation::Scatter => {
+            let memory = &mut *room.memory;
+            let memory_taint = &mut *room.memory_taint;
+            scatter::scatter(
+                plan,
+                constants.mask,
+                constants.base,
+                registers,
+                register_taint,
+                memory,
+                memory_taint,
+            )
+        }
         Operation::Refused => Status {
             number: 9,
             detail: Detail::None,
@@ -100,17 +108,13 @@ pub fn step(
     surface_lengths: &[u16],
     constants: Constants,
     at: usize,
-    surfaces: &[u8],
-    surface_taint: &[u8],
-    registers: &mut [u8],
-    register_taint: &mut [u8],
-    memory: &mut [u8],
-    memory_taint: &mut [u8],
+    room: &mut Room<'_>,
 ) -> Progress
-    ensures { let x = setup kernel.now (tables (variable_table types starts counts) (predicate_table predicate_bits predicate_counts) (surface_table surface_lengths)) constants in
-        let s = lent registers register_taint surfaces surface_taint memory memory_taint in
-        let t = step_at x at s.entry in
-        (result.number ≡ t.effect.number) × (result.detail ≡ t.effect.detail) × (result.next ≡ t.next) × (s.exit ≡ after t.effect s.entry) }
+    ensures answer { let x = setup kernel.now (tables (variable_table types starts counts) (predicate_table predicate_bits predicate_counts) (surface_table surface_lengths)) constants in
+        let t = step_at x at (state_of room.old) in
+        (result.number ≡ t.effect.number) × (result.detail ≡ t.effect.detail) × (result.next ≡ t.next) }
+    ensures room { let x = setup kernel.now (tables (variable_table types starts counts) (predicate_table predicate_bits predicate_counts) (surface_table surface_lengths)) constants in
+        Goes room.old room.new (after (step_at x at (state_of room.old)).effect (state_of room.old)) }
 {
     match decoder::decode(kernel, at) {
         Decoded::Accepted(instruction, cursor) => {
@@ -124,16 +128,7 @@ pub fn step(
                 surface_lengths,
                 instruction,
             );
-            let status = perform(
-                plan,
-                constants,
-                surfaces,
-                surface_taint,
-                registers,
-                register_taint,
-                memory,
-                memory_taint,
-            );
+            let status = perform(plan, constants, room);
             let detail = status.detail;
             Progress {
                 number: status.number,

@@ -11,4 +11,4 @@ returns c =
     c.length_of.ensures c.met_of-variables.ensures c.met_of-predicates.ensures c.met_of.ensures
     c.first_bytes.ensures c.first_bytes-2.ensures c.first_words.ensures c.first_words-2.ensures c.first_dwords.ensures c.first_bytes-3.ensures c.first_words-3.ensures)
     (λ k. omega (arith, c.type_inv.kernel k))
-    c.run.ensures
+    c.run.ensures.outcome
