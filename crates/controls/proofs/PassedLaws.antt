@@ -5,7 +5,7 @@ use mathlib.Core.Bool.{Bool, true, false, cond, not}
 use native.Mathlib.Omega.{arith}
 use lib.Dec.{ltb}
 use borrow.Author.Tests.{ltb-false, le-ltb, not-false}
-use Rattle.predicate_table.specs.declared.PredicateRecord.{PredicateRecord}
+use Rattle.predicate_table.specs.PredicateRecord.{PredicateRecord}
 use Rattle.predicate_field.specs.Predicate.{has_predicate}
 use Rattle.field_groups.specs.declared.Control.{Control}
 use Rattle.controls.specs.Control.{lanes_end, predicate_refusal, control_refusal}

@@ -2,7 +2,7 @@
 use Rattle.std.specs.Prelude.{ℕ, ◌%◌, ◌^◌, true, false, replicate}
 use Rattle.element_types.specs.Types.{size_of, is_signed}
 use Rattle.regions.specs.Positions.{lane_positions}
-use Rattle.operands.specs.declared.Located.{Located}
+use Rattle.operands.specs.Located.{Located}
 
 -- elements of this type in the register file, each at its byte
 unfoldable pub register_elements : ℕ → (ℕ → ℕ) → Located

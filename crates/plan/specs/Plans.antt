@@ -6,10 +6,10 @@ use Rattle.refusal.specs.declared.Detail.TheVariants as detail
 use Rattle.refusal.specs.Details.{operand_detail}
 use Rattle.field_groups.specs.declared.Control.{Control}
 use Rattle.operands.specs.declared.Elements.{Elements}
-use Rattle.operands.specs.declared.Located.{Located}
+use Rattle.operands.specs.Located.{Located}
 use Rattle.plan.specs.declared.Part.{Part}
-use Rattle.plan.specs.declared.Plan.{Plan}
-use Rattle.plan.specs.declared.Operation.TheVariants as operation
+use Rattle.plan.specs.Plan.{Plan}
+use Rattle.plan.specs.Operation as operation
 
 abbrev pub no_elements : Elements
 no_elements = record { size = 0; signed = false; immediate = false; value = 0; at = replicate 32 0 }

@@ -4,6 +4,7 @@ pub mod Unwritten
 pub mod AcceptedLaws
 pub mod FitsLaws
 pub mod PerformLaws
+pub mod SmallLaws
 pub mod StepLaws
 pub mod Forward
 pub mod Kept

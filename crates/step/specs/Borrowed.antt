@@ -1,10 +1,13 @@
--- Words of contracts: the state behind the references that a function borrows.
-use Rattle.std.specs.Prelude.{◌≡◌, ℕ, List}
+-- Words of contracts: the state behind the references that a function borrows, and what a step answers.
+use Rattle.std.specs.Prelude.{◌≡◌, ℕ, List, Result, IfOk}
 use Rattle.std.specs.Borrow.{MutBor}
 use denote.Triple.Both.{Both}
+use Rattle.refusal.specs.declared.Refusal.{Refusal}
+use Rattle.refusal.specs.Numbers.{number_given, detail_given}
 use Rattle.tables.specs.Borrowed.{Slice}
 use Rattle.step.specs.declared.Room.{Room}
 use Rattle.step.specs.State.{State, state}
+use Rattle.step.specs.Step.{Stepped}
 
 -- what a room holds
 abbrev pub state_of : Room → State
@@ -20,6 +23,12 @@ pub record Goes (old new : Room) (s : State) : Type 0 where
   pub surfaces : new.surfaces ≡ old.surfaces
   pub surface_taint : new.surface_taint ≡ old.surface_taint
   pub leaves : state_of new ≡ s
+
+-- the number with what it tells; and, of a step that is not refused, where the next one begins
+pub record Answers (result : Result ℕ Refusal) (t : Stepped) : Type 0 where
+  pub number : number_given result ≡ t.effect.number
+  pub detail : detail_given result ≡ t.effect.detail
+  pub next : IfOk result (λ next. next ≡ t.next)
 
 -- a slice that a function may write, as an `ensures` names it
 abbrev pub MutSlice : Type 0

@@ -1,7 +1,7 @@
 -- `plan::check` meets its contract: a refusal of the control's tests, or, past them, what the match gives of the operands'.
 use Rattle.std.proofs.Common.{◌≡◌, ℕ, ◌≤◌, sym, ap, ◌∙◌, lt-ltb, le-ltb}
 use Rattle.predicate_field.specs.Predicate.{predicate_id}
-use Rattle.predicate_table.specs.declared.PredicateRecord.{PredicateRecord}
+use Rattle.predicate_table.specs.PredicateRecord.{PredicateRecord}
 use Rattle.predicate_table.specs.Predicates.{predicate_at}
 use Rattle.tables.specs.Tables.{Tables}
 use Rattle.field_groups.specs.declared.Control.{Control}
