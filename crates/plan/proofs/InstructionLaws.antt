@@ -27,7 +27,7 @@ use Rattle.operands.proofs.AllowedLaws.{RuleSize}
 use Rattle.operands.proofs.SizeLaws.{vector-sized, raw-sized}
 use Rattle.plan.specs.Operation.{Operation}
 use Rattle.plan.specs.Operation as operation
-use Rattle.plan.specs.declared.Part.{Part}
+use Rattle.plan.specs.Part.{Part}
 use Rattle.plan.specs.Plan.{Plan}
 use Rattle.controls.specs.Control.{predicate_for, control_refusal}
 use Rattle.plan.specs.Control.{control_of}

@@ -19,7 +19,7 @@ use Rattle.region_rules.specs.declared.Role.TheVariants as role
 use Rattle.operands.specs.declared.TypeRule.TheVariants as rule
 use Rattle.tables.specs.Variables.{Variables}
 use Rattle.operands.specs.Operands.{located_vector, located_raw}
-use Rattle.plan.specs.declared.Part.{Part}
+use Rattle.plan.specs.Part.{Part}
 use Rattle.plan.specs.Plan.{Plan}
 use Rattle.controls.specs.Control.{predicate_for, control_refusal, bits_named}
 use Rattle.plan.specs.Control.{control_of}
