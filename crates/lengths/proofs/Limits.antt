@@ -72,3 +72,7 @@ lengths-limited l h =
       surfaces-taint = eqb-true _ _ t.second;
       memory-taint = eqb-true _ _ t.third;
     }
+
+-- as a call learns it that asks for a size
+pub lengths_size : (l : Lengths) → lengths_good l ≡ true → 0 < l.register_size
+lengths_size l h = size-some l.register_size (lengths-limited l h).size-good

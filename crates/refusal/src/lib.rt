@@ -4,6 +4,7 @@
 #![tactic(auto)]
 
 ghost use Rattle.std.specs.Prelude.{◌≡◌};
+ghost use Rattle.refusal.specs.declared.OperandRefusal.TheVariants as operand;
 ghost use Rattle.refusal.specs.Details.{is_some, operand_detail};
 ghost use Rattle.refusal.specs.Numbers.{rule_number, operand_number, number_of, detail_of};
 
@@ -62,6 +63,14 @@ pub enum OperandRefusal {
     Missing,
     Region(RegionRule),
     Outside,
+}
+
+impl From<RegionRule> for OperandRefusal {
+    ghost from_gives = { λ r e. e ≡ operand.Region r };
+
+    fn from(rule: RegionRule) -> OperandRefusal {
+        OperandRefusal::Region(rule)
+    }
 }
 
 // Why an instruction or a run is refused. An operand is named by its place in field order, from 1.
