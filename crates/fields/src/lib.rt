@@ -183,7 +183,7 @@ pub fn judge_word(rule: WordRule, v: u16) -> Result<(), Refusal>
     }
 }
 
-#[tactic(auto, using(refusal::proofs::NumberLaws::number_some), unfolding(crate::specs::Reading::byte_field_at, crate::specs::Reading::judged_read, reader::specs::Reading::read_at))]
+#[tactic(auto, using(refusal::proofs::RuleLaws::number_some), unfolding(crate::specs::Reading::byte_field_at, crate::specs::Reading::judged_read, reader::specs::Reading::read_at))]
 pub fn byte_field(kernel: &[u8], cursor: Cursor, rule: ByteRule) -> Result<(u8, Cursor), Refusal>
     ensures { reply result ≡ byte_field_at rule kernel.now cursor.at }
 {
@@ -192,7 +192,7 @@ pub fn byte_field(kernel: &[u8], cursor: Cursor, rule: ByteRule) -> Result<(u8, 
     Ok((v, next))
 }
 
-#[tactic(auto, using(refusal::proofs::NumberLaws::number_some), unfolding(crate::specs::Reading::word_field_at, crate::specs::Reading::judged_read, reader::specs::Reading::read_at))]
+#[tactic(auto, using(refusal::proofs::RuleLaws::number_some), unfolding(crate::specs::Reading::word_field_at, crate::specs::Reading::judged_read, reader::specs::Reading::read_at))]
 pub fn word_field(kernel: &[u8], cursor: Cursor, rule: WordRule) -> Result<(u16, Cursor), Refusal>
     ensures { reply result ≡ word_field_at rule kernel.now cursor.at }
 {
