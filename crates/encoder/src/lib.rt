@@ -14,7 +14,7 @@ ghost use Rattle.encoder.specs.Encoding.{encoded_in, encoded_into};
 
 use decoder::{Gather, Instruction, RawSend, Scatter, Shl};
 use field_groups::{Access, Control, Message};
-use fields::{ByteRule, Field, TagRule, WordRule};
+use fields::{ByteRule, Field, FieldRule, TagRule, WordRule};
 use operand_fields::{General, Immediate, Operand, Raw};
 use refusal::Refusal;
 
@@ -91,11 +91,11 @@ impl Draft {
     {
         match field {
             Field::Byte(rule, v) => {
-                fields::judge_byte(rule, v)?;
+                rule.judge(v)?;
                 Ok(self.with_byte(v))
             }
             Field::Word(rule, v) => {
-                fields::judge_word(rule, v)?;
+                rule.judge(v)?;
                 Ok(self.with_word(v))
             }
             Field::Dword(v) => Ok(self.with_dword(v)),
