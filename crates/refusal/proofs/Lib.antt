@@ -1,2 +1,3 @@
 pub mod OperandLaws
 pub mod RuleLaws
+pub mod NumberLaws

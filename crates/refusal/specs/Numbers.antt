@@ -1,5 +1,5 @@
 -- The number that is given back for a refusal, and what goes with it; the number of an answer is 0 where nothing is refused.
-use Rattle.std.specs.Prelude.{ℕ, Option, None, Some, Result, Ok, Err}
+use Rattle.std.specs.Prelude.{ℕ, Result, Ok, Err}
 use Rattle.refusal.specs.declared.Detail.{Detail}
 use Rattle.refusal.specs.declared.Detail.TheVariants as detail
 use Rattle.refusal.specs.declared.RegionRule.{RegionRule}
