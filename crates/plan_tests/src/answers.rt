@@ -3,7 +3,7 @@ ghost use Rattle.std.specs.Prelude.{◌≤◌};
 
 use crate::{numbers, output};
 use channels::Lanes;
-use decoder::{Decoded, Instruction};
+use decoder::Instruction;
 use lengths::{Lengths, TaintLengths};
 use operands::Elements;
 use plan::Plan;
@@ -226,13 +226,11 @@ pub(crate) fn instruction(
 ) -> io::Result<()> {
     let kernel = numbers::kernel_of(line);
     match decoder::decode(&kernel, 0) {
-        Decoded::Accepted(instruction, _) => {
+        Ok((instruction, _)) => {
             let plan = plan_of(register_size, instruction, variables, predicates, surfaces);
             planned(rt, plan)?;
         }
-        Decoded::Refused(number) => {
-            output::number(rt, u64::from(number))?;
-        }
+        Err(refusal) => output::number(rt, u64::from(refusal.number()))?,
     }
     output::text(rt, b"\n")
 }
