@@ -10,14 +10,14 @@ use Rattle.refusal.specs.declared.Refusal.TheVariants as refusal
 use Rattle.refusal.specs.Details.{operand_detail, names_operand}
 use Rattle.refusal.specs.Numbers.{rule_number, operand_number, number_of}
 
-pub region-named : (r : RegionRule) (place : ℕ) → detail.Operand place ≡ operand_detail (rule_number r) place
+pub region_named : (r : RegionRule) (place : ℕ) → detail.Operand place ≡ operand_detail (rule_number r) place
 unfolding operand_detail names_operand
-region-named rule.Width place = refl
-region-named rule.Stride place = refl
-region-named rule.WidthOverSize place = refl
-region-named rule.ZeroStride place = refl
-region-named rule.Null place = refl
-region-named rule.Scalar place = refl
+region_named rule.Width place = refl
+region_named rule.Stride place = refl
+region_named rule.WidthOverSize place = refl
+region_named rule.ZeroStride place = refl
+region_named rule.Null place = refl
+region_named rule.Scalar place = refl
 
 -- no refusal has the number 0
 pub rule_some : (r : RegionRule) → ltb 0 (rule_number r) ≡ true
