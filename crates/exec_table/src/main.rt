@@ -34,6 +34,7 @@ fn put_entry(out: &mut [u8], at: usize, byte: u8) -> usize
     put_meaning(out, b, exec_byte::split(byte))
 }
 
+#[tactic(auto, using(crate::proofs::LineLaws::no_lines))]
 fn put_table(out: &mut [u8]) -> usize
     ensures { wrote result out.new ≡ written out.old 0 exec_lines }
 {
