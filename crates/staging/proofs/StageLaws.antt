@@ -3,18 +3,20 @@ use Prim.Native.Nat.{ℕ, ◌+◌, ◌*◌}
 use mathlib.Core.Path.{◌≡◌}
 use mathlib.Core.Bool.{true, false}
 use lib.ListN.{get_or}
+use Rattle.cells.specs.declared.Buffer as lent
 use Rattle.cells.specs.Buffer.{Buffer, mark_of}
+use Rattle.cells.specs.Lent.{held, Becomes}
 use Rattle.cells.specs.Writes.{written_all, number_writes, copy_writes}
 use Rattle.operands.specs.declared.Elements.{Elements}
 use Rattle.staging.specs.declared.Layout.{Layout}
 use Rattle.staging.specs.Mirror.Room.{empty_room, layout_of, first_place, second_place, data_place, stage_lane, staged, both_staged, data_staged}
 
-module _ (registers : Buffer) (e : Elements) (base lane place : ℕ) (b b' : Buffer) (there : place ≡ base + lane * e.size) where
-  pub stage-immediate : e.immediate ≡ true → b' ≡ written_all (number_writes place e.size (mark_of false) e.value) b → b' ≡ written_all (stage_lane registers e base lane) b
+module _ (registers : Buffer) (e : Elements) (base lane place : ℕ) (b b' : lent.Buffer) (there : place ≡ base + lane * e.size) where
+  pub stage-immediate : e.immediate ≡ true → Becomes b b' (written_all (number_writes place e.size (mark_of false) e.value) (held b)) → Becomes b b' (written_all (stage_lane registers e base lane) (held b))
   unfolding stage_lane
   stage-immediate taken made = rw (taken, ← there) made
 
-  pub stage-register : (from : ℕ) → from ≡ get_or e.at lane 0 → e.immediate ≡ false → b' ≡ written_all (copy_writes registers from place e.size) b → b' ≡ written_all (stage_lane registers e base lane) b
+  pub stage-register : (from : ℕ) → from ≡ get_or e.at lane 0 → e.immediate ≡ false → Becomes b b' (written_all (copy_writes registers from place e.size) (held b)) → Becomes b b' (written_all (stage_lane registers e base lane) (held b))
   unfolding stage_lane
   stage-register from f left made = rw (left, ← there, ← f) made
 

@@ -5,4 +5,4 @@ use Rattle.staging.proofs.stage_both.Goals as goal
 
 pub returns : goal.returns
 returns c =
-    both_told _ _ _ _ _ _ _ _ _ _ c.layout_of-layout.ensures c.first_place-begin.ensures c.second_place-next.ensures c.stage.ensures c.stage-2.ensures refl
+    both_told _ _ _ _ _ _ _ _ _ _ c.layout_of-layout.ensures c.first_place-begin.ensures c.second_place-next.ensures c.stage.ensures.content c.stage-2.ensures.content refl
