@@ -6,7 +6,7 @@ ghost use Rattle.std.specs.Prelude.{◌≡◌, ◌+◌, ◌*◌, get_or};
 ghost use Rattle.cells.specs.Writes.{written_all};
 ghost use Rattle.cells.specs.Lent.{viewed, held, Becomes};
 ghost use Rattle.staging.specs.Staged.{in_room};
-ghost use Rattle.staging.specs.Mirror.Room.{layout_of, first_place, second_place, data_place, stage_lane, staged, both_staged, data_staged, first_number, second_number, either_staged, elements_fit};
+ghost use Rattle.staging.specs.Mirror.Room.{layout_of, first_place, second_place, data_place, stage_lane, staged, sources_staged, both_staged, data_staged, first_number, second_number, either_staged, elements_fit};
 
 use cells::{Buffer, View};
 use operands::Elements;
@@ -106,22 +106,37 @@ fn stage(registers: View<'_>, elements: Elements, lanes: u8, base: u32, room: &m
     }
 }
 
+// Both sources of an instruction, one after the other.
+fn stage_sources(
+    registers: View<'_>,
+    first: Elements,
+    second: Elements,
+    lanes: u8,
+    room: &mut Buffer<'_>,
+)
+    ensures { Becomes room.old room.new (sources_staged (viewed registers.entry) first second lanes (held room.old)) }
+{
+    let layout = layout_of(first, second, lanes);
+    let begin = first_place(layout, 0);
+    let next = second_place(layout, 0);
+    stage(registers, first, lanes, begin, room);
+    stage(registers, second, lanes, next, room);
+}
+
 // Both sources of an instruction, in a room of zeros.
 pub fn stage_both(registers: View<'_>, first: Elements, second: Elements, lanes: u8) -> Room
     ensures { in_room result ≡ both_staged (viewed registers.entry) first second lanes }
 {
-    let mut bytes = [0; 512];
-    let mut taint = [0; 512];
-    let layout = layout_of(first, second, lanes);
-    let begin = first_place(layout, 0);
-    let next = second_place(layout, 0);
-    let mut room = Buffer {
-        bytes: &mut bytes,
-        taint: &mut taint,
+    let mut room = Room {
+        bytes: [0; 512],
+        taint: [0; 512],
     };
-    stage(registers, first, lanes, begin, &mut room);
-    stage(registers, second, lanes, next, &mut room);
-    Room { bytes, taint }
+    let mut buffer = Buffer {
+        bytes: &mut room.bytes,
+        taint: &mut room.taint,
+    };
+    stage_sources(registers, first, second, lanes, &mut buffer);
+    room
 }
 
 // Both sources, and so many register bytes from a position on: a scatter's data.
