@@ -9,7 +9,6 @@ ghost use Rattle.cells.specs.Lent.{viewed, held, Becomes};
 ghost use Rattle.cells.specs.Over.{among, each};
 ghost use Rattle.cells.specs.Effect.{RegistersDone};
 ghost use Rattle.channels.specs.Mirror.Prepared.{is_on};
-ghost use Rattle.staging.specs.Staged.{in_room};
 ghost use Rattle.gather.specs.Mirror.FromRoom.{shape_of, room_address, bytes_read, dword_writes, room_writes, room_lane};
 ghost use Rattle.gather.specs.Mirror.Guarded.{gather_fits, gather_guarded};
 
@@ -17,7 +16,7 @@ use cells::{Buffer, View};
 use channels::Lanes;
 use plan::Plan;
 use refusal::Refusal;
-use staging::{Layout, Room};
+use staging::Layout;
 
 // Whether the offsets have room, and are dwords at most.
 fn fits(plan: Plan) -> bool
@@ -60,11 +59,11 @@ fn low_dword(number: u64) -> u32
 }
 
 // The sum of a lane's two offsets, modulo 2^32.
-fn address_of(room: &Room, layout: Layout, lane: u8) -> u32
-    ensures { result ≡ room_address room.now.bytes layout lane }
+fn address_of(room: View<'_>, layout: Layout, lane: u8) -> u32
+    ensures { result ≡ room_address room.entry.bytes.now layout lane }
 {
-    let offset = low_dword(room.first_number(layout, lane));
-    let element_offset = low_dword(room.second_number(layout, lane));
+    let offset = low_dword(staging::first_number(room, layout, lane));
+    let element_offset = low_dword(staging::second_number(room, layout, lane));
     offset.wrapping_add(element_offset)
 }
 
@@ -106,15 +105,15 @@ fn gather_lane(
     on: bool,
     at: u32,
     lane: u8,
-    room: &Room,
+    room: View<'_>,
     surfaces: View<'_>,
     registers: &mut Buffer<'_>,
 )
-    ensures { Becomes registers.old registers.new (written_all (if on then room_writes (in_room room.now) (viewed surfaces.entry) shape at lane else []) (held registers.old)) }
+    ensures { Becomes registers.old registers.new (written_all (if on then room_writes (viewed room.entry) (viewed surfaces.entry) shape at lane else []) (held registers.old)) }
 {
     if on {
         let layout = shape.layout;
-        let doubtful = room.either_taint(layout, lane);
+        let doubtful = staging::either_taint(room, layout, lane);
         let address = address_of(room, layout, lane);
         let count = bytes_read(shape, address);
         let from = (shape.start as usize) + (address as usize);
@@ -127,12 +126,12 @@ fn gather_lanes(
     shape: Shape,
     lanes: Lanes,
     positions: &[u32; 32],
-    room: &Room,
+    room: View<'_>,
     surfaces: View<'_>,
     registers: &mut Buffer<'_>,
 )
     requires { shape.layout.lanes ≤ 32 }
-    ensures { Becomes registers.old registers.new (written_all (each (room_lane (in_room room.now) (viewed surfaces.entry) shape positions.now) (among (is_on lanes) shape.layout.lanes)) (held registers.old)) }
+    ensures { Becomes registers.old registers.new (written_all (each (room_lane (viewed room.entry) (viewed surfaces.entry) shape positions.now) (among (is_on lanes) shape.layout.lanes)) (held registers.old)) }
 {
     for lane in 0..shape.layout.lanes {
         let index = usize::from(lane);
@@ -169,6 +168,6 @@ pub fn gather(
     let right = plan.right;
     let room = staging::stage_both(registers.view(), left, right, shape.layout.lanes);
     holds_bytes(surfaces.bytes);
-    gather_lanes(shape, lanes, &positions, &room, surfaces, registers);
+    gather_lanes(shape, lanes, &positions, room.view(), surfaces, registers);
     Ok(())
 }

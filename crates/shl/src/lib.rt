@@ -4,19 +4,18 @@
 
 ghost use Rattle.std.specs.Prelude.{◌≡◌, cond, [], ◌≤◌};
 ghost use Rattle.cells.specs.Writes.{written_all};
-ghost use Rattle.cells.specs.Lent.{held, Becomes};
+ghost use Rattle.cells.specs.Lent.{viewed, held, Becomes};
 ghost use Rattle.cells.specs.Over.{among, each};
 ghost use Rattle.cells.specs.Effect.{RegistersDone};
 ghost use Rattle.channels.specs.Mirror.Prepared.{is_on};
-ghost use Rattle.staging.specs.Staged.{in_room};
 ghost use Rattle.shl.specs.Mirror.FromRoom.{shape_of, room_value, room_writes, room_lane};
 ghost use Rattle.shl.specs.Mirror.Guarded.{shl_fits, shl_guarded};
 
-use cells::Buffer;
+use cells::{Buffer, View};
 use channels::Lanes;
 use plan::Plan;
 use refusal::Refusal;
-use staging::{Layout, Room};
+use staging::Layout;
 
 // Whether the sources have room, and are small enough to be shifted.
 fn fits(plan: Plan) -> bool
@@ -51,22 +50,22 @@ fn shape_of(plan: Plan) -> Shape
     }
 }
 
-fn lane_value(room: &Room, shape: Shape, lane: u8) -> u64
-    ensures { result ≡ room_value room.now.bytes shape lane }
+fn lane_value(room: View<'_>, shape: Shape, lane: u8) -> u64
+    ensures { result ≡ room_value room.entry.bytes.now shape lane }
 {
     let layout = shape.layout;
-    let value = room.first_number(layout, lane);
-    let count = room.second_number(layout, lane);
+    let value = staging::first_number(room, layout, lane);
+    let count = staging::second_number(room, layout, lane);
     shift::shift(shape.signed, layout.first, value, count, shape.size)
 }
 
 // A lane that is off writes nothing.
-fn write_lane(shape: Shape, on: bool, at: u32, lane: u8, room: &Room, registers: &mut Buffer<'_>)
-    ensures { Becomes registers.old registers.new (written_all (cond on (room_writes (in_room room.now) shape at lane) []) (held registers.old)) }
+fn write_lane(shape: Shape, on: bool, at: u32, lane: u8, room: View<'_>, registers: &mut Buffer<'_>)
+    ensures { Becomes registers.old registers.new (written_all (cond on (room_writes (viewed room.entry) shape at lane) []) (held registers.old)) }
 {
     if on {
         let value = lane_value(room, shape, lane);
-        let tainted = room.either_taint(shape.layout, lane);
+        let tainted = staging::either_taint(room, shape.layout, lane);
         let place = at as usize;
         cell_writes::set_number(registers, place, shape.size, value, tainted);
     }
@@ -77,11 +76,11 @@ fn write_lanes(
     shape: Shape,
     lanes: Lanes,
     positions: &[u32; 32],
-    room: &Room,
+    room: View<'_>,
     registers: &mut Buffer<'_>,
 )
     requires { shape.layout.lanes ≤ 32 }
-    ensures { Becomes registers.old registers.new (written_all (each (room_lane (in_room room.now) shape positions.now) (among (is_on lanes) shape.layout.lanes)) (held registers.old)) }
+    ensures { Becomes registers.old registers.new (written_all (each (room_lane (viewed room.entry) shape positions.now) (among (is_on lanes) shape.layout.lanes)) (held registers.old)) }
 {
     for lane in 0..shape.layout.lanes {
         let index = usize::from(lane);
@@ -105,6 +104,6 @@ pub fn shl(plan: Plan, mask: u32, registers: &mut Buffer<'_>) -> Result<(), Refu
     let left = plan.left;
     let right = plan.right;
     let room = staging::stage_both(registers.view(), left, right, shape.layout.lanes);
-    write_lanes(shape, lanes, &positions, &room, registers);
+    write_lanes(shape, lanes, &positions, room.view(), registers);
     Ok(())
 }

@@ -162,30 +162,6 @@ pub fn stage_with_data(
 }
 
 impl Room {
-    // A lane's element of the first source.
-    pub fn first_number(&self, layout: Layout, lane: u8) -> u64
-        ensures { result ≡ first_number self.now.bytes layout lane }
-    {
-        cell_reads::number_at(&self.bytes, first_place(layout, lane) as usize, layout.first)
-    }
-
-    // A lane's element of the second.
-    pub fn second_number(&self, layout: Layout, lane: u8) -> u64
-        ensures { result ≡ second_number self.now.bytes layout lane }
-    {
-        cell_reads::number_at(&self.bytes, second_place(layout, lane) as usize, layout.second)
-    }
-
-    // Whether a byte of either is tainted.
-    pub fn either_taint(&self, layout: Layout, lane: u8) -> bool
-        ensures { result ≡ either_staged self.now.taint layout lane }
-    {
-        let first = first_place(layout, lane) as usize;
-        let second = second_place(layout, lane) as usize;
-        cell_reads::any_tainted(&self.taint, first, layout.first)
-            | cell_reads::any_tainted(&self.taint, second, layout.second)
-    }
-
     // To be read.
     pub fn view(&self) -> View<'_>
         ensures { viewed result ≡ in_room self.now }
@@ -195,4 +171,28 @@ impl Room {
             taint: &self.taint,
         }
     }
+}
+
+// A lane's element of the first source, in the room.
+pub fn first_number(room: View<'_>, layout: Layout, lane: u8) -> u64
+    ensures { result ≡ first_number room.entry.bytes.now layout lane }
+{
+    cell_reads::number_at(room.bytes, first_place(layout, lane) as usize, layout.first)
+}
+
+// A lane's element of the second.
+pub fn second_number(room: View<'_>, layout: Layout, lane: u8) -> u64
+    ensures { result ≡ second_number room.entry.bytes.now layout lane }
+{
+    cell_reads::number_at(room.bytes, second_place(layout, lane) as usize, layout.second)
+}
+
+// Whether a byte of either is tainted.
+pub fn either_taint(room: View<'_>, layout: Layout, lane: u8) -> bool
+    ensures { result ≡ either_staged room.entry.taint.now layout lane }
+{
+    let first = first_place(layout, lane) as usize;
+    let second = second_place(layout, lane) as usize;
+    cell_reads::any_tainted(room.taint, first, layout.first)
+        | cell_reads::any_tainted(room.taint, second, layout.second)
 }

@@ -2,9 +2,8 @@ use Rattle.std.proofs.Common.{◌-◌}
 use Rattle.cells.specs.Lent.{viewed, Leads}
 use Rattle.cells.specs.Over.{among_from, among, each}
 use Rattle.channels.specs.Mirror.Prepared.{is_on}
-use Rattle.staging.specs.Staged.{in_room}
 use Rattle.gather.specs.Mirror.FromRoom.{room_lane}
 use Rattle.gather.proofs.gather_lanes.Given as goal
 
 abbrev pub invariant-loop-lane : goal.invariant-loop-lane
-invariant-loop-lane l = Leads l.fn.registers l.registers (each (room_lane (in_room l.room) (viewed l.surfaces) l.shape l.positions) (among_from (is_on l.lanes) l.lane (l.shape.layout.lanes - l.lane))) (each (room_lane (in_room l.room) (viewed l.surfaces) l.shape l.positions) (among (is_on l.lanes) l.shape.layout.lanes))
+invariant-loop-lane l = Leads l.fn.registers l.registers (each (room_lane (viewed l.room) (viewed l.surfaces) l.shape l.positions) (among_from (is_on l.lanes) l.lane (l.shape.layout.lanes - l.lane))) (each (room_lane (viewed l.room) (viewed l.surfaces) l.shape l.positions) (among (is_on l.lanes) l.shape.layout.lanes))

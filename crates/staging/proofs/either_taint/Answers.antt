@@ -1,6 +1,6 @@
--- `Room::either_taint` meets its contract: it asks at both places.
+-- `staging::either_taint` meets its contract: it asks at both places.
 use Rattle.staging.proofs.ReadLaws.{either-read}
-use Rattle.staging.proofs.Room.either_taint.Goals as goal
+use Rattle.staging.proofs.either_taint.Goals as goal
 
 pub returns : goal.returns
 returns c =

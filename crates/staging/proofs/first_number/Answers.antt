@@ -1,6 +1,6 @@
--- `Room::first_number` meets its contract: it reads at the lane's place.
+-- `staging::first_number` meets its contract: it reads at the lane's place.
 use Rattle.staging.proofs.ReadLaws.{first_read}
-use Rattle.staging.proofs.Room.first_number.Goals as goal
+use Rattle.staging.proofs.first_number.Goals as goal
 
 pub returns : goal.returns
 returns c = first_read _ _ _ _ _ c.first_place.ensures c.number_at.ensures
