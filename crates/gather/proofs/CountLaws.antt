@@ -1,7 +1,7 @@
 -- How many bytes of a dword are read: at most four, and byte j is read where j is below the count.
 use Rattle.std.proofs.Common.{◌≡◌, ℕ, ◌+◌, ◌-◌, ◌<◌, ◌≤◌, min, Bool, true, false, ◌&&◌, ltb, sym, refl, ◌∙◌, ap₂, arith, ltb-false, ltb-true, le-ltb, lt-ltb}
 use mathlib.Core.Bool.{and-true}
-use Rattle.plan.specs.declared.Plan.{Plan}
+use Rattle.plan.specs.Plan.{Plan}
 use Rattle.gather.specs.declared.Shape.{Shape}
 use Rattle.gather_effect.specs.Gather.{is_read}
 use Rattle.gather.specs.Mirror.FromRoom.{shape_of, bytes_read}

@@ -10,7 +10,7 @@ use Rattle.cells.specs.Effect.{refused, MemoryDone}
 use Rattle.cells.proofs.EffectLaws.{unless-refused, unless-passed, memory-refused}
 use Rattle.channels.specs.Mirror.Prepared.{lanes_of}
 use Rattle.channels.specs.declared.Lanes.{Lanes}
-use Rattle.plan.specs.declared.Plan.{Plan}
+use Rattle.plan.specs.Plan.{Plan}
 use Rattle.staging.specs.Lanes.{lanes_on}
 use Rattle.staging.specs.declared.Layout.{Layout}
 use Rattle.scatter_pairs.specs.declared.Pairs.{Pairs}

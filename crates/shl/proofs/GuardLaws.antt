@@ -18,7 +18,7 @@ use Rattle.exec_byte.specs.Exec.{exec_size}
 use Rattle.channels.specs.Lanes.{lane_on}
 use Rattle.channels.specs.declared.Lanes.{Lanes}
 use Rattle.channels.specs.Mirror.Prepared.{lanes_of, is_on}
-use Rattle.plan.specs.declared.Plan.{Plan}
+use Rattle.plan.specs.Plan.{Plan}
 use Rattle.staging.specs.Lanes.{lanes_on}
 use Rattle.staging.specs.Mirror.Room.{both_staged}
 use Rattle.staging.proofs.LanesOnLaws.{lanes-on-are, prepared-lanes-are}
