@@ -18,7 +18,7 @@ use Rattle.output.specs.Mirror.Page.{page, written}
 use Rattle.output.specs.Output.{answer_line, buffer_lines, output_bytes}
 use Rattle.output.proofs.LengthLaws.{length-answer}
 use Rattle.step.specs.State.{Setup, State, state}
-use Rattle.run.specs.declared.Answer.{Answer}
+use Rattle.run.specs.Answer.{Answer}
 use Rattle.run.specs.Run.{Outcome, outcome, run}
 use Rattle.answering.specs.declared.Form.{Form}
 use Rattle.answering.specs.declared.Form.TheVariants as form

@@ -10,6 +10,7 @@ ghost use Rattle.tally.specs.Mirror.Verdicts.{number_of, position_of};
 ghost use Rattle.output.specs.Mirror.Page.{page, written};
 ghost use Rattle.output.specs.Output.{buffer_lines, output_bytes};
 ghost use Rattle.step.specs.Borrowed.{lent};
+ghost use Rattle.run.specs.Answer.{answer_of};
 ghost use Rattle.run.specs.Run.{outcome, run};
 ghost use Rattle.answering.specs.Mirror.Setting.{taint_of, setup_of};
 ghost use Rattle.answering.specs.Mirror.Forms.{outcome_text, refusal_text};
@@ -19,7 +20,7 @@ ghost use Rattle.answering.specs.Mirror.Bench.{good_output, case_output};
 use feeding::first;
 use refusal::Detail;
 use run::Answer;
-use step::Constants;
+use step::{Constants, Room};
 use tally::Case;
 use tally::Kind;
 use tally::TableViews;
@@ -51,18 +52,18 @@ fn taint_or_zeros<const N: usize>(kind: Kind, case: Case, taint: [u8; N]) -> [u8
 }
 
 // The run, over tables and a kernel that are cut to what was read.
-fn run_case(
+fn run_case<'a>(
     case: Case,
     kernel: &[u8],
     tables: TableViews<'_>,
-    surfaces: &[u8],
-    surface_taint: &[u8],
-    registers: &mut [u8],
-    register_taint: &mut [u8],
-    memory: &mut [u8],
-    memory_taint: &mut [u8],
+    surfaces: &'a [u8],
+    surface_taint: &'a [u8],
+    registers: &'a mut [u8],
+    register_taint: &'a mut [u8],
+    memory: &'a mut [u8],
+    memory_taint: &'a mut [u8],
 ) -> Answer
-    ensures { let s = lent registers register_taint surfaces surface_taint memory memory_taint in (outcome result s.exit ≡ run (setup_of case kernel.now (tables_seen tables.entry)) s.entry) × (result.completed ≤ 4096) × (result.position ≤ 4096) }
+    ensures { let s = lent registers register_taint surfaces surface_taint memory memory_taint in (outcome (answer_of result) s.exit ≡ run (setup_of case kernel.now (tables_seen tables.entry)) s.entry) × (result.completed ≤ 4096) × (result.position ≤ 4096) }
 {
     let constants = Constants {
         base: case.settings.base,
@@ -71,6 +72,14 @@ fn run_case(
     };
     let variables = case.met(Kind::Variable);
     let predicates = case.met(Kind::Predicate);
+    let mut room = Room {
+        registers,
+        register_taint,
+        memory,
+        memory_taint,
+        surfaces,
+        surface_taint,
+    };
     run::run(
         first(kernel, case.length(Kind::Kernel)),
         first(tables.types, variables),
@@ -80,12 +89,7 @@ fn run_case(
         first(tables.predicate_counts, predicates),
         first(tables.surface_lengths, case.met(Kind::Surface)),
         constants,
-        surfaces,
-        surface_taint,
-        registers,
-        register_taint,
-        memory,
-        memory_taint,
+        &mut room,
     )
 }
 

@@ -2,7 +2,8 @@
 use Prim.Native.Nat.{ℕ, zero, suc, ◌+◌, ◌*◌, ◌-◌, ◌≤◌, ◌<◌}
 use mathlib.Core.Path.{◌≡◌, refl, sym, ◌∙◌}
 use mathlib.Core.Bool.{Bool, true, false, ◌&&◌, ◌||◌, or_assoc, or-false}
-use mathlib.Core.List.{List}
+use mathlib.Core.List.{List, [], ◌∷◌}
+use Rattle.std.specs.Int.{w32, from_le_bytes}
 use native.Mathlib.Omega.{arith}
 use lib.Dec.{leb, eqb}
 use lib.ListN.{get_or}
@@ -45,8 +46,8 @@ four-number l at =
     let j : number_at 1 l (at + 3) ≡ get_or l (at + 3) 0 + 256 * number_at 0 l (suc (at + 3)) = number-next 0 l (at + 3) in
     omega (arith, n, m, k, j, number-none l (suc (at + 3)))
 
-pub four-read : (l : List ℕ) (at a b c d : ℕ) → a ≡ get_or l at 0 → b ≡ get_or l (at + 1) 0 → c ≡ get_or l (at + 2) 0 → d ≡ get_or l (at + 3) 0 → a + 256 * b + 65536 * c + 16777216 * d ≡ number_at 4 l at
-four-read l at a b c d p q r s = omega (arith, p, q, r, s, four-number l at)
+pub four-read : (l : List ℕ) (at r wide : ℕ) → r ≡ from_le_bytes w32 (get_or l at 0 ∷ get_or l (at + 1) 0 ∷ get_or l (at + 2) 0 ∷ get_or l (at + 3) 0 ∷ []) → wide ≡ r → wide ≡ number_at 4 l at
+four-read l at r wide p q = omega (arith, p, q, four-number l at)
 
 pub eight-read : (l : List ℕ) (at low high : ℕ) → low ≡ number_at 4 l at → high ≡ number_at 4 l (at + 4) → low + 4294967296 * high ≡ number_at 8 l at
 eight-read l at low high p q =

@@ -1,9 +1,10 @@
 -- Four and eight bytes at once, where they lie inside: what a store of them writes.
-use Prim.Native.Nat.{ℕ, zero, suc, ◌+◌, ◌-◌, ◌/◌, ◌%◌, ◌≤◌, ◌<◌}
-use mathlib.Core.Path.{◌≡◌, sym, ap, ◌∙◌}
-use mathlib.Core.Bool.{Bool, true, ◌&&◌}
+use Prim.Native.Nat.{ℕ, zero, suc, ◌+◌, ◌-◌, ◌*◌, ◌/◌, ◌%◌, ◌≤◌, ◌<◌}
+use mathlib.Core.Path.{◌≡◌, refl, sym, ap, ◌∙◌}
+use mathlib.Core.Bool.{Bool, true, false, ◌&&◌}
 use mathlib.Core.List.{List, ◌++◌}
 use native.Mathlib.Omega.{arith}
+use mir.Val.{bool_byte}
 use lib.Dec.{leb, eqb}
 use lib.ListN.{length, get_or, set}
 use borrow.Author.Tests.{leb-true, eqb-true}
@@ -36,6 +37,12 @@ copy-room b from c to n e =
     }
 
 -- ---- writes
+-- a mark as code makes it
+pub marked_byte : (tainted : Bool) → bool_byte tainted ≡ mark_of tainted
+unfolding mark_of
+marked_byte true = refl
+marked_byte false = refl
+
 module _ (l t l' t' : List ℕ) (at : ℕ) where
   pub four-numbers : (value mark : ℕ) → l' ≡ set (set (set (set l at (value % 256)) (at + 1) (value / 256 % 256)) (at + 2) (value / 256 / 256 % 256)) (at + 3) (value / 256 / 256 / 256 % 256) → t' ≡ set (set (set (set t at mark) (at + 1) mark) (at + 2) mark) (at + 3) mark → buffer l' t' ≡ written_all (number_writes at 4 mark value) (buffer l t)
   unfolding written_all number_writes
@@ -86,17 +93,17 @@ copies-split b (suc m) n from to =
     rw (e, f, g, copies-split b m n (suc from) (suc to))
 
 -- of fours, four are left where one is
-pub four-left : (k count : ℕ) → k < count → k % 4 ≡ 0 → count % 4 ≡ 0 → k + 4 ≤ count
-four-left k count h p q = omega arith
+pub four-left : (i count : ℕ) → i < count / 4 → 4 * i + 4 ≤ count
+four-left i count h = omega arith
 
 -- a turn that copies four of those that are left
-pub fours-turn : (b : Buffer) (from to k count : ℕ) (c c' whole : Buffer) → k + 4 ≤ count → c' ≡ written_all (copy_writes b (from + k) (to + k) 4) c → written_all (copy_writes b (from + k) (to + k) (count - k)) c ≡ whole → written_all (copy_writes b (from + (k + 4)) (to + (k + 4)) (count - (k + 4))) c' ≡ whole
-fours-turn b from to k count c c' whole h made e =
-    let n : count - k ≡ 4 + (count - (k + 4)) = omega arith in
-    let f : from + (k + 4) ≡ from + k + 4 = omega arith in
-    let g : to + (k + 4) ≡ to + k + 4 = omega arith in
-    let e' : written_all (copy_writes b (from + k) (to + k) 4 ++ copy_writes b (from + k + 4) (to + k + 4) (count - (k + 4))) c ≡ whole = rw (n, copies-split b 4 (count - (k + 4)) (from + k) (to + k)) at e in
-    rw (f, g, made) (sym (written-append (copy_writes b (from + k) (to + k) 4) (copy_writes b (from + k + 4) (to + k + 4) (count - (k + 4))) c) ∙ e')
+pub fours-turn : (b : Buffer) (from to i count : ℕ) (c c' whole : Buffer) → i < count / 4 → c' ≡ written_all (copy_writes b (from + 4 * i) (to + 4 * i) 4) c → written_all (copy_writes b (from + 4 * i) (to + 4 * i) (count - 4 * i)) c ≡ whole → written_all (copy_writes b (from + 4 * (i + 1)) (to + 4 * (i + 1)) (count - 4 * (i + 1))) c' ≡ whole
+fours-turn b from to i count c c' whole h made e =
+    let n : count - 4 * i ≡ 4 + (count - 4 * (i + 1)) = omega arith in
+    let f : from + 4 * (i + 1) ≡ from + 4 * i + 4 = omega arith in
+    let g : to + 4 * (i + 1) ≡ to + 4 * i + 4 = omega arith in
+    let e' : written_all (copy_writes b (from + 4 * i) (to + 4 * i) 4 ++ copy_writes b (from + 4 * i + 4) (to + 4 * i + 4) (count - 4 * (i + 1))) c ≡ whole = rw (n, copies-split b 4 (count - 4 * (i + 1)) (from + 4 * i) (to + 4 * i)) at e in
+    rw (f, g, made) (sym (written-append (copy_writes b (from + 4 * i) (to + 4 * i) 4) (copy_writes b (from + 4 * i + 4) (to + 4 * i + 4) (count - 4 * (i + 1))) c) ∙ e')
 
 -- with the marks that were worked out
 module _ (l t l' t' : List ℕ) (at : ℕ) where

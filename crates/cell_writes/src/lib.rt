@@ -7,12 +7,6 @@ ghost use Rattle.cells.specs.Buffer.{buffer, mark_of};
 ghost use Rattle.cells.specs.Writes.{written, written_all, number_writes, copy_writes};
 ghost use Rattle.cell_writes.specs.Mirror.CopyRoom.{CopyRoom, copy_room};
 
-fn mark_of(tainted: bool) -> u8
-    ensures { result ≡ mark_of tainted }
-{
-    if tainted { 1 } else { 0 }
-}
-
 fn set_past(bytes: &mut [u8], at: usize, k: usize, value: u8)
     ensures { bytes.new ≡ set bytes.old (at + k) value }
 {
@@ -25,7 +19,7 @@ fn set_byte_past(bytes: &mut [u8], taint: &mut [u8], at: usize, k: usize, value:
     ensures { buffer bytes.new taint.new ≡ written (record { at = at + k; value = value; mark = mark_of tainted }) (buffer bytes.old taint.old) }
 {
     set_past(bytes, at, k, value);
-    set_past(taint, at, k, mark_of(tainted));
+    set_past(taint, at, k, u8::from(tainted));
 }
 
 // Four bytes that are there.
@@ -43,7 +37,7 @@ fn set_dword(bytes: &mut [u8], taint: &mut [u8], at: usize, value: u64, tainted:
     requires { (at + 4 ≤ length bytes.old) × (at + 4 ≤ length taint.old) }
     ensures { buffer bytes.new taint.new ≡ written_all (number_writes at 4 (mark_of tainted) value) (buffer bytes.old taint.old) }
 {
-    let mark = mark_of(tainted);
+    let mark = u8::from(tainted);
     let first = (value % 256) as u8;
     let second = (value / 256 % 256) as u8;
     let third = (value / 256 / 256 % 256) as u8;
@@ -71,11 +65,9 @@ fn set_any_number(
     ensures { buffer bytes.new taint.new ≡ written_all (number_writes at size (mark_of tainted) value) (buffer bytes.old taint.old) }
 {
     let mut rest = value;
-    let mut k: u8 = 0;
-    while k < size {
-        set_byte_past(bytes, taint, at, k as usize, (rest % 256) as u8, tainted);
-        rest = rest / 256;
-        k += 1;
+    for k in 0..size {
+        set_byte_past(bytes, taint, at, usize::from(k), (rest % 256) as u8, tainted);
+        rest /= 256;
     }
 }
 
@@ -90,7 +82,7 @@ pub fn set_number(
 )
     ensures { buffer bytes.new taint.new ≡ written_all (number_writes at size (mark_of tainted) value) (buffer bytes.old taint.old) }
 {
-    let count = size as usize;
+    let count = usize::from(size);
     let room = cell_reads::has_room(bytes.len(), at, count)
         & cell_reads::has_room(taint.len(), at, count);
     if room & (size == 4) {
@@ -123,10 +115,10 @@ fn copy_four(
         from[source_at + 2],
         from[source_at + 3],
     );
-    let first = mark_of(cell_reads::is_tainted(from_taint[source_at]));
-    let second = mark_of(cell_reads::is_tainted(from_taint[source_at + 1]));
-    let third = mark_of(cell_reads::is_tainted(from_taint[source_at + 2]));
-    let fourth = mark_of(cell_reads::is_tainted(from_taint[source_at + 3]));
+    let first = u8::from(cell_reads::is_tainted(from_taint[source_at]));
+    let second = u8::from(cell_reads::is_tainted(from_taint[source_at + 1]));
+    let third = u8::from(cell_reads::is_tainted(from_taint[source_at + 2]));
+    let fourth = u8::from(cell_reads::is_tainted(from_taint[source_at + 3]));
     set_four(taint, at, first, second, third, fourth);
 }
 
@@ -142,10 +134,8 @@ fn copy_fours(
     requires { CopyRoom (buffer from.now from_taint.now) source_at (buffer bytes.old taint.old) at count × (count % 4 ≡ 0) }
     ensures { buffer bytes.new taint.new ≡ written_all (copy_writes (buffer from.now from_taint.now) source_at at count) (buffer bytes.old taint.old) }
 {
-    let mut k: usize = 0;
-    while k < count {
-        copy_four(from, from_taint, source_at + k, bytes, taint, at + k);
-        k += 4;
+    for four in 0..count / 4 {
+        copy_four(from, from_taint, source_at + 4 * four, bytes, taint, at + 4 * four);
     }
 }
 
@@ -160,12 +150,10 @@ fn copy_any(
 )
     ensures { buffer bytes.new taint.new ≡ written_all (copy_writes (buffer from.now from_taint.now) source_at at count) (buffer bytes.old taint.old) }
 {
-    let mut k: usize = 0;
-    while k < count {
+    for k in 0..count {
         let value = cell_reads::byte_past(from, source_at, k);
         let tainted = cell_reads::is_tainted(cell_reads::byte_past(from_taint, source_at, k));
         set_byte_past(bytes, taint, at, k, value, tainted);
-        k += 1;
     }
 }
 

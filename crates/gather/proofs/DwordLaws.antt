@@ -6,7 +6,7 @@ use Rattle.cells.specs.Element.{element}
 use Rattle.cells.specs.Writes.{written_all, number_writes, copy_writes}
 use Rattle.cells.proofs.NumberLaws.{number-none, number-next, element-is}
 use Rattle.cells.proofs.WriteLaws.{written-append}
-use Rattle.plan.specs.declared.Plan.{Plan}
+use Rattle.plan.specs.Plan.{Plan}
 use Rattle.gather_effect.specs.Gather.{is_read, gathered_byte, gather_writes}
 use Rattle.gather.specs.Mirror.FromRoom.{dword_writes}
 use Rattle.gather_effect.proofs.MarkLaws.{doubtful-mark, zero-mark, zero-byte, read-mark, read_byte}

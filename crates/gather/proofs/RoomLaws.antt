@@ -5,7 +5,7 @@ use Rattle.cells.specs.Buffer.{Buffer}
 use Rattle.cells.specs.Writes.{written_all}
 use Rattle.exec_byte.specs.Exec.{exec_size, exec_of}
 use Rattle.exec_byte.specs.declared.Exec.{Exec}
-use Rattle.plan.specs.declared.Plan.{Plan}
+use Rattle.plan.specs.Plan.{Plan}
 use Rattle.staging.specs.declared.Layout.{Layout}
 use Rattle.staging.specs.Sources.{element_value, either_tainted}
 use Rattle.staging.specs.Mirror.Room.{layout_of, elements_fit, both_staged, either_staged}

@@ -2,7 +2,7 @@
 
 #![tactic(auto)]
 
-ghost use Rattle.std.specs.Prelude.{◌≡◌, ◌%◌, ◌≤◌, min, [], if◌then◌else◌};
+ghost use Rattle.std.specs.Prelude.{◌≡◌, ◌%◌, ◌≤◌, [], if◌then◌else◌};
 ghost use Rattle.cells.specs.Buffer.{buffer};
 ghost use Rattle.cells.specs.Writes.{written_all};
 ghost use Rattle.cells.specs.Over.{among, each};
@@ -13,6 +13,7 @@ ghost use Rattle.gather.specs.Mirror.Guarded.{gather_fits, gather_guarded};
 
 use channels::Lanes;
 use plan::Plan;
+use refusal::Refusal;
 use staging::Layout;
 
 // Whether the offsets have room, and are dwords at most.
@@ -61,25 +62,16 @@ fn address_of(bytes: &[u8], layout: Layout, lane: u8) -> u32
 {
     let offset = low_dword(staging::first_number(bytes, layout, lane));
     let element_offset = low_dword(staging::second_number(bytes, layout, lane));
-    std::num::wrapping_add_u32(offset, element_offset)
-}
-
-fn smaller(a: u32, b: u32) -> u32
-    ensures { result ≡ min a b }
-{
-    if a < b { a } else { b }
+    offset.wrapping_add(element_offset)
 }
 
 // How many bytes of the dword are read: those of the block that lie before the surface's end.
+#[tactic(auto, unfolding(crate::specs::Mirror::FromRoom::bytes_read))]
 fn bytes_read(shape: Shape, address: u32) -> u8
     ensures { result ≡ bytes_read shape address }
 {
-    let block = smaller(shape.block as u32, 4);
-    if address < shape.length {
-        smaller(block, shape.length - address) as u8
-    } else {
-        0
-    }
+    let left = shape.length.saturating_sub(address);
+    u32::from(shape.block).min(4).min(left) as u8
 }
 
 // The dword of one lane, to the registers from a byte on. So many of its bytes are read from a position on, and the others are zeros.
@@ -101,7 +93,7 @@ fn write_dword(
         let value = cell_reads::number_at(surfaces, from, count);
         cell_writes::set_number(registers, register_taint, place, 4, value, true);
     } else {
-        let length = count as usize;
+        let length = usize::from(count);
         cell_writes::copy(
             surfaces,
             surface_taint,
@@ -171,10 +163,8 @@ fn gather_lanes(
     requires { shape.layout.lanes ≤ 32 }
     ensures { buffer registers.new register_taint.new ≡ written_all (each (room_lane (buffer bytes.now taint.now) (buffer surfaces.now surface_taint.now) shape positions.now) (among (is_on lanes) shape.layout.lanes)) (buffer registers.old register_taint.old) }
 {
-    let size = shape.layout.lanes;
-    let mut lane: u8 = 0;
-    while lane < size {
-        let index = lane as usize;
+    for lane in 0..shape.layout.lanes {
+        let index = usize::from(lane);
         let on = lanes.on(index);
         let at = positions[index];
         gather_lane(
@@ -189,11 +179,10 @@ fn gather_lanes(
             registers,
             register_taint,
         );
-        lane += 1;
     }
 }
 
-// Number 0, or 7 with nothing written for a plan that no check makes.
+// Refused, with nothing written, is only a plan that no check makes.
 pub fn gather(
     plan: Plan,
     mask: u32,
@@ -201,11 +190,11 @@ pub fn gather(
     register_taint: &mut [u8],
     surfaces: &[u8],
     surface_taint: &[u8],
-) -> u8
+) -> Result<(), Refusal>
     ensures { RegistersDone (gather_guarded mask plan (buffer registers.old register_taint.old) (buffer surfaces.now surface_taint.now)) result (buffer registers.old register_taint.old) (buffer registers.new register_taint.new) }
 {
     if !fits(plan) {
-        return 7;
+        return Err(Refusal::Outside);
     }
     let shape = shape_of(plan);
     let control = plan.control;
@@ -227,5 +216,5 @@ pub fn gather(
         registers,
         register_taint,
     );
-    0
+    Ok(())
 }

@@ -6,7 +6,7 @@ use Prim.Native.Nat.{ℕ, zero, suc, ◌+◌, ◌*◌, ◌/◌, ◌%◌, ◌-◌
 use native.Mathlib.Omega.{arith}
 use lib.ListN.{length, get_or, drop, length-drop, get_or-eq_default}
 use Rattle.little_endian.specs.LittleEndian.{number_at}
-use Rattle.little_endian.proofs.Laws.{number_more}
+use Rattle.std.specs.Int.{w16, w32, w64, from_le_bytes}
 use Rattle.hex_text.specs.Digits.{digit_of, character_of}
 use Rattle.hex_text.specs.Bytes.{is_hex, hex_bytes, hex_of}
 use Rattle.hex_text.proofs.DigitLaws.{digit-character}
@@ -42,11 +42,29 @@ length_rest line n = length-drop n (hex_bytes line) ∙ ap (λ (m : ℕ). m - n)
 pub no-rest : (line : List ℕ) (n : ℕ) → length line / 2 ≤ n → length (drop n (hex_bytes line)) ≡ 0
 no-rest line n h = length_rest line n ∙ omega arith
 
-pub number-four : (l : List ℕ) (at : ℕ) → number_at 4 l at ≡ number_at 2 l at + 65536 * number_at 2 l (at + 2)
-number-four l at = number_more 2 2 l at
+-- numbers of the same bytes
+pub number_same : (n : ℕ) (a b : List ℕ) (i j : ℕ) → ((k : ℕ) → k < n → get_or a (i + k) 0 ≡ get_or b (j + k) 0) → number_at n a i ≡ number_at n b j
+unfolding number_at
+number_same zero a b i j same = refl
+number_same (suc n) a b i j same =
+    let first : get_or a (i + 0) 0 ≡ get_or b (j + 0) 0 = same 0 (omega arith) in
+    let rest : number_at n a (suc i) ≡ number_at n b (suc j) =
+    number_same n a b (suc i) (suc j) (λ k h. let e : i + suc k ≡ suc i + k = omega arith in let f : j + suc k ≡ suc j + k = omega arith in rw (← e, ← f) (same (suc k) (omega arith))) in
+    let p : i + 0 ≡ i = omega arith in
+    let q : j + 0 ≡ j = omega arith in
+    cc
 
-pub number-eight : (l : List ℕ) (at : ℕ) → number_at 8 l at ≡ number_at 4 l at + 4294967296 * number_at 4 l (at + 4)
-number-eight l at = number_more 4 4 l at
+pub le_number_2 : (bs : List ℕ) → from_le_bytes w16 bs ≡ number_at 2 bs 0
+unfolding number_at
+le_number_2 bs = omega arith
+
+pub le_number_4 : (bs : List ℕ) → from_le_bytes w32 bs ≡ number_at 4 bs 0
+unfolding number_at
+le_number_4 bs = omega arith
+
+pub le_number_8 : (bs : List ℕ) → from_le_bytes w64 bs ≡ number_at 8 bs 0
+unfolding number_at
+le_number_8 bs = omega arith
 
 -- reading what was written for bytes gives the bytes
 pub hex-again : (bs : List ℕ) → ((k : ℕ) → get_or bs k 0 < 256) → hex_bytes (hex_of bs) ≡ bs

@@ -1,12 +1,12 @@
 -- Digits and their values undo each other; a digit's value is below 16.
-use mathlib.Core.Path.{◌≡◌, refl, sym}
+use mathlib.Core.Path.{◌≡◌, refl, sym, ap, ◌∙◌}
 use mathlib.Core.Bool.{Bool, true, false, cond, ◌&&◌, true≢false}
-use mathlib.Core.List.{List}
+use mathlib.Core.List.{List, [], ◌∷◌, ◌++◌}
 use Prim.Native.Nat.{ℕ, ◌+◌, ◌-◌, ◌≤◌, ◌<◌}
 use native.Mathlib.Omega.{arith}
-use native.Mathlib.Numerals.{add-one}
-use lib.ListN.{length, get_or, drop, drop_of_length-le}
-use lib.Seq.{drop-cons}
+use lib.ListN.{length, get_or, take}
+use Rattle.std.proofs.Math.Bool.{and_assoc, and-true}
+use Rattle.std.proofs.lemmas.List.{take_more}
 use lib.Dec.{leb, ltb}
 use borrow.Author.Tests.{leb-true, ltb-true, ltb-false, le-leb, lt-leb, lt-ltb}
 use Rattle.hex_text.specs.Digits.{is_decimal, is_letter, is_digit, digit_of, all_digits, character_of}
@@ -52,11 +52,11 @@ digit-character v h =
     rw (lt-ltb v 16 h, le-leb 48 (97 + (v - 10)) (omega arith), lt-leb (97 + (v - 10)) 57 (omega arith), le-leb 97 (97 + (v - 10)) (omega arith), le-leb (97 + (v - 10)) 102 (omega arith))
     (omega arith))
 
--- the rest of a line, when one more character was seen
-pub digits-turn : (line : List ℕ) (i : ℕ) → i < length line → all_digits (drop i line) ≡ (is_digit (get_or line i 0) && all_digits (drop (i + 1) line))
+digits-append : (xs : List ℕ) (c : ℕ) → all_digits (xs ++ (c ∷ [])) ≡ (all_digits xs && is_digit c)
 unfolding all_digits
-digits-turn line i h = rw (add-one i, drop-cons line i 0 h)
+digits-append [] c = and-true (is_digit c)
+digits-append (x ∷ xs) c = ap (λ b. is_digit x && b) (digits-append xs c) ∙ sym (and_assoc (is_digit x) (all_digits xs) (is_digit c))
 
-pub digits-over : (line : List ℕ) (i : ℕ) → length line ≤ i → all_digits (drop i line) ≡ true
-unfolding all_digits
-digits-over line i h = rw (drop_of_length-le line h)
+-- one more character of a line
+pub digits_more : (line : List ℕ) (i : ℕ) → i < length line → all_digits (take (i + 1) line) ≡ (all_digits (take i line) && is_digit (get_or line i 0))
+digits_more line i h = rw (take_more line i 0 h) (digits-append (take i line) (get_or line i 0))

@@ -6,7 +6,9 @@ use Prim.Native.Nat.{ℕ, suc, ◌+◌, ◌-◌, ◌<◌, ◌≤◌}
 use native.Mathlib.Omega.{arith}
 use native.Mathlib.Numerals.{add-one}
 use lib.ListN.{length, get_or, set, take, drop, length-set, length-drop, drop_of_length-le}
-use lib.Seq.{sets, sets-eq, drop-cons}
+use lib.Seq.{sets, sets-eq, drop-cons, drop-drop}
+use borrow.Rule.Slice.PartMut.{put_mid}
+use Rattle.std.proofs.Common.{append_assoc}
 use borrow.Author.Tests.{le-leb, lt-leb, leb-true}
 use Rattle.hex_text.specs.Storing.{placed, fits, stored}
 
@@ -23,6 +25,10 @@ placed-sets buffer at (b ∷ bs) = placed-sets (set buffer at b) (suc at) bs
 -- where there is room, the bytes stand at their place, and nothing else changes
 pub placed-is : (buffer : List ℕ) (at : ℕ) (bs : List ℕ) → at + length bs ≤ length buffer → placed buffer at bs ≡ take at buffer ++ bs ++ drop (at + length bs) buffer
 placed-is buffer at bs h = placed-sets buffer at bs ∙ sets-eq bs buffer at h
+
+-- the same of a copy to a part of the buffer
+pub copied : (buffer bs : List ℕ) (at k : ℕ) → k ≡ length bs → at + length bs ≤ length buffer → put_mid at k buffer bs ≡ placed buffer at bs
+copied buffer bs at k e h = rw (placed-is buffer at bs h, drop-drop k at buffer, e) (sym (append_assoc (take at buffer) bs (drop (at + length bs) buffer)))
 
 -- one byte more of those from i on
 pub placed-turn : (bs buffer : List ℕ) (i at v : ℕ) → i < length bs → v ≡ get_or bs i 0 → placed (set buffer at v) (at + 1) (drop (i + 1) bs) ≡ placed buffer at (drop i bs)

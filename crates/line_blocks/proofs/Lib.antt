@@ -1,4 +1,3 @@
-pub mod TakeLaws
 pub mod PushLaws
 pub mod PartLaws
 pub mod RowLaws

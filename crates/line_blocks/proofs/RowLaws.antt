@@ -45,15 +45,6 @@ take_more (suc n) (c ∷ line) more h = ap (λ (l : List ℕ). c ∷ l) (take_mo
 length_more : (line : List ℕ) (b : ℕ) → length (line ++ (b ∷ [])) ≡ suc (length line)
 length_more line b = length-append line (b ∷ []) ∙ omega arith
 
--- one character more, with room for it and without
-pub pushed-inside : (b : ℕ) (w v : Row) → w.used < length w.line → v ≡ row (set w.line w.used b) (w.used + 1) w.long → v ≡ pushed b w
-unfolding pushed
-pushed-inside b w v h e = rw (lt-ltb w.used (length w.line) h) e
-
-pub pushed-over : (b : ℕ) (w v : Row) → length w.line ≤ w.used → v ≡ row w.line w.used true → v ≡ pushed b w
-unfolding pushed
-pushed-over b w v h e = rw (le-ltb w.used (length w.line) h) e
-
 module _ (b : ℕ) (w : Row) (line : List ℕ) where
   abbrev Grown : Row → Type 0
   Grown v = (length v.line ≡ length w.line) × (Whole v (line ++ (b ∷ [])) ⊎ Cut v (line ++ (b ∷ [])))

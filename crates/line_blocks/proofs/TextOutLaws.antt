@@ -8,7 +8,7 @@ use native.Mathlib.Omega.{arith}
 use native.Mathlib.Numerals.{add-one}
 use lib.ListN.{length, get_or, take, drop, drop_of_length-le}
 use lib.Seq.{drop-cons, drop-drop}
-use lib.Dec.{eqb, ltb, eqb-suc-zero}
+use lib.Dec.{eqb, eqb-suc-zero}
 use borrow.Author.Tests.{lt-ltb, eq-eqb}
 use Rattle.line_blocks.specs.LinesOf.{lines_from, lines_of}
 use Rattle.line_blocks.specs.Mirror.Rows.{Row, row, is_begun, pushed, all_pushed, line_length}

@@ -2,19 +2,14 @@
 
 #![tactic(auto)]
 
-ghost use Rattle.std.specs.Prelude.{◌≡◌, cond, [], ◌+◌, ◌≤◌, length, take, drop};
-ghost use Rattle.hex_text.specs.Storing.{placed};
+ghost use Rattle.std.specs.Prelude.{◌≡◌, ◌==◌, false, cond, [], ◌+◌, take, drop, position};
 ghost use Rattle.line_blocks.specs.Mirror.Rows.{row, is_begun, pushed, all_pushed, line_length};
 
 // The first bytes of a buffer; all of them if there are fewer.
 pub fn first_bytes(buffer: &[u8], count: usize) -> &[u8]
     ensures { result.now ≡ take count buffer.now }
 {
-    if count <= buffer.len() {
-        &buffer[..count]
-    } else {
-        buffer
-    }
+    buffer.get(..count).unwrap_or(buffer)
 }
 
 // Of the line begun, how many characters stand in the line buffer, and whether there were more.
@@ -24,88 +19,97 @@ pub struct Begun {
     pub long: bool,
 }
 
-// One more character of the line begun.
-fn push(line: &mut [u8], byte: u8, used: usize, long: bool) -> Begun
-    ensures { row line.new result.used result.long ≡ pushed byte (row line.old used long) }
-{
-    if used < line.len() {
-        line[used] = byte;
+impl Begun {
+    // No character of the next line.
+    pub fn nothing() -> Begun
+        ensures { result ≡ record { used = 0; long = false } }
+    {
         Begun {
-            used: used + 1,
-            long,
+            used: 0,
+            long: false,
+        }
+    }
+
+    // Whether a line is begun that has no end yet.
+    #[tactic(auto, unfolding(crate::specs::Mirror::Rows::is_begun))]
+    pub fn is_begun(self) -> bool
+        ensures { result ≡ is_begun self.used self.long }
+    {
+        self.long || 0 < self.used
+    }
+}
+
+// One more character of the line begun.
+#[tactic(auto, unfolding(crate::specs::Mirror::Rows::pushed))]
+fn push(line: &mut [u8], byte: u8, begun: Begun) -> Begun
+    ensures { row line.new result.used result.long ≡ pushed byte (row line.old begun.used begun.long) }
+{
+    if begun.used < line.len() {
+        line[begun.used] = byte;
+        Begun {
+            used: begun.used + 1,
+            ..begun
         }
     } else {
-        Begun { used, long: true }
+        Begun {
+            long: true,
+            ..begun
+        }
     }
 }
 
 // The same of several characters.
-fn push_each(line: &mut [u8], characters: &[u8], used: usize, long: bool) -> Begun
-    ensures { row line.new result.used result.long ≡ all_pushed characters.now (row line.old used long) }
+#[tactic(auto, using(crate::proofs::PushLaws::each_none, crate::proofs::PushLaws::each_more))]
+fn push_each(line: &mut [u8], characters: &[u8], mut begun: Begun) -> Begun
+    ensures { row line.new result.used result.long ≡ all_pushed characters.now (row line.old begun.used begun.long) }
 {
-    let mut count = used;
-    let mut more = long;
-    let mut i = 0;
-    while i < characters.len() {
-        let begun = push(line, characters[i], count, more);
-        count = begun.used;
-        more = begun.long;
-        i += 1;
+    for byte in characters {
+        begun = push(line, *byte, begun);
     }
-    Begun {
-        used: count,
-        long: more,
-    }
+    begun
 }
 
-// Characters for which there is room: a loop that asks nothing takes several at a time.
-fn copy(line: &mut [u8], characters: &[u8], at: usize)
-    requires { at + length characters.now ≤ length line.old }
-    ensures { line.new ≡ placed line.old at characters.now }
+// Several characters at once: a copy where there is room for all of them.
+#[tactic(auto, using(crate::proofs::PushLaws::copied_pushed))]
+pub fn push_all(line: &mut [u8], characters: &[u8], begun: Begun) -> Begun
+    ensures { row line.new result.used result.long ≡ all_pushed characters.now (row line.old begun.used begun.long) }
 {
-    let mut i = 0;
-    while i < characters.len() {
-        line[at + i] = characters[i];
-        i += 1;
+    if begun.used > line.len() || characters.len() > line.len() - begun.used {
+        return push_each(line, characters, begun);
     }
-}
-
-// Several characters at once.
-pub fn push_all(line: &mut [u8], characters: &[u8], used: usize, long: bool) -> Begun
-    ensures { row line.new result.used result.long ≡ all_pushed characters.now (row line.old used long) }
-{
-    if used <= line.len() {
-        if characters.len() <= line.len() - used {
-            copy(line, characters, used);
-            Begun {
-                used: used + characters.len(),
-                long,
-            }
-        } else {
-            push_each(line, characters, used, long)
-        }
-    } else {
-        push_each(line, characters, used, long)
-    }
+    let end = begun.used + characters.len();
+    line[begun.used..end].copy_from_slice(characters);
+    Begun { used: end, ..begun }
 }
 
 // What the end of a text is read as: as the end of the line that is begun, or as nothing.
-pub fn last_end(end: &[u8], used: usize, long: bool) -> &[u8]
-    ensures { result.now ≡ cond (is_begun used long) end.now [] }
+pub fn last_end(end: &[u8], begun: Begun) -> &[u8]
+    ensures { result.now ≡ cond (is_begun begun.used begun.long) end.now [] }
 {
-    if long | (0 < used) { end } else { &end[..0] }
+    if begun.is_begun() { end } else { &end[..0] }
+}
+
+// The place of the first 0x0a of a text.
+fn first_end(text: &[u8]) -> Option<usize>
+    ensures { result ≡ position (λ b. b == 10) text.now }
+{
+    text.iter().position(|byte| *byte == b'\n')
+}
+
+// How many characters stand before the first 0x0a; all of them if there is none.
+fn line_length(text: &[u8]) -> usize
+    ensures { result ≡ line_length text.now }
+{
+    first_end(text).unwrap_or(text.len())
 }
 
 // The place of the next 0x0a in a block; the block's end if there is none, and `from` past it.
+#[tactic(auto, using(crate::proofs::PartLaws::line_inside, crate::proofs::PartLaws::end_past))]
 pub fn line_end(block: &[u8], from: usize) -> usize
     ensures { result ≡ from + line_length (drop from block.now) }
 {
-    let mut i = from;
-    while i < block.len() {
-        if block[i] == b'\n' {
-            return i;
-        }
-        i += 1;
+    match block.get(from..) {
+        Some(rest) => from + line_length(rest),
+        None => from,
     }
-    i
 }

@@ -1,33 +1,31 @@
 -- Lines, written part by part.
 use mathlib.Core.Path.{◌≡◌, refl}
 use mathlib.Core.List.{List, [], ◌∷◌, ◌++◌}
-use Prim.Native.Nat.{ℕ, suc, ◌+◌, ◌≤◌, ◌<◌}
-use native.Mathlib.Numerals.{add-one}
-use lib.ListN.{length, get_or, drop, drop_of_length-le}
-use lib.Seq.{drop-cons}
+use Prim.Native.Nat.{ℕ, ◌+◌, ◌<◌}
+use lib.ListN.{length, get_or, take}
 use Rattle.little_endian.specs.LittleEndian.{bytes_of}
 use Rattle.little_endian.proofs.Laws.{bytes_one}
 use Rattle.hex_text.specs.Bytes.{hex_of}
-use Rattle.hex_text.proofs.ByteLaws.{hex-none}
+use Rattle.hex_text.proofs.ByteLaws.{hex-none, hex-append}
 use Rattle.output.specs.Mirror.Page.{Page, written}
 use Rattle.output.specs.Output.{line_of, answer_line, content_line, memory_line, buffer_lines}
-use Rattle.output.proofs.PageLaws.{written_then}
+use Rattle.output.proofs.PageLaws.{written-append, written_then}
+use Rattle.std.proofs.lemmas.List.{take_more}
 use Rattle.output.proofs.NumberLaws.{hex-then}
 
 pub line-written : (bytes : List ℕ) (p q r : Page) → q ≡ written (hex_of bytes) p → r ≡ written (10 ∷ []) q → r ≡ written (line_of bytes) p
 unfolding line_of
 line-written bytes p q r = written_then (hex_of bytes) (10 ∷ []) (hex_of bytes ++ (10 ∷ [])) p q r refl
 
-pub answer-written : (number completed position : ℕ) (p q r s t u : Page) →
-    q ≡ written (hex_of (64 ∷ [])) p → r ≡ written (hex_of (number ∷ [])) q → s ≡ written (hex_of (bytes_of 2 completed)) r → t ≡ written (hex_of (bytes_of 4 position)) s → u ≡ written (10 ∷ []) t →
-    u ≡ written (answer_line number completed position) p
+pub answer-written : (number completed position : ℕ) (p q r s t : Page) →
+    q ≡ written (hex_of (64 ∷ number ∷ [])) p → r ≡ written (hex_of (bytes_of 2 completed)) q → s ≡ written (hex_of (bytes_of 4 position)) r → t ≡ written (10 ∷ []) s →
+    t ≡ written (answer_line number completed position) p
 unfolding answer_line
-answer-written number completed position p q r s t u a b c d e =
+answer-written number completed position p q r s t a b c d =
     rw (bytes_one number)
-    (line-written (64 ∷ number ∷ bytes_of 2 completed ++ bytes_of 4 position) p t u
-    (hex-then (64 ∷ []) (number ∷ bytes_of 2 completed ++ bytes_of 4 position) p q t a
-    (hex-then (number ∷ []) (bytes_of 2 completed ++ bytes_of 4 position) q r t b
-    (hex-then (bytes_of 2 completed) (bytes_of 4 position) r s t c d))) e)
+    (line-written (64 ∷ number ∷ bytes_of 2 completed ++ bytes_of 4 position) p s t
+    (hex-then (64 ∷ number ∷ []) (bytes_of 2 completed ++ bytes_of 4 position) p q s a
+    (hex-then (bytes_of 2 completed) (bytes_of 4 position) q r s b c)) d)
 
 pub content-written : (kind : ℕ) (bytes : List ℕ) (p q r s : Page) →
     q ≡ written (hex_of (kind ∷ [])) p → r ≡ written (hex_of bytes) q → s ≡ written (10 ∷ []) r → s ≡ written (content_line kind bytes) p
@@ -53,12 +51,10 @@ buffers-written base registers memory register_taint memory_taint p q r s t a b 
     written_then (x ++ y ++ z) w (x ++ y ++ z ++ w) p s t refl
     (written_then (x ++ y) z (x ++ y ++ z) p r s refl (written_then x y (x ++ y) p q r refl a b) c) d
 
--- one byte more of those from i on
-pub bytes-turn : (bytes : List ℕ) (i : ℕ) (p q : Page) → i < length bytes → q ≡ written (hex_of (get_or bytes i 0 ∷ [])) p → written (hex_of (drop (i + 1) bytes)) q ≡ written (hex_of (drop i bytes)) p
-bytes-turn bytes i p q h e =
-    rw (add-one i, drop-cons bytes i 0 h)
-    (hex-then (get_or bytes i 0 ∷ []) (drop (suc i) bytes) p q (written (hex_of (drop (suc i) bytes)) q) e refl)
-
-pub bytes-over : (bytes : List ℕ) (i : ℕ) (p : Page) → length bytes ≤ i → written (hex_of (drop i bytes)) p ≡ p
+-- bytes, one after the other
+pub bytes_none : (p : Page) → written (hex_of []) p ≡ p
 unfolding written
-bytes-over bytes i p h = rw (drop_of_length-le bytes h, hex-none)
+bytes_none p = rw hex-none
+
+pub bytes_more : (bytes : List ℕ) (i : ℕ) (p : Page) → i < length bytes → written (hex_of (take (i + 1) bytes)) p ≡ written (hex_of (get_or bytes i 0 ∷ [])) (written (hex_of (take i bytes)) p)
+bytes_more bytes i p h = rw (take_more bytes i 0 h, hex-append (take i bytes) (get_or bytes i 0 ∷ [])) (written-append (hex_of (take i bytes)) (hex_of (get_or bytes i 0 ∷ [])) p)

@@ -1,6 +1,7 @@
 -- The whole output: the 40 line, and the buffers unless the number is 13 or 14.
 use mathlib.Core.Path.{◌≡◌, sym, ap, ◌∙◌}
 use mathlib.Core.Bool.{cond, true, false, ◌||◌}
+use mathlib.Core.Logic.{◌⊎◌, ⊎_elim}
 use mathlib.Core.List.{List, [], ◌++◌, append-nil}
 use Prim.Native.Nat.{ℕ}
 use borrow.Author.Tests.{eq-eqb, ne_eqb}
@@ -14,8 +15,8 @@ use Rattle.output.proofs.PageLaws.{written_then, written-whole}
 thirteen : (number : ℕ) → number ≡ 13 → (eqb number 13 || eqb number 14) ≡ true
 thirteen number e = rw (eq-eqb number 13 e)
 
-fourteen : (number : ℕ) → (number ≡ 13 → ⊥) → number ≡ 14 → (eqb number 13 || eqb number 14) ≡ true
-fourteen number f e = rw (ne_eqb number 13 f, eq-eqb number 14 e)
+fourteen : (number : ℕ) → number ≡ 14 → (eqb number 13 || eqb number 14) ≡ true
+fourteen number e = rw e
 
 neither : (number : ℕ) → (number ≡ 13 → ⊥) → (number ≡ 14 → ⊥) → (eqb number 13 || eqb number 14) ≡ false
 neither number f g = rw (ne_eqb number 13 f, ne_eqb number 14 g)
@@ -24,22 +25,15 @@ only-answer : (number completed position : ℕ) (buffers : List ℕ) → (eqb nu
 unfolding output_bytes
 only-answer number completed position buffers e = rw e (sym (append-nil (answer_line number completed position)))
 
-answer-only : (number completed position : ℕ) (buffers : List ℕ) (p q : Page) → (eqb number 13 || eqb number 14) ≡ true →
+pub answer_only : (number completed position : ℕ) (buffers : List ℕ) (p q : Page) → (number ≡ 13) ⊎ (number ≡ 14) →
     q ≡ written (answer_line number completed position) p → q ≡ written (output_bytes number completed position buffers) p
-answer-only number completed position buffers p q e h = h ∙ ap (λ (l : List ℕ). written l p) (only-answer number completed position buffers e)
+answer_only number completed position buffers p q e h =
+    h ∙ ap (λ (l : List ℕ). written l p) (only-answer number completed position buffers (⊎_elim (thirteen number) (fourteen number) e))
 
-pub answer-13 : (number completed position : ℕ) (buffers : List ℕ) (p q : Page) → number ≡ 13 →
-    q ≡ written (answer_line number completed position) p → q ≡ written (output_bytes number completed position buffers) p
-answer-13 number completed position buffers p q e = answer-only number completed position buffers p q (thirteen number e)
-
-pub answer-14 : (number completed position : ℕ) (buffers : List ℕ) (p q : Page) → (number ≡ 13 → ⊥) → number ≡ 14 →
-    q ≡ written (answer_line number completed position) p → q ≡ written (output_bytes number completed position buffers) p
-answer-14 number completed position buffers p q f e = answer-only number completed position buffers p q (fourteen number f e)
-
-pub answer-buffers : (number completed position : ℕ) (buffers : List ℕ) (p q r : Page) → (number ≡ 13 → ⊥) → (number ≡ 14 → ⊥) →
+pub answer_buffers : (number completed position : ℕ) (buffers : List ℕ) (p q r : Page) → (number ≡ 13 → ⊥) → (number ≡ 14 → ⊥) →
     q ≡ written (answer_line number completed position) p → r ≡ written buffers q → r ≡ written (output_bytes number completed position buffers) p
 unfolding output_bytes
-answer-buffers number completed position buffers p q r e f =
+answer_buffers number completed position buffers p q r e f =
     let line = answer_line number completed position in
     written_then line buffers (line ++ cond (eqb number 13 || eqb number 14) [] buffers) p q r (rw (neither number e f))
 

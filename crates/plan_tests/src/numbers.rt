@@ -27,25 +27,25 @@ pub(crate) fn byte(line: &[u8], at: usize) -> u8
 pub(crate) fn word(line: &[u8], at: usize) -> u16
     requires { at ≤ 65535 }
 {
-    (byte(line, at) as u16) + 256 * (byte(line, at + 1) as u16)
+    u16::from(byte(line, at)) + 256 * u16::from(byte(line, at + 1))
 }
 
 pub(crate) fn dword(line: &[u8], at: usize) -> u32
     requires { at ≤ 65533 }
 {
-    (word(line, at) as u32) + 65536 * (word(line, at + 2) as u32)
+    u32::from(word(line, at)) + 65536 * u32::from(word(line, at + 2))
 }
 
 pub(crate) fn qword(line: &[u8], at: usize) -> u64
     requires { at ≤ 65529 }
 {
-    (dword(line, at) as u64) + 4294967296 * (dword(line, at + 4) as u64)
+    u64::from(dword(line, at)) + 4294967296 * u64::from(dword(line, at + 4))
 }
 
 pub(crate) fn size(line: &[u8], at: usize) -> usize
     requires { at ≤ 65535 }
 {
-    word(line, at) as usize
+    usize::from(word(line, at))
 }
 
 // A number of entries that a table of 257 can have.
@@ -60,11 +60,9 @@ pub(crate) fn entries(line: &[u8], at: usize) -> usize
 pub(crate) fn kernel_of(line: &[u8]) -> [u8; 64]
     ensures { 64 ≡ length result }
 {
-    let mut kernel = [0u8; 64];
-    let mut i = 0;
-    while i < 64 {
+    let mut kernel = [0; 64];
+    for i in 0..64 {
         kernel[i] = byte(line, i);
-        i += 1;
     }
     kernel
 }
@@ -77,10 +75,8 @@ pub(crate) fn bytes_of(line: &[u8], first: usize, past: u8) -> [u8; 257]
 {
     let count = size(line, 0);
     let mut table = [past; 257];
-    let mut i = 0;
-    while i < 257 && i < count {
+    for i in 0..count.min(257) {
         table[i] = byte(line, 5 * i + first);
-        i += 1;
     }
     table
 }
@@ -90,11 +86,9 @@ pub(crate) fn bits_of(line: &[u8]) -> [u32; 257]
     ensures { 257 ≡ length result }
 {
     let count = size(line, 0);
-    let mut table = [0u32; 257];
-    let mut i = 0;
-    while i < 257 && i < count {
+    let mut table = [0; 257];
+    for i in 0..count.min(257) {
         table[i] = dword(line, 5 * i + 2);
-        i += 1;
     }
     table
 }
@@ -106,12 +100,8 @@ pub(crate) fn words_of(line: &[u8], first: usize, stride: usize, past: u16) -> [
 {
     let count = size(line, 0);
     let mut table = [past; 257];
-    let mut i = 0;
-    let mut at = first;
-    while i < 257 && i < count {
-        table[i] = word(line, at);
-        i += 1;
-        at += stride;
+    for i in 0..count.min(257) {
+        table[i] = word(line, stride * i + first);
     }
     table
 }

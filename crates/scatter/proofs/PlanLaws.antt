@@ -2,7 +2,7 @@
 use Rattle.std.proofs.Common.{◌≡◌, ℕ, get_or}
 use Rattle.cells.specs.Buffer.{Buffer}
 use Rattle.exec_byte.specs.Exec.{exec_size}
-use Rattle.plan.specs.declared.Plan.{Plan}
+use Rattle.plan.specs.Plan.{Plan}
 use Rattle.payloads.specs.Needed.{scatter_needed}
 use Rattle.staging.specs.declared.Layout.{Layout}
 use Rattle.staging.specs.Mirror.Room.{layout_of, data_place, data_staged}

@@ -9,9 +9,9 @@ ghost use Rattle.scatter.specs.Mirror.Guarded.{scatter_fits, window, scatter_gua
 ghost use Rattle.scatter.specs.Mirror.FromRoom.{layout_for, pairs_of, sources_staged, lane_sum, WorkedOut, room_effect};
 
 use channels::Lanes;
-use refusal::{Detail, Status};
 use operands::Elements;
 use plan::Plan;
+use refusal::Refusal;
 use scatter_pairs::{Pairs, Rule};
 use staging::{Layout, Room};
 
@@ -47,7 +47,7 @@ fn lane_sum(room: &[u8], layout: Layout, lane: u8) -> u64
 {
     let address = staging::first_number(room, layout, lane);
     let element = staging::second_number(room, layout, lane);
-    std::num::wrapping_add_u64(address, element)
+    address.wrapping_add(element)
 }
 
 fn targets_of(room: &[u8], layout: Layout, lanes: Lanes) -> Targets
@@ -56,12 +56,10 @@ fn targets_of(room: &[u8], layout: Layout, lanes: Lanes) -> Targets
 {
     let mut on = [false; 16];
     let mut sums = [0u64; 16];
-    let mut lane: u8 = 0;
-    while lane < layout.lanes {
-        let index = lane as usize;
+    for lane in 0..layout.lanes {
+        let index = usize::from(lane);
         on[index] = lanes.on(index);
         sums[index] = lane_sum(room, layout, lane);
-        lane += 1;
     }
     Targets { on, sums }
 }
@@ -77,29 +75,26 @@ fn from_room(
     base: u64,
     memory: &mut [u8],
     memory_taint: &mut [u8],
-) -> Status
+) -> Result<(), Refusal>
     ensures { MemoryDone (room_effect (window base memory.old) layout pairs on.now sums.now (buffer room.now room_taint.now)) result (buffer memory.old memory_taint.old) (buffer memory.new memory_taint.new) }
 {
     if scatter_pairs::some_tainted(room_taint, layout, on) {
-        return Status {
-            number: 10,
-            detail: Detail::None,
-        };
+        return Err(Refusal::Doubtful);
     }
     let misaligned = scatter_pairs::first_breaking(Rule::Aligned, pairs, on, sums);
-    if refusal::is_some(misaligned) {
-        return Status {
-            number: 11,
-            detail: misaligned,
-        };
+    if let Some(pair) = misaligned {
+        return Err(Refusal::Misaligned {
+            channel: pair.channel,
+            lane: pair.lane,
+        });
     }
-    let inside = Rule::Inside(base, memory.len() as u64);
-    let outside = scatter_pairs::first_breaking(inside, pairs, on, sums);
-    if refusal::is_some(outside) {
-        return Status {
-            number: 12,
-            detail: outside,
-        };
+    let length = memory.len() as u64;
+    let outside = scatter_pairs::first_breaking(Rule::Inside { base, length }, pairs, on, sums);
+    if let Some(pair) = outside {
+        return Err(Refusal::OutsideWindow {
+            channel: pair.channel,
+            lane: pair.lane,
+        });
     }
     scatter_writes::write_pairs(
         room,
@@ -111,10 +106,7 @@ fn from_room(
         memory,
         memory_taint,
     );
-    Status {
-        number: 0,
-        detail: Detail::None,
-    }
+    Ok(())
 }
 
 // Whether the lanes are no more than 16, nor the dwords from a channel's data to the next channel's, and the elements of both addresses have room.
@@ -158,7 +150,7 @@ fn scatter_fitting(
     register_taint: &[u8],
     memory: &mut [u8],
     memory_taint: &mut [u8],
-) -> Status
+) -> Result<(), Refusal>
     requires { scatter_fits plan ≡ true }
     ensures { MemoryDone (scatter_guarded (window base memory.old) mask plan (buffer registers.now register_taint.now)) result (buffer memory.old memory_taint.old) (buffer memory.new memory_taint.new) }
 {
@@ -184,7 +176,7 @@ fn scatter_fitting(
     )
 }
 
-// The number of a refusal with what it tells, or 0 with the dwords written; 7 for a plan that no check makes.
+// A refusal, with nothing written, or the dwords written; outside is only a plan that no check makes.
 pub fn scatter(
     plan: Plan,
     mask: u32,
@@ -193,7 +185,7 @@ pub fn scatter(
     register_taint: &[u8],
     memory: &mut [u8],
     memory_taint: &mut [u8],
-) -> Status
+) -> Result<(), Refusal>
     ensures { MemoryDone (scatter_guarded (window base memory.old) mask plan (buffer registers.now register_taint.now)) result (buffer memory.old memory_taint.old) (buffer memory.new memory_taint.new) }
 {
     if fits(plan) {
@@ -207,9 +199,6 @@ pub fn scatter(
             memory_taint,
         )
     } else {
-        Status {
-            number: 7,
-            detail: Detail::None,
-        }
+        Err(Refusal::Outside)
     }
 }

@@ -16,11 +16,9 @@ fn rank(channels: u8, channel: u8) -> u8
     requires { channel ≤ 4 }
     ensures { result ≡ enabled_below channels channel }
 {
-    let mut count: u8 = 0;
-    let mut k: u8 = 0;
-    while k < channel {
+    let mut count = 0;
+    for k in 0..channel {
         count += (channels >> k) % 2;
-        k += 1;
     }
     count
 }
@@ -38,11 +36,7 @@ fn row_place(pairs: Pairs, channel: u8) -> usize
 fn memory_place(base: u64, address: u64) -> usize
     ensures { result ≡ address - base }
 {
-    if base <= address {
-        (address - base) as usize
-    } else {
-        0
-    }
+    address.saturating_sub(base) as usize
 }
 
 fn write_lane(
@@ -83,8 +77,7 @@ fn write_row(
     requires { begin ≤ 8589934592 }
     ensures { buffer memory.new memory_taint.new ≡ written_all (row_writes base (buffer room.now room_taint.now) begin on.now sums.now lanes channel) (buffer memory.old memory_taint.old) }
 {
-    let mut lane: u8 = 0;
-    while lane < lanes {
+    for lane in 0..lanes {
         write_lane(
             room,
             room_taint,
@@ -97,7 +90,6 @@ fn write_row(
             memory,
             memory_taint,
         );
-        lane += 1;
     }
 }
 
@@ -115,7 +107,7 @@ fn write_channel(
     requires { channel ≤ 4 }
     ensures { buffer memory.new memory_taint.new ≡ written_all (cond (bit pairs.channels channel) (row_writes base (buffer room.now room_taint.now) (row_place pairs channel) on.now sums.now pairs.lanes channel) []) (buffer memory.old memory_taint.old) }
 {
-    if channels::bit_at(pairs.channels as u32, channel as usize) {
+    if pairs.has_channel(channel) {
         let begin = row_place(pairs, channel);
         write_row(
             room,
@@ -145,8 +137,7 @@ pub fn write_pairs(
 )
     ensures { buffer memory.new memory_taint.new ≡ written_all (all_writes base (buffer room.now room_taint.now) pairs on.now sums.now) (buffer memory.old memory_taint.old) }
 {
-    let mut channel: u8 = 0;
-    while channel < 4 {
+    for channel in 0..4 {
         write_channel(
             room,
             room_taint,
@@ -158,6 +149,5 @@ pub fn write_pairs(
             memory,
             memory_taint,
         );
-        channel += 1;
     }
 }

@@ -7,7 +7,7 @@ use Rattle.cells.specs.Buffer.{Buffer, mark_of}
 use Rattle.cells.specs.Writes.{written_all, number_writes}
 use Rattle.exec_byte.specs.Exec.{exec_of}
 use Rattle.exec_byte.specs.declared.Exec.{Exec}
-use Rattle.plan.specs.declared.Plan.{Plan}
+use Rattle.plan.specs.Plan.{Plan}
 use Rattle.staging.specs.declared.Layout.{Layout}
 use Rattle.staging.specs.Mirror.Room.{layout_of, either_staged}
 use Rattle.shl.specs.declared.Shape.{Shape}

@@ -13,6 +13,7 @@ ghost use Rattle.shl.specs.Mirror.Guarded.{shl_fits, shl_guarded};
 
 use channels::Lanes;
 use plan::Plan;
+use refusal::Refusal;
 use staging::Layout;
 
 // Whether the sources have room, and are small enough to be shifted.
@@ -92,23 +93,25 @@ fn write_lanes(
     requires { shape.layout.lanes ≤ 32 }
     ensures { buffer registers.new register_taint.new ≡ written_all (each (room_lane (buffer bytes.now taint.now) shape positions.now) (among (is_on lanes) shape.layout.lanes)) (buffer registers.old register_taint.old) }
 {
-    let size = shape.layout.lanes;
-    let mut lane: u8 = 0;
-    while lane < size {
-        let index = lane as usize;
+    for lane in 0..shape.layout.lanes {
+        let index = usize::from(lane);
         let on = lanes.on(index);
         let at = positions[index];
         write_lane(shape, on, at, lane, bytes, taint, registers, register_taint);
-        lane += 1;
     }
 }
 
-// Number 0, or 7 with nothing written for a plan that no check makes.
-pub fn shl(plan: Plan, mask: u32, registers: &mut [u8], register_taint: &mut [u8]) -> u8
+// Refused, with nothing written, is only a plan that no check makes.
+pub fn shl(
+    plan: Plan,
+    mask: u32,
+    registers: &mut [u8],
+    register_taint: &mut [u8],
+) -> Result<(), Refusal>
     ensures { RegistersDone (shl_guarded mask plan (buffer registers.old register_taint.old)) result (buffer registers.old register_taint.old) (buffer registers.new register_taint.new) }
 {
     if !fits(plan) {
-        return 7;
+        return Err(Refusal::Outside);
     }
     let shape = shape_of(plan);
     let control = plan.control;
@@ -128,5 +131,5 @@ pub fn shl(plan: Plan, mask: u32, registers: &mut [u8], register_taint: &mut [u8
         registers,
         register_taint,
     );
-    0
+    Ok(())
 }

@@ -109,8 +109,7 @@ fn stage(
 )
     ensures { buffer bytes.new taint.new ≡ staged (buffer registers.now register_taint.now) elements lanes base (buffer bytes.old taint.old) }
 {
-    let mut lane: u8 = 0;
-    while lane < lanes {
+    for lane in 0..lanes {
         stage_lane(
             registers,
             register_taint,
@@ -120,7 +119,6 @@ fn stage(
             bytes,
             taint,
         );
-        lane += 1;
     }
 }
 

@@ -9,7 +9,6 @@ ghost use Rattle.text.specs.Printing.{printed_reply, printed_in, printed_into};
 ghost use Rattle.text.specs.Assembling.{assembly_of, assembled_in, assembled_into};
 
 use decoder::Instruction;
-use encoder::Encoded;
 use lines::TextRead;
 
 // How many characters a line has, or the number of a refusal.
@@ -32,8 +31,8 @@ fn refusal(bytes: &mut [u8], instruction: Instruction) -> u8
     ensures { (result ≡ instruction_refusal instruction) × (result ≡ 0 → line_fits instruction ≡ true) }
 {
     match encoder::encode(instruction, bytes) {
-        Encoded::Wrote(count) => 0,
-        Encoded::Refused(number) => number,
+        Ok(_) => 0,
+        Err(refusal) => refusal.number(),
     }
 }
 
@@ -70,8 +69,8 @@ pub fn read_into(text: &[u8], buffer: &mut [u8]) -> Assembled
 {
     match lines::read(text) {
         TextRead::Line(instruction) => match encoder::encode(instruction, buffer) {
-            Encoded::Wrote(count) => Assembled::Wrote(count),
-            Encoded::Refused(number) => Assembled::Refused(number, 0),
+            Ok(count) => Assembled::Wrote(count),
+            Err(refusal) => Assembled::Refused(refusal.number(), 0),
         },
         TextRead::NoLine(column) => Assembled::Refused(16, column),
     }

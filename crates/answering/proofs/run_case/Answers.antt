@@ -12,4 +12,4 @@ returns c =
     c.length.ensures c.met-variables.ensures c.met-predicates.ensures c.met.ensures
     c.first.ensures c.first-2.ensures c.first-3.ensures c.first-4.ensures c.first-5.ensures c.first-6.ensures c.first-7.ensures)
     (λ k. omega (arith, c.type_inv.kernel k))
-    c.run.ensures
+    c.run.ensures.outcome

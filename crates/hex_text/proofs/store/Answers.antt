@@ -1,14 +1,14 @@
--- `hex_text::store` meets its contract: the two tests are `fits`, without a sum that may be too large.
+-- The tests are `fits`, without a sum that may be too large.
 use Rattle.hex_text.proofs.StoringLaws.{fits-no, fits-never, stored-all, stored-not}
 use Rattle.hex_text.proofs.store.Goals as goal
+use Rattle.hex_text.proofs.store.Goals.{then-at-buffer-via-then-at-buffer, then-at-buffer-via-else-at-buffer+then-content_length-buffer}
 
-pub returns-then-count-buffer : goal.returns-then-count-buffer
-returns-then-count-buffer c =
-    stored-all _ _ _ _ _ c.content_length-count.ensures c.if-at-buffer.true c.if-count-buffer.true c.place.ensures
+pub returns-then-at-buffer : goal.returns-then-at-buffer
+returns-then-at-buffer c =
+    elim c.then-at-buffer.branch [
+      | then-at-buffer-via-then-at-buffer w ↦ stored-not _ _ _ (fits-never _ _ _ w.if-at-buffer.true)
+      | then-at-buffer-via-else-at-buffer+then-content_length-buffer w ↦ stored-not _ _ _ (fits-no _ _ _ _ w.content_length.ensures w.if-at-buffer.false w.if-content_length-buffer.true)
+    ]
 
-pub returns-else-count-buffer : goal.returns-else-count-buffer
-returns-else-count-buffer c =
-    stored-not _ _ _ (fits-no _ _ _ _ c.content_length-count.ensures c.if-at-buffer.true c.if-count-buffer.false)
-
-pub returns-else-at-buffer : goal.returns-else-at-buffer
-returns-else-at-buffer c = stored-not _ _ _ (fits-never _ _ _ c.if-at-buffer.false)
+pub returns : goal.returns
+returns c = stored-all _ _ _ _ _ c.content_length.ensures c.if-at-buffer.false c.if-content_length-buffer.false c.place.ensures

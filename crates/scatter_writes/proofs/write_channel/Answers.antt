@@ -2,5 +2,5 @@
 use Rattle.scatter_writes.proofs.WriteLaws.{channel-skipped}
 use Rattle.scatter_writes.proofs.write_channel.Goals as goal
 
-pub returns-else-bit_at : goal.returns-else-bit_at
-returns-else-bit_at c = channel-skipped _ _ _ _ c.bit_at.ensures c.if-bit_at.false
+pub returns-else-has_channel : goal.returns-else-has_channel
+returns-else-has_channel c = channel-skipped _ _ _ _ c.has_channel.ensures c.if-has_channel.false
