@@ -105,8 +105,8 @@ fn scatter_fields(kernel: &[u8], cursor: Cursor) -> Result<(Instruction, Cursor)
     ensures { reply result ≡ scatter_at kernel.now cursor.at }
 {
     let (control, cursor) = field_groups::control_field(kernel, cursor, ByteRule::ScatterExec)?;
-    let (channels, cursor) = fields::byte_field(kernel, cursor, ByteRule::Channels)?;
-    let (scale, cursor) = fields::word_field(kernel, cursor, WordRule::Free)?;
+    let (channels, cursor) = fields::read(kernel, cursor, ByteRule::Channels)?;
+    let (scale, cursor) = fields::read(kernel, cursor, WordRule::Free)?;
     let (last, cursor) = operand_fields::scalar_and_raws_field(kernel, cursor)?;
     let scatter = Scatter {
         control,
@@ -124,7 +124,7 @@ fn scatter_fields(kernel: &[u8], cursor: Cursor) -> Result<(Instruction, Cursor)
 fn svm_fields(kernel: &[u8], cursor: Cursor) -> Result<(Instruction, Cursor), Refusal>
     ensures { reply result ≡ svm_at kernel.now cursor.at }
 {
-    let (sub_opcode, cursor) = fields::byte_field(kernel, cursor, ByteRule::Free)?;
+    let (sub_opcode, cursor) = fields::read(kernel, cursor, ByteRule::Free)?;
     match sub_opcode {
         0x07 => scatter_fields(kernel, cursor),
         _ => Err(Refusal::Opcode),
@@ -136,7 +136,7 @@ fn svm_fields(kernel: &[u8], cursor: Cursor) -> Result<(Instruction, Cursor), Re
 fn raw_send_fields(kernel: &[u8], cursor: Cursor) -> Result<(Instruction, Cursor), Refusal>
     ensures { reply result ≡ raw_send_at kernel.now cursor.at }
 {
-    let (modifiers, cursor) = fields::byte_field(kernel, cursor, ByteRule::Modifiers)?;
+    let (modifiers, cursor) = fields::read(kernel, cursor, ByteRule::Modifiers)?;
     let (control, cursor) = field_groups::control_field(kernel, cursor, ByteRule::Exec)?;
     let (message, cursor) = field_groups::message_field(kernel, cursor)?;
     let (last, cursor) = operand_fields::scalar_and_raws_field(kernel, cursor)?;
@@ -156,7 +156,7 @@ fn raw_send_fields(kernel: &[u8], cursor: Cursor) -> Result<(Instruction, Cursor
 pub fn decode(kernel: &[u8], at: usize) -> Result<(Instruction, Cursor), Refusal>
     ensures { reply result ≡ instruction_at kernel.now at }
 {
-    let (opcode, cursor) = fields::byte_field(kernel, Cursor { at }, ByteRule::Free)?;
+    let (opcode, cursor) = fields::read(kernel, Cursor { at }, ByteRule::Free)?;
     match opcode {
         0x24 => shl_fields(kernel, cursor),
         0x78 => gather_fields(kernel, cursor),

@@ -14,7 +14,7 @@ ghost use Rattle.encoder.specs.Encoding.{encoded_in, encoded_into};
 
 use decoder::{Gather, Instruction, RawSend, Scatter, Shl};
 use field_groups::{Access, Control, Message};
-use fields::{ByteRule, Field, TagRule, WordRule};
+use fields::{ByteRule, Field, FieldRule, TagRule, WordRule};
 use operand_fields::{General, Immediate, Operand, Raw};
 use refusal::Refusal;
 
@@ -66,39 +66,31 @@ impl Draft {
         }
     }
 
-    #[tactic(auto, unfolding(crate::specs::Mirror::Draft::with_bytes, little_endian::specs::LittleEndian::bytes_of))]
-    fn with_word(self, v: u16) -> Draft
-        ensures { result ≡ with_bytes (bytes_of 2 v) self }
+    #[tactic(auto, using(crate::proofs::DraftLaws::one_more), unfolding(crate::specs::Mirror::Draft::with_bytes))]
+    fn with_bytes(self, bytes: &[u8]) -> Draft
+        ensures { result ≡ with_bytes bytes.now self }
     {
-        let [low, high] = v.to_le_bytes();
-        self.with_byte(low).with_byte(high)
+        let mut draft = self;
+        for &v in bytes {
+            draft = draft.with_byte(v);
+        }
+        draft
     }
 
-    #[tactic(auto, unfolding(crate::specs::Mirror::Draft::with_bytes, little_endian::specs::LittleEndian::bytes_of))]
-    fn with_dword(self, v: u32) -> Draft
-        ensures { result ≡ with_bytes (bytes_of 4 v) self }
-    {
-        let [first, second, third, fourth] = v.to_le_bytes();
-        self.with_byte(first)
-            .with_byte(second)
-            .with_byte(third)
-            .with_byte(fourth)
-    }
-
-    #[tactic(auto, using(refusal::proofs::NumberLaws::number_some), unfolding(crate::specs::Mirror::Draft::with_field, crate::specs::Mirror::Draft::with_bytes, fields::specs::Layout::field_bytes, fields::specs::Layout::field_refusal, little_endian::specs::LittleEndian::bytes_of))]
+    #[tactic(auto, using(refusal::proofs::RuleLaws::number_some), unfolding(crate::specs::Mirror::Draft::with_field, crate::specs::Mirror::Draft::with_bytes, fields::specs::Layout::field_bytes, fields::specs::Layout::field_refusal, little_endian::specs::LittleEndian::bytes_of))]
     fn with_field(self, field: Field) -> Result<Draft, Refusal>
         ensures { outcome result ≡ with_field field self }
     {
         match field {
             Field::Byte(rule, v) => {
-                fields::judge_byte(rule, v)?;
-                Ok(self.with_byte(v))
+                rule.judge(v)?;
+                Ok(self.with_bytes(&[v]))
             }
             Field::Word(rule, v) => {
-                fields::judge_word(rule, v)?;
-                Ok(self.with_word(v))
+                rule.judge(v)?;
+                Ok(self.with_bytes(&v.to_le_bytes()))
             }
-            Field::Dword(v) => Ok(self.with_dword(v)),
+            Field::Dword(v) => Ok(self.with_bytes(&v.to_le_bytes())),
             Field::Lacking(v) => {
                 fields::judge(v == 0, Refusal::Reserved)?;
                 Ok(self)

@@ -42,8 +42,8 @@ pub fn control_field(
 ) -> Result<(Control, Cursor), Refusal>
     ensures { reply result ≡ control_at rule kernel.now cursor.at }
 {
-    let (exec, cursor) = fields::byte_field(kernel, cursor, rule)?;
-    let (pred, cursor) = fields::word_field(kernel, cursor, WordRule::Predicate)?;
+    let (exec, cursor) = fields::read(kernel, cursor, rule)?;
+    let (pred, cursor) = fields::read(kernel, cursor, WordRule::Predicate)?;
     Ok((Control { exec, pred }, cursor))
 }
 
@@ -51,10 +51,10 @@ pub fn control_field(
 pub fn access_field(kernel: &[u8], cursor: Cursor) -> Result<(Access, Cursor), Refusal>
     ensures { reply result ≡ access_at kernel.now cursor.at }
 {
-    let (block_size, cursor) = fields::byte_field(kernel, cursor, ByteRule::Free)?;
-    let (num_blocks, cursor) = fields::byte_field(kernel, cursor, ByteRule::NumBlocks)?;
-    let (scale, cursor) = fields::word_field(kernel, cursor, WordRule::Free)?;
-    let (surface, cursor) = fields::byte_field(kernel, cursor, ByteRule::Free)?;
+    let (block_size, cursor) = fields::read(kernel, cursor, ByteRule::Free)?;
+    let (num_blocks, cursor) = fields::read(kernel, cursor, ByteRule::NumBlocks)?;
+    let (scale, cursor) = fields::read(kernel, cursor, WordRule::Free)?;
+    let (surface, cursor) = fields::read(kernel, cursor, ByteRule::Free)?;
     let access = Access {
         block_size,
         num_blocks,
@@ -69,8 +69,8 @@ pub fn message_field(kernel: &[u8], cursor: Cursor) -> Result<(Message, Cursor),
     ensures { reply result ≡ message_at kernel.now cursor.at }
 {
     let (extended, cursor) = fields::dword_field(kernel, cursor)?;
-    let (num_src, cursor) = fields::byte_field(kernel, cursor, ByteRule::NumSrc)?;
-    let (num_dst, cursor) = fields::byte_field(kernel, cursor, ByteRule::NumDst)?;
+    let (num_src, cursor) = fields::read(kernel, cursor, ByteRule::NumSrc)?;
+    let (num_dst, cursor) = fields::read(kernel, cursor, ByteRule::NumDst)?;
     let message = Message {
         extended,
         num_src,

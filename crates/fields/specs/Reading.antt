@@ -7,7 +7,7 @@ use Rattle.fields.specs.declared.WordRule.{WordRule}
 use Rattle.fields.specs.Rules.{byte_refusal, word_refusal}
 
 -- a number that was read, or the refusal that it gets, 0 for none
-unfoldable pub judged_read : (ℕ → ℕ) → Read ℕ → Reply (Read ℕ)
+unfoldable pub judged_read : {A : Type 0} → (A → ℕ) → Read A → Reply (Read A)
 judged_read refusal r = cond (eqb (refusal r.value) 0) (got r.value r.next) (refused (refusal r.value))
 
 unfoldable pub byte_field_at : ByteRule → List ℕ → ℕ → Reply (Read ℕ)

@@ -2,14 +2,16 @@
 
 #![tactic(auto)]
 
-ghost use Rattle.std.specs.Prelude.{◌≡◌};
+ghost use Rattle.std.specs.Prelude.{◌≡◌, ℕ, List};
 ghost use Rattle.fields.specs.Tags.{tag_of};
 ghost use Rattle.fields.specs.Rules.{judged, exec_good, scatter_exec_good, channels_good, source_count_good, predicate_good, region_good, class_good, tag_good, tag_refusal, byte_refusal, word_refusal};
-ghost use Rattle.fields.specs.Reading.{byte_field_at, word_field_at, dword_field_at};
-ghost use Rattle.reader.specs.Reply.{reply};
+ghost use Rattle.fields.specs.Reading.{judged_read, byte_field_at, word_field_at, dword_field_at};
+ghost use Rattle.fields.specs.Reads.{byte_reads, word_reads};
+ghost use Rattle.reader.specs.Reading.{stored_at};
+ghost use Rattle.reader.specs.Reply.{Reply, Read, and_then, reply};
 ghost use Rattle.refusal.specs.Numbers.{number_of, number_given};
 
-use reader::Cursor;
+use reader::{Cursor, Stored};
 use refusal::Refusal;
 
 // Whose tag it is: SHL's destination, a source of SHL, or a scalar (a gather's Offset, a scatter's Address, RAW_SEND's Desc).
@@ -153,54 +155,81 @@ fn region_good(v: u16) -> bool
     v / 4096 == 0 && v % 16 < 8 && v / 16 % 16 < 8 && v / 256 % 16 < 8
 }
 
-#[tactic(auto, unfolding(crate::specs::Rules::byte_refusal, crate::specs::Rules::judged))]
-pub fn judge_byte(rule: ByteRule, v: u8) -> Result<(), Refusal>
-    ensures { number_given result ≡ byte_refusal rule v }
-{
-    let good = match rule {
-        ByteRule::Free => true,
-        ByteRule::Exec => exec_good(v),
-        ByteRule::ScatterExec => scatter_exec_good(v),
-        ByteRule::NumBlocks => v < 3,
-        ByteRule::Channels => channels_good(v),
-        ByteRule::Modifiers => v < 2,
-        ByteRule::NumSrc => source_count_good(v),
-        ByteRule::NumDst => v <= 16,
-        ByteRule::Tag(rule) => return judge_tag(rule, v),
-        ByteRule::ImmediateType => element_types::is_listed(v),
-    };
-    judge(good, Refusal::Reserved)
+// A rule of stored numbers of one width: what refuses a number, and reading one by the rule.
+pub trait FieldRule: Copy {
+    type Number: Stored;
+
+    ghost refusal: { Self → Self.Number → ℕ };
+
+    ghost field_at: { Self → List ℕ → ℕ → Reply (Read Self.Number) };
+
+    fn judge(self, v: Self::Number) -> Result<(), Refusal>
+        ensures { number_given result ≡ refusal self v };
+
+    ghost reads: { (rule : Self) (s : List ℕ) (at : ℕ) → field_at rule s at ≡ and_then (stored_at Self.Number.WIDTH Self.Number.value_at s at) (judged_read (refusal rule)) };
 }
 
-#[tactic(auto, unfolding(crate::specs::Rules::word_refusal))]
-pub fn judge_word(rule: WordRule, v: u16) -> Result<(), Refusal>
-    ensures { number_given result ≡ word_refusal rule v }
-{
-    match rule {
-        WordRule::Free => Ok(()),
-        WordRule::Predicate => judge(predicate_good(v), Refusal::Reserved),
-        WordRule::Region => judge(region_good(v), Refusal::Reserved),
+impl FieldRule for ByteRule {
+    type Number = u8;
+
+    ghost refusal = { byte_refusal };
+
+    ghost field_at = { byte_field_at };
+
+    ghost reads = { byte_reads };
+
+    #[tactic(auto, unfolding(crate::specs::Rules::byte_refusal, crate::specs::Rules::judged))]
+    fn judge(self, v: u8) -> Result<(), Refusal> {
+        let good = match self {
+            ByteRule::Free => true,
+            ByteRule::Exec => exec_good(v),
+            ByteRule::ScatterExec => scatter_exec_good(v),
+            ByteRule::NumBlocks => v < 3,
+            ByteRule::Channels => channels_good(v),
+            ByteRule::Modifiers => v < 2,
+            ByteRule::NumSrc => source_count_good(v),
+            ByteRule::NumDst => v <= 16,
+            ByteRule::Tag(rule) => return judge_tag(rule, v),
+            ByteRule::ImmediateType => element_types::is_listed(v),
+        };
+        judge(good, Refusal::Reserved)
     }
 }
 
-#[tactic(auto, using(refusal::proofs::NumberLaws::number_some), unfolding(crate::specs::Reading::byte_field_at, crate::specs::Reading::judged_read, reader::specs::Reading::read_at))]
-pub fn byte_field(kernel: &[u8], cursor: Cursor, rule: ByteRule) -> Result<(u8, Cursor), Refusal>
-    ensures { reply result ≡ byte_field_at rule kernel.now cursor.at }
+impl FieldRule for WordRule {
+    type Number = u16;
+
+    ghost refusal = { word_refusal };
+
+    ghost field_at = { word_field_at };
+
+    ghost reads = { word_reads };
+
+    #[tactic(auto, unfolding(crate::specs::Rules::word_refusal))]
+    fn judge(self, v: u16) -> Result<(), Refusal> {
+        match self {
+            WordRule::Free => Ok(()),
+            WordRule::Predicate => judge(predicate_good(v), Refusal::Reserved),
+            WordRule::Region => judge(region_good(v), Refusal::Reserved),
+        }
+    }
+}
+
+// A field of one byte or of two, by its rule.
+#[tactic(auto, using(refusal::proofs::RuleLaws::number_some), unfolding(crate::specs::Reading::judged_read))]
+pub fn read<R: FieldRule>(
+    kernel: &[u8],
+    cursor: Cursor,
+    rule: R,
+) -> Result<(R::Number, Cursor), Refusal>
+    ensures { reply result ≡ R.field_at rule kernel.now cursor.at }
 {
-    let (v, next) = cursor.read::<u8>(kernel)?;
-    judge_byte(rule, v)?;
+    let (v, next) = cursor.read::<R::Number>(kernel)?;
+    rule.judge(v)?;
     Ok((v, next))
 }
 
-#[tactic(auto, using(refusal::proofs::NumberLaws::number_some), unfolding(crate::specs::Reading::word_field_at, crate::specs::Reading::judged_read, reader::specs::Reading::read_at))]
-pub fn word_field(kernel: &[u8], cursor: Cursor, rule: WordRule) -> Result<(u16, Cursor), Refusal>
-    ensures { reply result ≡ word_field_at rule kernel.now cursor.at }
-{
-    let (v, next) = cursor.read::<u16>(kernel)?;
-    judge_word(rule, v)?;
-    Ok((v, next))
-}
-
+// A field of four bytes; none of these has a rule.
 #[tactic(auto, unfolding(crate::specs::Reading::dword_field_at, reader::specs::Reading::read_at))]
 pub fn dword_field(kernel: &[u8], cursor: Cursor) -> Result<(u32, Cursor), Refusal>
     ensures { reply result ≡ dword_field_at kernel.now cursor.at }

@@ -54,10 +54,10 @@ pub struct ScalarAndRaws {
 fn general_field(kernel: &[u8], cursor: Cursor) -> Result<(Operand, Cursor), Refusal>
     ensures { reply result ≡ general_at kernel.now cursor.at }
 {
-    let (index, cursor) = fields::word_field(kernel, cursor, WordRule::Free)?;
-    let (row, cursor) = fields::byte_field(kernel, cursor, ByteRule::Free)?;
-    let (column, cursor) = fields::byte_field(kernel, cursor, ByteRule::Free)?;
-    let (region, cursor) = fields::word_field(kernel, cursor, WordRule::Region)?;
+    let (index, cursor) = fields::read(kernel, cursor, WordRule::Free)?;
+    let (row, cursor) = fields::read(kernel, cursor, ByteRule::Free)?;
+    let (column, cursor) = fields::read(kernel, cursor, ByteRule::Free)?;
+    let (region, cursor) = fields::read(kernel, cursor, WordRule::Region)?;
     let general = General {
         index,
         row,
@@ -84,7 +84,7 @@ fn high_word(kernel: &[u8], cursor: Cursor, code: u8) -> Result<(u32, Cursor), R
 fn immediate_field(kernel: &[u8], cursor: Cursor) -> Result<(Operand, Cursor), Refusal>
     ensures { reply result ≡ immediate_at kernel.now cursor.at }
 {
-    let (code, cursor) = fields::byte_field(kernel, cursor, ByteRule::ImmediateType)?;
+    let (code, cursor) = fields::read(kernel, cursor, ByteRule::ImmediateType)?;
     let (low, cursor) = fields::dword_field(kernel, cursor)?;
     let (high, cursor) = high_word(kernel, cursor, code)?;
     Ok((Operand::Immediate(Immediate { code, low, high }), cursor))
@@ -99,7 +99,7 @@ pub fn operand_field(
 ) -> Result<(Operand, Cursor), Refusal>
     ensures { reply result ≡ operand_at rule kernel.now cursor.at }
 {
-    let (v, cursor) = fields::byte_field(kernel, cursor, ByteRule::Tag(rule))?;
+    let (v, cursor) = fields::read(kernel, cursor, ByteRule::Tag(rule))?;
     match fields::split_tag(v).class {
         fields::GENERAL => general_field(kernel, cursor),
         fields::IMMEDIATE => immediate_field(kernel, cursor),
@@ -111,8 +111,8 @@ pub fn operand_field(
 pub fn raw_field(kernel: &[u8], cursor: Cursor) -> Result<(Raw, Cursor), Refusal>
     ensures { reply result ≡ raw_at kernel.now cursor.at }
 {
-    let (index, cursor) = fields::word_field(kernel, cursor, WordRule::Free)?;
-    let (offset, cursor) = fields::word_field(kernel, cursor, WordRule::Free)?;
+    let (index, cursor) = fields::read(kernel, cursor, WordRule::Free)?;
+    let (offset, cursor) = fields::read(kernel, cursor, WordRule::Free)?;
     Ok((Raw { index, offset }, cursor))
 }
 

@@ -1,3 +1,2 @@
 pub mod OperandLaws
 pub mod RuleLaws
-pub mod NumberLaws

@@ -4,7 +4,7 @@ use Rattle.encoder.proofs.EncodeLaws.{in-room, too_short, written}
 use Rattle.encoder.proofs.encode.Goals as goal
 
 pub returns-then-buffer-count : goal.returns-then-buffer-count
-returns-then-buffer-count c = let m = too_short _ _ c.in_ok-draft.ensures _ c.if-buffer-count.true in record { answer = m.0; bytes = m.1 }
+returns-then-buffer-count c = let m = too_short _ _ c.in_ok-draft.ensures _ (omega (arith, c.if-buffer-count.true)) in record { answer = m.0; bytes = m.1 }
 
 pub shared_ref_as_front-copy_from_slice : goal.shared_ref_as_front-copy_from_slice
 shared_ref_as_front-copy_from_slice c = omega (arith, in-room _ _ c.in_ok-draft.ensures)
