@@ -9,7 +9,10 @@ use lib.Dec.{leb, eqb}
 use lib.ListN.{length, get_or, set}
 use borrow.Author.Tests.{leb-true, eqb-true}
 use Rattle.cells.specs.Buffer.{Buffer, buffer, is_tainted, mark_of}
-use Rattle.cells.specs.Writes.{Write, written_all, number_writes, copy_writes}
+use Rattle.cells.specs.declared.Buffer as lent
+use Rattle.cells.specs.Lent.{held, Becomes, Leads}
+use Rattle.cells.proofs.LentLaws.{leads-bytes, leads-taint}
+use Rattle.cells.specs.Writes.{Write, written, written_all, number_writes, copy_writes}
 use Rattle.cell_writes.specs.Mirror.CopyRoom.{copy_room, CopyRoom}
 use Rattle.cells.proofs.WriteLaws.{written-append}
 use Rattle.cells.proofs.BoolLaws.{both_true}
@@ -63,17 +66,11 @@ module _ (l t l' t' : List ℕ) (at : ℕ) where
       let k' : suc from ≡ from + 1 = omega arith in
       rw (i, j, k, i', j', k', p, q)
 
-numbers-split : (at mark value : ℕ) → number_writes at 8 mark value ≡ number_writes at 4 mark value ++ number_writes (at + 4) 4 mark (value / 256 / 256 / 256 / 256)
+pub numbers-split : (at mark value : ℕ) → number_writes at 8 mark value ≡ number_writes at 4 mark value ++ number_writes (at + 4) 4 mark (value / 256 / 256 / 256 / 256)
 unfolding number_writes
 numbers-split at mark value =
     let k : at + 4 ≡ suc (suc (suc (suc at))) = omega arith in
     rw k
-
-pub eight-numbers : (at mark value : ℕ) (b c d : Buffer) → c ≡ written_all (number_writes at 4 mark value) b → d ≡ written_all (number_writes (at + 4) 4 mark (value / 256 / 256 / 256 / 256)) c → d ≡ written_all (number_writes at 8 mark value) b
-eight-numbers at mark value b c d p q =
-    q ∙ (ap (λ (x : Buffer). written_all (number_writes (at + 4) 4 mark (value / 256 / 256 / 256 / 256)) x) p
-    ∙ (sym (written-append (number_writes at 4 mark value) (number_writes (at + 4) 4 mark (value / 256 / 256 / 256 / 256)) b)
-    ∙ ap (λ (ws : List Write). written_all ws b) (sym (numbers-split at mark value))))
 
 pub numbers_of : (at size n mark value : ℕ) (b c : Buffer) → size ≡ n → c ≡ written_all (number_writes at n mark value) b → c ≡ written_all (number_writes at size mark value) b
 numbers_of at size n mark value b c same made = rw same made
@@ -92,18 +89,27 @@ copies-split b (suc m) n from to =
     let g : to + suc m ≡ suc to + m = omega arith in
     rw (e, f, g, copies-split b m n (suc from) (suc to))
 
--- of fours, four are left where one is
-pub four-left : (i count : ℕ) → i < count / 4 → 4 * i + 4 ≤ count
-four-left i count h = omega arith
-
--- a turn that copies four of those that are left
-pub fours-turn : (b : Buffer) (from to i count : ℕ) (c c' whole : Buffer) → i < count / 4 → c' ≡ written_all (copy_writes b (from + 4 * i) (to + 4 * i) 4) c → written_all (copy_writes b (from + 4 * i) (to + 4 * i) (count - 4 * i)) c ≡ whole → written_all (copy_writes b (from + 4 * (i + 1)) (to + 4 * (i + 1)) (count - 4 * (i + 1))) c' ≡ whole
-fours-turn b from to i count c c' whole h made e =
+-- four of those that are left, and the others
+pub fours-next : (b : Buffer) (from to i count : ℕ) → i < count / 4 → copy_writes b (from + 4 * i) (to + 4 * i) (count - 4 * i) ≡ copy_writes b (from + 4 * i) (to + 4 * i) 4 ++ copy_writes b (from + 4 * (i + 1)) (to + 4 * (i + 1)) (count - 4 * (i + 1))
+fours-next b from to i count h =
     let n : count - 4 * i ≡ 4 + (count - 4 * (i + 1)) = omega arith in
     let f : from + 4 * (i + 1) ≡ from + 4 * i + 4 = omega arith in
     let g : to + 4 * (i + 1) ≡ to + 4 * i + 4 = omega arith in
-    let e' : written_all (copy_writes b (from + 4 * i) (to + 4 * i) 4 ++ copy_writes b (from + 4 * i + 4) (to + 4 * i + 4) (count - 4 * (i + 1))) c ≡ whole = rw (n, copies-split b 4 (count - 4 * (i + 1)) (from + 4 * i) (to + 4 * i)) at e in
-    rw (f, g, made) (sym (written-append (copy_writes b (from + 4 * i) (to + 4 * i) 4) (copy_writes b (from + 4 * i + 4) (to + 4 * i + 4) (count - 4 * (i + 1))) c) ∙ e')
+    rw (f, g, n) (copies-split b 4 (count - 4 * (i + 1)) (from + 4 * i) (to + 4 * i))
+
+-- and they have room
+pub four-room : (b : Buffer) (c d : lent.Buffer) (from to i count : ℕ) (ws us : List Write) → i < count / 4 → CopyRoom b from (held c) to count → Leads c d ws us → CopyRoom b (from + 4 * i) (held d) (to + 4 * i) 4
+four-room b c d from to i count ws us h room l =
+    record {
+      from_bytes = omega (arith, room.from_bytes);
+      from-taint = omega (arith, room.from-taint);
+      to-bytes = omega (arith, room.to-bytes, leads-bytes c d ws us l);
+      to-taint = omega (arith, room.to-taint, leads-taint c d ws us l);
+    }
+
+-- a byte that is read of one buffer and written to the other
+pub byte-copied : (b : Buffer) (c d : lent.Buffer) (from to value mark : ℕ) (tainted : Bool) → value ≡ get_or b.bytes from 0 → mark ≡ get_or b.taint from 0 → tainted ≡ is_tainted mark → Becomes c d (written (record { at = to; value = value; mark = mark_of tainted }) (held c)) → Becomes c d (written (record { at = to; value = get_or b.bytes from 0; mark = mark_of (is_tainted (get_or b.taint from 0)) }) (held c))
+byte-copied b c d from to value mark tainted v m t made = rw (← v, ← m, ← t) made
 
 -- with the marks that were worked out
 module _ (l t l' t' : List ℕ) (at : ℕ) where

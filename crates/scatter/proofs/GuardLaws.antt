@@ -4,6 +4,7 @@ use Rattle.refusal.specs.declared.Detail.TheVariants as detail
 use Rattle.std.specs.Prelude.{Result, Err}
 use Rattle.refusal.specs.declared.Refusal.{Refusal}
 use Rattle.refusal.specs.declared.Refusal.TheVariants as refusal
+use Rattle.cells.specs.declared.Buffer as lent
 use Rattle.cells.specs.Buffer.{Buffer}
 use Rattle.cells.specs.Effect.{refused, MemoryDone}
 use Rattle.cells.proofs.EffectLaws.{unless-refused, unless-passed, memory-refused}
@@ -29,10 +30,10 @@ module _ (w : Window) (mask : ℕ) (p : Plan) (registers : Buffer) where
   unfolding scatter_guarded
   guard-passes e = unless-passed _ 7 _ _ (ap not e)
 
-  pub scatter-refused : (fit : Bool) (b : Buffer) → fit ≡ scatter_fits p → fit ≡ false → MemoryDone (scatter_guarded w mask p registers) (Err refusal.Outside) b b
+  pub scatter-refused : (fit : Bool) (b : lent.Buffer) → fit ≡ scatter_fits p → fit ≡ false → MemoryDone (scatter_guarded w mask p registers) (Err refusal.Outside) b b
   scatter-refused fit b f e = memory-refused _ refusal.Outside b (guard-refuses (sym f ∙ e))
 
-  pub scatter-done : (fits : scatter_fits p ≡ true) (lanes : Lanes) (l : Layout) (s : Pairs) (on : List Bool) (sums : List ℕ) (room b b' : Buffer) (n : Result (Unit {0}) Refusal) → lanes ≡ lanes_of p.control.exec p.control.pred mask p.bits → l ≡ layout_for p → s ≡ pairs_of p → room ≡ sources_staged registers p → WorkedOut room.bytes l lanes on sums → MemoryDone (room_effect w l s on sums room) n b b' → MemoryDone (scatter_guarded w mask p registers) n b b'
+  pub scatter-done : (fits : scatter_fits p ≡ true) (lanes : Lanes) (l : Layout) (s : Pairs) (on : List Bool) (sums : List ℕ) (room : Buffer) (b b' : lent.Buffer) (n : Result (Unit {0}) Refusal) → lanes ≡ lanes_of p.control.exec p.control.pred mask p.bits → l ≡ layout_for p → s ≡ pairs_of p → room ≡ sources_staged registers p → WorkedOut room.bytes l lanes on sums → MemoryDone (room_effect w l s on sums room) n b b' → MemoryDone (scatter_guarded w mask p registers) n b b'
   scatter-done fits lanes l s on sums room b b' n told layout pairs staged worked =
       let worked' : WorkedOut (sources_staged registers p).bytes (layout_for p) lanes on sums = rw (← staged, ← layout) worked in
       let whole : room_effect w l s on sums room ≡ scatter_effect w p (lanes_on mask p) registers = rw (staged, pairs, layout) (from-room-is p fits registers mask lanes told on sums worked' w) in

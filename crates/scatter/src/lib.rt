@@ -3,16 +3,18 @@
 #![tactic(auto)]
 
 ghost use Rattle.std.specs.Prelude.{◌≡◌, ◌≤◌, true, slice_index};
-ghost use Rattle.cells.specs.Buffer.{buffer};
+ghost use Rattle.cells.specs.Lent.{viewed};
+ghost use Rattle.staging.specs.Staged.{in_room};
 ghost use Rattle.cells.specs.Effect.{MemoryDone};
 ghost use Rattle.scatter.specs.Mirror.Guarded.{scatter_fits, window, scatter_guarded};
 ghost use Rattle.scatter.specs.Mirror.FromRoom.{layout_for, pairs_of, sources_staged, lane_sum, WorkedOut, room_effect};
 
+use cells::{Buffer, View};
 use channels::Lanes;
 use operands::Elements;
 use plan::Plan;
 use refusal::Refusal;
-use scatter_pairs::{Pairs, Rule};
+use scatter_pairs::{Pairs, Rule, Targets};
 use staging::{Layout, Room};
 
 fn layout_for(plan: Plan) -> Layout
@@ -36,23 +38,23 @@ fn pairs_of(plan: Plan) -> Pairs
 
 // What is worked out once for each lane: whether it is on, and the sum of its address and its element offset.
 #[derive(Clone, Copy)]
-struct Targets {
+struct LaneSums {
     on: [bool; 16],
     sums: [u64; 16],
 }
 
 // The sum of a lane's address and its element offset, modulo 2^64.
-fn lane_sum(room: &[u8], layout: Layout, lane: u8) -> u64
-    ensures { result ≡ lane_sum room.now layout lane }
+fn lane_sum(room: View<'_>, layout: Layout, lane: u8) -> u64
+    ensures { result ≡ lane_sum room.entry.bytes.now layout lane }
 {
     let address = staging::first_number(room, layout, lane);
     let element = staging::second_number(room, layout, lane);
     address.wrapping_add(element)
 }
 
-fn targets_of(room: &[u8], layout: Layout, lanes: Lanes) -> Targets
+fn sums_of(room: View<'_>, layout: Layout, lanes: Lanes) -> LaneSums
     requires { layout.lanes ≤ 16 }
-    ensures { WorkedOut room.now layout lanes result.on result.sums }
+    ensures { WorkedOut room.entry.bytes.now layout lanes result.on result.sums }
 {
     let mut on = [false; 16];
     let mut sums = [0u64; 16];
@@ -61,51 +63,39 @@ fn targets_of(room: &[u8], layout: Layout, lanes: Lanes) -> Targets
         on[index] = lanes.on(index);
         sums[index] = lane_sum(room, layout, lane);
     }
-    Targets { on, sums }
+    LaneSums { on, sums }
 }
 
 // 10 over all lanes, 11 over all pairs, 12 over all pairs; then the writes.
 fn from_room(
-    room: &[u8],
-    room_taint: &[u8],
+    room: View<'_>,
     layout: Layout,
     pairs: Pairs,
-    on: &[bool],
-    sums: &[u64],
+    targets: Targets<'_>,
     base: u64,
-    memory: &mut [u8],
-    memory_taint: &mut [u8],
+    memory: &mut Buffer<'_>,
 ) -> Result<(), Refusal>
-    ensures { MemoryDone (room_effect (window base memory.old) layout pairs on.now sums.now (buffer room.now room_taint.now)) result (buffer memory.old memory_taint.old) (buffer memory.new memory_taint.new) }
+    ensures { MemoryDone (room_effect (window base memory.old.bytes.now) layout pairs targets.entry.on.now targets.entry.sums.now (viewed room.entry)) result memory.old memory.new }
 {
-    if scatter_pairs::some_tainted(room_taint, layout, on) {
+    if scatter_pairs::some_tainted(room, layout, targets) {
         return Err(Refusal::Doubtful);
     }
-    let misaligned = scatter_pairs::first_breaking(Rule::Aligned, pairs, on, sums);
+    let misaligned = scatter_pairs::first_breaking(Rule::Aligned, pairs, targets);
     if let Some(pair) = misaligned {
         return Err(Refusal::Misaligned {
             channel: pair.channel,
             lane: pair.lane,
         });
     }
-    let length = memory.len() as u64;
-    let outside = scatter_pairs::first_breaking(Rule::Inside { base, length }, pairs, on, sums);
+    let length = memory.bytes.len() as u64;
+    let outside = scatter_pairs::first_breaking(Rule::Inside { base, length }, pairs, targets);
     if let Some(pair) = outside {
         return Err(Refusal::OutsideWindow {
             channel: pair.channel,
             lane: pair.lane,
         });
     }
-    scatter_writes::write_pairs(
-        room,
-        room_taint,
-        pairs,
-        on,
-        sums,
-        base,
-        memory,
-        memory_taint,
-    );
+    scatter_writes::write_pairs(room, pairs, targets, base, memory);
     Ok(())
 }
 
@@ -129,8 +119,8 @@ fn first_byte(elements: Elements) -> u32
 }
 
 // All sources: the addresses' elements, and the dwords of Src that the enabled channels need.
-fn stage_sources(registers: &[u8], register_taint: &[u8], plan: Plan) -> Room
-    ensures { buffer result.bytes result.taint ≡ sources_staged (buffer registers.now register_taint.now) plan }
+fn stage_sources(registers: View<'_>, plan: Plan) -> Room
+    ensures { in_room result ≡ sources_staged (viewed registers.entry) plan }
 {
     let lanes = exec_byte::split(plan.control.exec).size;
     let left = plan.left;
@@ -138,7 +128,7 @@ fn stage_sources(registers: &[u8], register_taint: &[u8], plan: Plan) -> Room
     let source = plan.payload;
     let from = first_byte(source) as usize;
     let needed = payloads::scatter_needed(plan.stride, plan.control.exec, plan.channels) as usize;
-    staging::stage_with_data(registers, register_taint, left, right, lanes, from, needed)
+    staging::stage_with_data(registers, left, right, lanes, from, needed)
 }
 
 // A scatter of a plan that fits.
@@ -146,34 +136,23 @@ fn scatter_fitting(
     plan: Plan,
     mask: u32,
     base: u64,
-    registers: &[u8],
-    register_taint: &[u8],
-    memory: &mut [u8],
-    memory_taint: &mut [u8],
+    registers: View<'_>,
+    memory: &mut Buffer<'_>,
 ) -> Result<(), Refusal>
     requires { scatter_fits plan ≡ true }
-    ensures { MemoryDone (scatter_guarded (window base memory.old) mask plan (buffer registers.now register_taint.now)) result (buffer memory.old memory_taint.old) (buffer memory.new memory_taint.new) }
+    ensures { MemoryDone (scatter_guarded (window base memory.old.bytes.now) mask plan (viewed registers.entry)) result memory.old memory.new }
 {
     let control = plan.control;
     let lanes = channels::lanes_of(control.exec, control.pred, mask, plan.bits);
     let layout = layout_for(plan);
-    let room = stage_sources(registers, register_taint, plan);
-    let bytes = room.bytes;
-    let taint = room.taint;
-    let targets = targets_of(&bytes, layout, lanes);
-    let on = targets.on;
-    let sums = targets.sums;
-    from_room(
-        &bytes,
-        &taint,
-        layout,
-        pairs_of(plan),
-        &on,
-        &sums,
-        base,
-        memory,
-        memory_taint,
-    )
+    let room = stage_sources(registers, plan);
+    let view = room.view();
+    let worked = sums_of(view, layout, lanes);
+    let targets = Targets {
+        on: &worked.on,
+        sums: &worked.sums,
+    };
+    from_room(view, layout, pairs_of(plan), targets, base, memory)
 }
 
 // A refusal, with nothing written, or the dwords written; outside is only a plan that no check makes.
@@ -181,23 +160,13 @@ pub fn scatter(
     plan: Plan,
     mask: u32,
     base: u64,
-    registers: &[u8],
-    register_taint: &[u8],
-    memory: &mut [u8],
-    memory_taint: &mut [u8],
+    registers: View<'_>,
+    memory: &mut Buffer<'_>,
 ) -> Result<(), Refusal>
-    ensures { MemoryDone (scatter_guarded (window base memory.old) mask plan (buffer registers.now register_taint.now)) result (buffer memory.old memory_taint.old) (buffer memory.new memory_taint.new) }
+    ensures { MemoryDone (scatter_guarded (window base memory.old.bytes.now) mask plan (viewed registers.entry)) result memory.old memory.new }
 {
     if fits(plan) {
-        scatter_fitting(
-            plan,
-            mask,
-            base,
-            registers,
-            register_taint,
-            memory,
-            memory_taint,
-        )
+        scatter_fitting(plan, mask, base, registers, memory)
     } else {
         Err(Refusal::Outside)
     }

@@ -3,7 +3,9 @@ use Prim.Native.Nat.{ℕ}
 use mathlib.Core.Path.{◌≡◌, refl, sym, ap, ◌∙◌}
 use mathlib.Core.Bool.{Bool, true, false, not}
 use borrow.Author.Tests.{not-true, not-false}
+use Rattle.cells.specs.declared.Buffer as lent
 use Rattle.cells.specs.Buffer.{Buffer}
+use Rattle.cells.specs.Lent.{held, Becomes}
 use Rattle.cells.specs.Writes.{written_all}
 use Rattle.cells.specs.Over.{among, each}
 use Rattle.std.specs.Prelude.{Ok, Err}
@@ -37,9 +39,6 @@ module _ (mask : ℕ) (p : Plan) (b : Buffer) where
   unfolding shl_guarded
   guard-passes e = unless-passed _ 7 _ _ (ap not e)
 
-  pub shl-refused : (fit : Bool) → fit ≡ shl_fits p → not fit ≡ true → RegistersDone (shl_guarded mask p b) (Err refusal.Outside) b b
-  shl-refused fit f e = registers-refused _ refusal.Outside b (guard-refuses (sym f ∙ not-true fit e))
-
   abbrev room : Buffer
   room = both_staged b p.left p.right (exec_size p.control.exec)
 
@@ -52,9 +51,15 @@ module _ (mask : ℕ) (p : Plan) (b : Buffer) where
   unfolding shl_effect
   effect_writes = refl
 
+
+-- what the code does with the registers that it is lent
+module _ (mask : ℕ) (p : Plan) (b : lent.Buffer) where
+  pub shl-refused : (fit : Bool) → fit ≡ shl_fits p → not fit ≡ true → RegistersDone (shl_guarded mask p (held b)) (Err refusal.Outside) b b
+  shl-refused fit f e = registers-refused _ refusal.Outside b (guard-refuses mask p (held b) (sym f ∙ not-true fit e))
+
   -- all lanes, as the code worked them out: with the plan's shape and lanes, from the room
-  pub shl-done : (fit : Bool) (s : Shape) (lanes : Lanes) (staged b' : Buffer) → fit ≡ shl_fits p → not fit ≡ false → s ≡ shape_of p → lanes ≡ lanes_of p.control.exec p.control.pred mask p.bits → staged ≡ both_staged b p.left p.right s.layout.lanes → b' ≡ written_all (each (room_lane staged s p.payload.at) (among (is_on lanes) s.layout.lanes)) b → RegistersDone (shl_guarded mask p b) (Ok tt) b b'
-  shl-done fit s lanes staged b' f e shaped prepared there made =
+  pub shl-done : (fit : Bool) (s : Shape) (lanes : Lanes) (seen staged : Buffer) (b' : lent.Buffer) → fit ≡ shl_fits p → not fit ≡ false → s ≡ shape_of p → lanes ≡ lanes_of p.control.exec p.control.pred mask p.bits → seen ≡ held b → staged ≡ both_staged seen p.left p.right s.layout.lanes → Becomes b b' (written_all (each (room_lane staged s p.payload.at) (among (is_on lanes) s.layout.lanes)) (held b)) → RegistersDone (shl_guarded mask p (held b)) (Ok tt) b b'
+  shl-done fit s lanes seen staged b' f e shaped prepared same there made =
       let fits = sym f ∙ not-false fit e in
-      let g = guard-passes fits in
-      (rw (g, shl-number p (lanes_on mask p) b), rw (g, shl-detail p (lanes_on mask p) b), rw (g, effect_writes, ← same_writes fits, ← prepared-lanes-are mask p) (rw (there, shaped, prepared) at made))
+      let g = guard-passes mask p (held b) fits in
+      (rw (g, shl-number p (lanes_on mask p) (held b)), rw (g, shl-detail p (lanes_on mask p) (held b)), rw (g, effect_writes mask p (held b), ← same_writes mask p (held b) fits, ← prepared-lanes-are mask p) (rw (there, same, shaped, prepared) at made))

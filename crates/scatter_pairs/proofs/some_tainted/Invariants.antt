@@ -6,4 +6,4 @@ use Rattle.scatter_pairs.proofs.some_tainted.Given as goal
 
 -- what was found and what is left to search make the whole
 abbrev pub invariant-loop-lane : goal.invariant-loop-lane
-invariant-loop-lane l = (l.found || some (either_staged l.taint l.layout) (among_from (λ k. get_or l.on k false) l.lane (l.layout.lanes - l.lane))) ≡ some_tainted l.taint l.layout l.on
+invariant-loop-lane l = (l.found || some (either_staged l.room.taint.now l.layout) (among_from (λ k. get_or l.targets.on.now k false) l.lane (l.layout.lanes - l.lane))) ≡ some_tainted l.room.taint.now l.layout l.targets.on.now
