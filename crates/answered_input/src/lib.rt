@@ -5,12 +5,9 @@
 ghost use Rattle.case_file.specs.Forms.{case_file_text};
 ghost use Rattle.answered_input.specs.Mirror.PutsAnswer.{PutsAnswer, PutsKnown};
 
-use answering::Form;
-use answering::Storage;
+use answering::{Form, Storage};
 use std::io::Read;
-use tally::ContentBuffers;
-use tally::TableBuffers;
-use tally::TableViews;
+use tally::{ContentBuffers, TableBuffers, TableViews};
 
 // The answer to an input, to the output buffer's start, and how many bytes it has: none if the input was not read to its end. What does not fit is
 // lost; 32,813 bytes hold all of it.

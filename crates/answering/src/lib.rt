@@ -21,10 +21,7 @@ use line_blocks::first;
 use refusal::Detail;
 use run::Answer;
 use step::{Constants, Room};
-use tally::Case;
-use tally::Kind;
-use tally::TableViews;
-use tally::Unfit;
+use tally::{Case, Kind, TableViews, Unfit};
 
 // What is written of an answer: the 40 line and the buffers, or the verdict line.
 #[derive(Clone, Copy)]
@@ -202,9 +199,7 @@ fn answer_good(
     let file_taint = case
         .taint_length(Kind::RegisterTaint, Kind::Registers)
         .min(4096);
-    let window_taint = case
-        .taint_length(Kind::MemoryTaint, Kind::Memory)
-        .min(4096);
+    let window_taint = case.taint_length(Kind::MemoryTaint, Kind::Memory).min(4096);
     run_and_write(
         case,
         kernel,

@@ -7,9 +7,7 @@ ghost use Rattle.tally.specs.Mirror.Lent.{contents_of, tables_of, SameContents, 
 ghost use Rattle.feeding.specs.Mirror.Feeding.{machine, fresh, read_on, fed, finished};
 
 use line_blocks::Begun;
-use tally::Case;
-use tally::ContentBuffers;
-use tally::TableBuffers;
+use tally::{Case, ContentBuffers, TableBuffers};
 
 // What stands in the line buffer of the line begun, and what the lines before came to.
 #[derive(Clone, Copy)]

@@ -7,10 +7,7 @@ ghost use Rattle.tally.specs.Mirror.Reading.{reading};
 ghost use Rattle.tally.specs.Mirror.Lent.{contents_of, tables_of, SameContents, SameTables};
 ghost use Rattle.frames.specs.Mirror.Frames.{line_read};
 
-use tally::Case;
-use tally::ContentBuffers;
-use tally::Kind;
-use tally::TableBuffers;
+use tally::{Case, ContentBuffers, Kind, TableBuffers};
 
 // One line's characters. After the first bad line nothing counts.
 #[tactic(auto, unfolding(crate::specs::Mirror::Frames::line_read, crate::specs::Mirror::Frames::frame_read))]

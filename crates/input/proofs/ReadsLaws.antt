@@ -22,13 +22,6 @@ read_given before after (Ok zero) block h = h.0
 read_given before after (Ok (suc n)) block h = h.0
 read_given before after (Err e) block h = Consumes-kept before before after [] (Consumes-nil before) h
 
--- a read that met the end left nothing
-read_end : (before after : Option (List ℕ)) (got : Result ℕ Error) (block : List ℕ) → ReadConsumes before after got block → length block ≡ 65536 → met_end got ≡ true → IsAtEnd after
-unfolding met_end answer_of
-read_end before after (Ok zero) block h l e = h.1 refl (omega (arith, l))
-read_end before after (Ok (suc n)) block h l e = cc
-read_end before after (Err x) block h l e = cc
-
 read_moved : (got : Result ℕ Error) (block : List ℕ) → ReadsAtMost got block → Moved (length block) got
 read_moved (Ok n) block h = h.0
 read_moved (Err e) block h = tt
@@ -117,7 +110,6 @@ module _ (before mid : Option (List ℕ)) (m n : Machine) (f : SoFar before mid 
         reads_then (call got block ∷ []) n ended (within, (room, ((λ _. refl), tt)))
         (was_fed n (sym (fed-none n) ∙ ap (λ (t : List ℕ). fed t n) (sym (is-empty bytes h))))
         (e ∙ sym (one_end (call got block)))
-
 
   -- one call more, by what it answered
   module _ (after : Option (List ℕ)) (got : Result ℕ Error) (block : List ℕ) (most : ReadsAtMost got block) (took : ReadConsumes mid after got block) (room : length block ≡ 65536) where

@@ -8,8 +8,7 @@ ghost use Rattle.input.specs.Mirror.Reads.{has_ended, stopped_at, Reads, ReadsKn
 
 use feeding::State;
 use std::io::Read;
-use tally::ContentBuffers;
-use tally::TableBuffers;
+use tally::{ContentBuffers, TableBuffers};
 
 // Reading stopped before the input's end: what was read before.
 #[derive(Clone, Copy)]

@@ -8,9 +8,7 @@ ghost use Rattle.tally.specs.Mirror.Kinds.{code_of};
 ghost use Rattle.tally.specs.Mirror.Lent.{contents_of, SameContents};
 ghost use Rattle.once_frames.specs.Mirror.Once.{kept, content_read, memory_read, mask_read, register_size_read, once, once_read};
 
-use tally::Case;
-use tally::ContentBuffers;
-use tally::Kind;
+use tally::{Case, ContentBuffers, Kind};
 
 // The line's bytes from byte `from` on, to the buffer's start.
 #[tactic(auto, unfolding(crate::specs::Mirror::Once::content_read))]

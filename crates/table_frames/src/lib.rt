@@ -6,8 +6,7 @@ ghost use Rattle.std.specs.Prelude.{◌≡◌};
 ghost use Rattle.hex_text.specs.Bytes.{hex_bytes};
 ghost use Rattle.table_frames.specs.Mirror.Repeated.{variables, variable_read, predicates, predicate_sized, predicate_count, predicate_read, surfaces, surface_read};
 
-use tally::Case;
-use tally::Kind;
+use tally::{Case, Kind};
 
 // The elements of a predicate whose frame has no count byte.
 const OLD_COUNT: u8 = 32;
