@@ -1,60 +1,17 @@
 -- Each instruction, group by group, and the number of bytes that it has at most.
 use mathlib.Core.Path.{◌≡◌, refl}
-use mathlib.Core.List.{[], ◌∷◌, ◌++◌}
 use Prim.Native.Nat.{◌≤◌}
 use native.Mathlib.Omega.{arith}
 use lib.ListN.{length}
-use Rattle.fields.specs.declared.TagRule.TheVariants as tag
-use Rattle.fields.specs.declared.ByteRule.TheVariants as byte
-use Rattle.fields.specs.declared.WordRule.TheVariants as word
-use Rattle.fields.specs.declared.Field.TheVariants.{Byte, Word}
 use Rattle.fields.specs.Layout.{layout_bytes, layout_refusal}
 use Rattle.fields.proofs.FieldLaws.{AtMost, at-most-nil, at-most-word, at-most-append, ZeroThreeOrFour, layout-refusals}
-use Rattle.decoder.specs.declared.Shl.{Shl}
-use Rattle.decoder.specs.declared.Gather.{Gather}
-use Rattle.decoder.specs.declared.Scatter.{Scatter}
-use Rattle.decoder.specs.declared.RawSend.{RawSend}
 use Rattle.decoder.specs.declared.Instruction.{Instruction}
 use Rattle.decoder.specs.declared.Instruction.TheVariants as instruction
-use Rattle.field_groups.specs.Layout.{control_fields, access_fields, message_fields}
-use Rattle.operand_fields.specs.Layout.{operand_fields, raw_fields}
 use Rattle.field_groups.proofs.LayoutLaws.{one_at_most, control-at-most, access-at-most, message-at-most}
 use Rattle.operand_fields.proofs.LayoutLaws.{operand-at-most, raw-at-most}
 use Rattle.decoder.specs.Format.{shl_fields, gather_fields, scatter_fields, raw_send_fields, instruction_fields, instruction_bytes, instruction_refusal}
 
 -- ---- group by group
-
-pub shl-fields : (x : Shl) → shl_fields x ≡ (Byte byte.Free 0x24 ∷ []) ++ (control_fields byte.Exec x.control ++ (operand_fields tag.Destination x.destination ++ (operand_fields tag.Source x.source ++ operand_fields tag.Source x.count)))
-unfolding shl_fields
-shl-fields x = refl
-
-pub gather-fields : (x : Gather) → gather_fields x ≡ (Byte byte.Free 0x78 ∷ []) ++ (control_fields byte.Exec x.control ++ (access_fields x.access ++ (operand_fields tag.Scalar x.offset ++ (raw_fields x.element_offset ++ raw_fields x.destination))))
-unfolding gather_fields
-gather-fields x = refl
-
-pub scatter-fields : (x : Scatter) → scatter_fields x ≡ (Byte byte.Free 0x4e ∷ []) ++ ((Byte byte.Free 0x07 ∷ []) ++ (control_fields byte.ScatterExec x.control ++ ((Byte byte.Channels x.channels ∷ []) ++ ((Word word.Free x.scale ∷ []) ++ (operand_fields tag.Scalar x.address ++ (raw_fields x.element_offset ++ raw_fields x.source))))))
-unfolding scatter_fields
-scatter-fields x = refl
-
-pub raw-send-fields : (x : RawSend) → raw_send_fields x ≡ (Byte byte.Free 0x5d ∷ []) ++ ((Byte byte.Modifiers x.modifiers ∷ []) ++ (control_fields byte.Exec x.control ++ (message_fields x.message ++ (operand_fields tag.Scalar x.descriptor ++ (raw_fields x.source ++ raw_fields x.destination)))))
-unfolding raw_send_fields
-raw-send-fields x = refl
-
-pub fields-shl : (x : Shl) → instruction_fields (instruction.Shl x) ≡ shl_fields x
-unfolding instruction_fields
-fields-shl x = refl
-
-pub fields-gather : (x : Gather) → instruction_fields (instruction.Gather x) ≡ gather_fields x
-unfolding instruction_fields
-fields-gather x = refl
-
-pub fields-scatter : (x : Scatter) → instruction_fields (instruction.Scatter x) ≡ scatter_fields x
-unfolding instruction_fields
-fields-scatter x = refl
-
-pub fields-raw-send : (x : RawSend) → instruction_fields (instruction.RawSend x) ≡ raw_send_fields x
-unfolding instruction_fields
-fields-raw-send x = refl
 
 pub instruction-bytes : (i : Instruction) → instruction_bytes i ≡ layout_bytes (instruction_fields i)
 unfolding instruction_bytes

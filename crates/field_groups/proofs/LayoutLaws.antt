@@ -3,10 +3,9 @@ use mathlib.Core.Path.{◌≡◌, refl, subst}
 use mathlib.Core.List.{List, [], ◌∷◌, ◌++◌}
 use Prim.Native.Nat.{ℕ}
 use Rattle.fields.specs.declared.ByteRule.{ByteRule}
-use Rattle.fields.specs.declared.ByteRule.TheVariants as byte
 use Rattle.fields.specs.declared.WordRule.TheVariants as word
 use Rattle.fields.specs.declared.Field.{Field}
-use Rattle.fields.specs.declared.Field.TheVariants.{Byte, Word, Dword}
+use Rattle.fields.specs.declared.Field.TheVariants.{Byte, Word}
 use Rattle.fields.specs.Rules.{byte_refusal}
 use Rattle.fields.specs.Layout.{field_refusal, layout_refusal}
 use Rattle.fields.proofs.FirstRefusal.{good-append, good-one}
@@ -29,14 +28,6 @@ control-exec rule x fs g =
     let exec = Byte rule x.exec in
     let control = subst (λ (gs : List Field). layout_refusal gs ≡ 0) (control-fields rule x) (good-append (control_fields rule x) fs g).0 in
     good-one exec (good-append (exec ∷ []) (Word word.Predicate x.pred ∷ []) control).0
-
-pub access-fields : (x : Access) → access_fields x ≡ Byte byte.Free x.block_size ∷ Byte byte.NumBlocks x.num_blocks ∷ Word word.Free x.scale ∷ Byte byte.Free x.surface ∷ []
-unfolding access_fields
-access-fields x = refl
-
-pub message-fields : (x : Message) → message_fields x ≡ Dword x.extended ∷ Byte byte.NumSrc x.num_src ∷ Byte byte.NumDst x.num_dst ∷ []
-unfolding message_fields
-message-fields x = refl
 
 -- ---- the number of bytes
 

@@ -1,41 +1,15 @@
--- Each kind of operand, field by field, and the number of bytes that it has at most.
-use mathlib.Core.Path.{◌≡◌, refl}
+-- The number of bytes that each kind of operand has at most.
 use mathlib.Core.List.{[], ◌∷◌}
 use mathlib.Core.Bool.{Bool, true, false, cond}
-use Prim.Native.Nat.{ℕ}
 use native.Mathlib.Omega.{arith}
 use Rattle.element_types.specs.Types.{has_high_word}
 use Rattle.fields.specs.declared.TagRule.{TagRule}
-use Rattle.fields.specs.declared.ByteRule.TheVariants as byte
-use Rattle.fields.specs.declared.WordRule.TheVariants as word
-use Rattle.fields.specs.declared.Field.TheVariants.{Byte, Word, Dword, Lacking}
+use Rattle.fields.specs.declared.Field.TheVariants.{Dword, Lacking}
 use Rattle.fields.proofs.FieldLaws.{AtMost, at-most-nil, at-most-byte, at-most-word, at-most-dword, at-most-lacking}
-use Rattle.operand_fields.specs.declared.General.{General}
-use Rattle.operand_fields.specs.declared.Immediate.{Immediate}
 use Rattle.operand_fields.specs.declared.Raw.{Raw}
 use Rattle.operand_fields.specs.declared.Operand.{Operand}
 use Rattle.operand_fields.specs.declared.Operand.TheVariants as operand
 use Rattle.operand_fields.specs.Layout.{high_field, operand_fields, raw_fields}
-
--- ---- field by field
-
-pub high-field : (code high : ℕ) → high_field code high ≡ cond (has_high_word code) (Dword high) (Lacking high)
-unfolding high_field
-high-field code high = refl
-
-pub general-fields : (rule : TagRule) (g : General) → operand_fields rule (operand.General g) ≡ Byte (byte.Tag rule) 0 ∷ Word word.Free g.index ∷ Byte byte.Free g.row ∷ Byte byte.Free g.column ∷ Word word.Region g.region ∷ []
-unfolding operand_fields
-general-fields rule g = refl
-
-pub immediate-fields : (rule : TagRule) (i : Immediate) → operand_fields rule (operand.Immediate i) ≡ Byte (byte.Tag rule) 5 ∷ Byte byte.ImmediateType i.code ∷ Dword i.low ∷ high_field i.code i.high ∷ []
-unfolding operand_fields
-immediate-fields rule i = refl
-
-pub raw-fields : (x : Raw) → raw_fields x ≡ Word word.Free x.index ∷ Word word.Free x.offset ∷ []
-unfolding raw_fields
-raw-fields x = refl
-
--- ---- the number of bytes
 
 pub operand-at-most : (rule : TagRule) (x : Operand) → AtMost 10 (operand_fields rule x)
 unfolding operand_fields high_field
