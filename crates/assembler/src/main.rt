@@ -128,7 +128,8 @@ fn assemble_block<W: Write>(
     Err(Failure::Unwritten)
 }
 
-// Block by block to the input's end, or to a read or a write that fails.
+// Block by block to the input's end, or to a read or a write that fails. `listing` has such a loop too: one driver of both would be no plainer, since it would
+// take a closure that holds the writer and every buffer, and a promise about each call of it.
 fn assemble_input<R: Read, W: Write>(
     reader: &mut R,
     writer: &mut W,

@@ -16,9 +16,11 @@ fn put_meaning(out: &mut [u8], at: usize, exec: Exec) -> usize
     if exec.reserved {
         return format_writers::put_word(out, at, b"reserved\n|", 0);
     }
-    let a = format_writers::put_number(out, at, Base::Decimal, exec.size as u64);
+    let size = u64::from(exec.size);
+    let offset = u64::from(exec.offset);
+    let a = format_writers::put_number(out, at, Base::Decimal, size);
     let b = format_writers::put_word(out, a, b" |", 0);
-    let c = format_writers::put_number(out, b, Base::Decimal, exec.offset as u64);
+    let c = format_writers::put_number(out, b, Base::Decimal, offset);
     if exec.unmasked {
         format_writers::put_word(out, c, b" NM\n|", 0)
     } else {

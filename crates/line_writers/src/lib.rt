@@ -22,7 +22,7 @@ use operand_fields::{General, Operand, Raw};
 fn put_source_region(out: &mut [u8], at: usize, region: u16) -> usize
     ensures { wrote result out.new ≡ written out.old at (source_region.print region) }
 {
-    let word = region as u64;
+    let word = u64::from(region);
     let a = format_writers::put_word(out, at, b"<n;|<0;|<1;|<2;|<4;|<8;|<16;|<32;|", word % 16);
     let b = format_writers::put_word(out, a, b"n,|0,|1,|2,|4,|8,|16,|32,|", word / 16 % 16);
     format_writers::put_word(out, b, b"n>|0>|1>|2>|4>|8>|16>|32>|", word / 256 % 16)
@@ -42,7 +42,7 @@ fn region_opening(word: u64) -> u64
 fn put_destination_region(out: &mut [u8], at: usize, region: u16) -> usize
     ensures { wrote result out.new ≡ written out.old at (destination_region.print region) }
 {
-    let word = region as u64;
+    let word = u64::from(region);
     let first = region_opening(word);
     let a = format_writers::put_word(
         out,
@@ -62,9 +62,9 @@ fn put_destination_region(out: &mut [u8], at: usize, region: u16) -> usize
 fn put_general(out: &mut [u8], at: usize, g: General) -> usize
     ensures { wrote result out.new ≡ written out.old at (general_text g) }
 {
-    let index = g.index as u64;
-    let row = g.row as u64;
-    let column = g.column as u64;
+    let index = u64::from(g.index);
+    let row = u64::from(g.row);
+    let column = u64::from(g.column);
     let a = format_writers::put_word(out, at, b"v|", 0);
     let b = part_writers::put_decimal(out, a, b"(|", index);
     let d = part_writers::put_decimal(out, b, b",|", row);
@@ -135,8 +135,8 @@ fn carries_nothing(size: u64, scale: u64) -> bool
 fn put_gather_braces(out: &mut [u8], at: usize, size: u8, scale: u16) -> usize
     ensures { wrote result out.new ≡ written out.old at (gather_braces.print (size, scale)) }
 {
-    let first = size as u64;
-    let second = scale as u64;
+    let first = u64::from(size);
+    let second = u64::from(scale);
     if carries_nothing(first, second) {
         return format_writers::put_word(out, at, b"| {|", 0);
     }
@@ -153,7 +153,7 @@ fn put_scatter_braces(out: &mut [u8], at: usize, scale: u16) -> usize
         return format_writers::put_word(out, at, b"| {|", 0);
     }
     let a = format_writers::put_word(out, at, b"| {|", 1);
-    part_writers::put_decimal(out, a, b"}|", scale as u64)
+    part_writers::put_decimal(out, a, b"}|", u64::from(scale))
 }
 
 fn put_shl(out: &mut [u8], at: usize, x: Shl) -> usize
@@ -173,14 +173,14 @@ fn put_surface(out: &mut [u8], at: usize, number: u8) -> usize
     ensures { wrote result out.new ≡ written out.old at (surface.print number) }
 {
     let a = format_writers::put_word(out, at, b"T|", 0);
-    part_writers::put_decimal(out, a, b" |", number as u64)
+    part_writers::put_decimal(out, a, b" |", u64::from(number))
 }
 
 fn put_gather(out: &mut [u8], at: usize, x: Gather) -> usize
     ensures { wrote result out.new ≡ written out.old at ((gather x.control.pred).print (instruction.Gather x)) }
 {
     let offset = x.offset;
-    let a = format_writers::put_word(out, at, b"1 |2 |4 |", x.access.num_blocks as u64);
+    let a = format_writers::put_word(out, at, b"1 |2 |4 |", u64::from(x.access.num_blocks));
     let b = control_writers::put_exec(out, a, x.control.exec);
     let d = put_surface(out, b, x.access.surface);
     let e = put_scalar_and_raws(out, d, offset, x.element_offset, x.destination);
@@ -207,9 +207,10 @@ fn put_scatter(out: &mut [u8], at: usize, x: Scatter) -> usize
 fn put_message(out: &mut [u8], at: usize, m: Message) -> usize
     ensures { wrote result out.new ≡ written out.old at (message.print (m.extended, (m.num_src, m.num_dst))) }
 {
-    let sources = m.num_src as u64;
-    let destinations = m.num_dst as u64;
-    let a = part_writers::put_hexadecimal(out, at, b" |", m.extended as u64);
+    let extended = u64::from(m.extended);
+    let sources = u64::from(m.num_src);
+    let destinations = u64::from(m.num_dst);
+    let a = part_writers::put_hexadecimal(out, at, b" |", extended);
     let b = part_writers::put_decimal(out, a, b" |", sources);
     part_writers::put_decimal(out, b, b" |", destinations)
 }
@@ -218,7 +219,7 @@ fn put_raw_send(out: &mut [u8], at: usize, x: RawSend) -> usize
     ensures { wrote result out.new ≡ written out.old at ((raw_send x.control.pred).print (instruction.RawSend x)) }
 {
     let descriptor = x.descriptor;
-    let a = format_writers::put_word(out, at, b" |c |", x.modifiers as u64);
+    let a = format_writers::put_word(out, at, b" |c |", u64::from(x.modifiers));
     let b = control_writers::put_exec(out, a, x.control.exec);
     let d = put_message(out, b, x.message);
     put_scalar_and_raws(out, d, descriptor, x.source, x.destination)

@@ -234,7 +234,8 @@ fn list_block<W: Write>(
     Err(Failure::Unwritten)
 }
 
-// Block by block to the input's end, or to a read or a write that fails.
+// Block by block to the input's end, or to a read or a write that fails. `assembler` has such a loop too: one driver of both would be no plainer, since it would
+// take a closure that holds the writer and every buffer, and a promise about each call of it.
 fn list_input<R: Read, W: Write>(
     reader: &mut R,
     writer: &mut W,

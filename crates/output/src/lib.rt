@@ -8,7 +8,8 @@ ghost use Rattle.hex_text.specs.Storing.{placed};
 ghost use Rattle.output.specs.Mirror.Page.{page, written};
 ghost use Rattle.output.specs.Output.{answer_line, content_line, memory_line, buffer_lines, output_bytes};
 
-// A character to place `at`, if there is one, and the place behind it.
+// A character to place `at`, if there is one, and the place behind it. `format_writers` has its own: there a place past the buffer's end becomes
+// the end (`wrote`), here it stays (`page`).
 #[tactic(auto, unfolding(crate::specs::Mirror::Page::written, crate::specs::Mirror::Page::pushed))]
 fn put(out: &mut [u8], at: usize, character: u8) -> usize
     ensures { page out.new result ≡ written (character ∷ []) (page out.old at) }

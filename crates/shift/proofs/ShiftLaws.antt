@@ -1,5 +1,5 @@
 -- What the code works out, modulo 2^64, is the exact shift: once over all sizes of at most four bytes.
-use Rattle.std.proofs.Common.{◌≡◌, ℕ, suc, ◌+◌, ◌-◌, ◌*◌, ◌%◌, ◌^◌, ◌<◌, ◌≤◌, Bool, true, false, ◌&&◌, leb, ℤ, pos, ◌*ℤ◌, sym, refl, ◌∙◌, true≢false, mod-eq_of_lt, arith, le-leb, leb-true}
+use Rattle.std.proofs.Common.{◌≡◌, ℕ, suc, ◌+◌, ◌-◌, ◌*◌, ◌%◌, ◌^◌, ◌<◌, ◌≤◌, Bool, true, false, ◌&&◌, leb, pos, ◌*ℤ◌, sym, refl, ◌∙◌, true≢false, mod-eq_of_lt, arith, le-leb, leb-true}
 use Rattle.shift.specs.Exact.{span, lowest, exactly, modulo, shifted}
 use Rattle.shift.specs.Mirror.Total.{total_shift}
 use Rattle.shift.proofs.SpanLaws.{power-some, span-some, span_small, span-whole, span-twice}

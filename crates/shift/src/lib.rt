@@ -22,7 +22,7 @@ fn residue(signed: bool, size: u8, value: u64) -> u64
     let all = span_of(size);
     let low = value % all;
     if signed & (all <= 2 * low) {
-        std::num::wrapping_sub_u64(low, all)
+        low.wrapping_sub(all)
     } else {
         low
     }

@@ -37,6 +37,7 @@ pub fn read_full<R: Read>(reader: &mut R, buffer: &mut [u8]) -> io::Result<usize
     ensures end { IfOk result (λ n. n < length buffer.new → IsAtEnd (R.remaining reader.new)) }
     ensures none_lost { OnErr result ((n : ℕ) × (n ≤ length buffer.new) × Consumes (R.remaining reader.old) (R.remaining reader.new) (take n buffer.new)) }
 {
+    // std's `read_exact` tells little of what was read before a failure, and `none_lost` all of it
     let mut done = 0;
     while done < buffer.len() {
         let count = reader.read(&mut buffer[done..])?;

@@ -12,9 +12,9 @@ returns-then-exec c =
 pub returns-then-exec-2 : goal.returns-then-exec-2
 returns-then-exec-2 c =
     wrote-four _ _ _ _ _ _ _ _ _ _ _ _ _ _ _ c.put_number-a.ensures c.put_word-b.ensures c.put_number-c.ensures c.put_word-then-exec-2.ensures
-    (unmasked-text _ c.if-exec.false c.if-exec-2.true)
+    (rw (c.from-size.ensures, c.from-offset.ensures) (unmasked-text c.args.exec c.if-exec.false c.if-exec-2.true))
 
 pub returns-else-exec-2 : goal.returns-else-exec-2
 returns-else-exec-2 c =
     wrote-four _ _ _ _ _ _ _ _ _ _ _ _ _ _ _ c.put_number-a.ensures c.put_word-b.ensures c.put_number-c.ensures c.put_word-else-exec-2.ensures
-    (masked-text _ c.if-exec.false c.if-exec-2.false)
+    (rw (c.from-size.ensures, c.from-offset.ensures) (masked-text c.args.exec c.if-exec.false c.if-exec-2.false))

@@ -5,4 +5,4 @@ use Rattle.line_writers.proofs.put_gather.Goals as goal
 
 pub returns : goal.returns
 returns c =
-    wrote-five _ _ _ _ _ _ _ _ _ _ _ _ _ _ _ _ _ _ c.put_word-a.ensures c.put_exec-b.ensures c.put_surface-d.ensures c.put_scalar_and_raws-e.ensures c.put_gather_braces.ensures (gather-text _ _)
+    wrote-five _ _ _ _ _ _ _ _ _ _ _ _ _ _ _ _ _ _ c.put_word-a.ensures c.put_exec-b.ensures c.put_surface-d.ensures c.put_scalar_and_raws-e.ensures c.put_gather_braces.ensures (rw c.from.ensures (gather-text _ c.args.x))

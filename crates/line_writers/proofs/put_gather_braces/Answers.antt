@@ -7,8 +7,8 @@ use Rattle.line_writers.proofs.put_gather_braces.Goals as goal
 
 pub returns-then-carries_nothing : goal.returns-then-carries_nothing
 returns-then-carries_nothing c =
-    c.put_word.ensures ∙ ap (written _ _) (sym (no-gather-braces _ _ _ c.carries_nothing.ensures c.if-carries_nothing.true))
+    c.put_word.ensures ∙ ap (written _ _) (sym (no-gather-braces _ _ _ (rw (c.from-first.ensures, c.from-second.ensures) at c.carries_nothing.ensures) c.if-carries_nothing.true))
 
 pub returns : goal.returns
 returns c =
-    wrote-three _ _ _ _ _ _ _ _ _ _ _ _ c.put_word-a.ensures c.put_decimal-b.ensures c.put_decimal.ensures (gather-braces _ _ _ c.carries_nothing.ensures c.if-carries_nothing.false)
+    wrote-three _ _ _ _ _ _ _ _ _ _ _ _ c.put_word-a.ensures c.put_decimal-b.ensures c.put_decimal.ensures (rw (c.from-first.ensures, c.from-second.ensures) (gather-braces c.args.size c.args.scale _ (rw (c.from-first.ensures, c.from-second.ensures) at c.carries_nothing.ensures) c.if-carries_nothing.false))

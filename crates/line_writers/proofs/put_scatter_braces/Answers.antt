@@ -11,4 +11,4 @@ returns-then-scale-eq0 c =
 
 pub returns : goal.returns
 returns c =
-    wrote-two _ _ _ _ _ _ _ _ _ c.put_word-a.ensures c.put_decimal.ensures (scatter-braces _ c.if-scale-eq0.false)
+    wrote-two _ _ _ _ _ _ _ _ _ c.put_word-a.ensures c.put_decimal.ensures (rw c.from.ensures (scatter-braces c.args.scale c.if-scale-eq0.false))

@@ -5,4 +5,4 @@ use Rattle.line_writers.proofs.put_source_region.Goals as goal
 
 pub returns : goal.returns
 returns c =
-    wrote-three _ _ _ _ _ _ _ _ _ _ _ _ c.put_word-a.ensures c.put_word-b.ensures c.put_word.ensures (source-region-text _)
+    wrote-three _ _ _ _ _ _ _ _ _ _ _ _ c.put_word-a.ensures c.put_word-b.ensures c.put_word.ensures (rw c.from-word.ensures (source-region-text c.args.region))

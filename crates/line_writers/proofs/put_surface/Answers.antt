@@ -5,4 +5,4 @@ use Rattle.line_writers.proofs.put_surface.Goals as goal
 
 pub returns : goal.returns
 returns c =
-    wrote-two _ _ _ _ _ _ _ _ _ c.put_word-a.ensures c.put_decimal.ensures (surface-text _)
+    wrote-two _ _ _ _ _ _ _ _ _ c.put_word-a.ensures c.put_decimal.ensures (rw c.from.ensures (surface-text c.args.number))

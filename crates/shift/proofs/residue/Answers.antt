@@ -1,5 +1,5 @@
 -- `shift::residue` meets its contract: a negative number is its lowest bytes less their span, modulo 2^64.
-use Rattle.std.proofs.Common.{◌^◌, ◌<◌, refl, arith}
+use Rattle.std.proofs.Common.{◌≡◌, ◌+◌, ◌-◌, ◌%◌, ◌^◌, refl, arith}
 use Rattle.shift.proofs.SpanLaws.{told-some, told-small}
 use Rattle.shift.proofs.ShiftLaws.{residue-plain, residue-negative}
 use Rattle.shift.proofs.residue.Goals as goal
@@ -12,8 +12,11 @@ overflow_mul-low c = let h = told-small _ _ c.span_of-all.ensures c.args.value c
 
 pub returns-then-signed-all : goal.returns-then-signed-all
 returns-then-signed-all c =
-    let fits : c.wrapping_sub_u64.result < 2 ^ 64 = omega arith in
-    residue-negative c.args.signed c.args.size c.args.value _ _ c.requires c.span_of-all.ensures refl _ c.if-signed-all.true fits c.wrapping_sub_u64.ensures.value
+    let low = c.args.value % c.span_of-all.result in
+    let small = told-small _ _ c.span_of-all.ensures c.args.value c.requires in
+    let some = told-some _ _ c.span_of-all.ensures in
+    let back : ((low + (2 ^ 64 - c.span_of-all.result)) % 2 ^ 64 + c.span_of-all.result) % 2 ^ 64 ≡ low = omega arith in
+    residue-negative c.args.signed c.args.size c.args.value _ _ c.requires c.span_of-all.ensures refl _ c.if-signed-all.true (omega arith) back
 
 pub returns-else-signed-all : goal.returns-else-signed-all
 returns-else-signed-all c =
