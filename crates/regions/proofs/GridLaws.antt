@@ -26,12 +26,12 @@ grid-is register_size role.Source g size k = refl
 grid-is register_size role.Scalar g size k = omega arith
 grid-is register_size role.Destination g size k = scaled _ k _
 
-pub grid-elements : (register_size : ℕ) (r : Role) (g : General) (size : ℕ) → grid_element (grid_of register_size r g size) ≡ element_of register_size r g size
-grid-elements register_size r g size = fun_ext (grid-is register_size r g size)
+pub grid_elements : (register_size : ℕ) (r : Role) (g : General) (size : ℕ) → grid_element (grid_of register_size r g size) ≡ element_of register_size r g size
+grid_elements register_size r g size = fun_ext (grid-is register_size r g size)
 
 -- as the code learns it
 pub grid-known : (register_size : ℕ) (r : Role) (g : General) (size whole : ℕ) (grid : Grid) → size ≡ whole → grid ≡ grid_of register_size r g size → grid_element grid ≡ element_of register_size r g whole
-grid-known register_size r g size whole grid e h = rw (h, e) (grid-elements register_size r g whole)
+grid-known register_size r g size whole grid e h = rw (h, e) (grid_elements register_size r g whole)
 
 -- elements one after the other, as a raw operand's are
 abbrev consecutive : Grid
@@ -41,8 +41,8 @@ consecutive-is : (k : ℕ) → grid_element consecutive k ≡ k
 unfolding grid_element
 consecutive-is k = rw (div-one k, mod-one k) (omega arith)
 
-pub consecutive-elements : grid_element consecutive ≡ (λ k. k)
-consecutive-elements = fun_ext consecutive-is
+pub consecutive_elements : grid_element consecutive ≡ (λ k. k)
+consecutive_elements = fun_ext consecutive-is
 
 -- a code from 2 on has a stride
 pub stride-some : (code : ℕ) → 2 ≤ code → code ≤ 6 → 0 < stride_of code

@@ -160,6 +160,7 @@ fn lane_positions(base: u32, grid: Grid, size: u8) -> [u32; 32]
 }
 
 // The byte of each lane's element.
+#[tactic(auto, using(crate::proofs::GridLaws::grid_elements))]
 pub fn element_positions(
     register_size: u8,
     role: Role,
@@ -174,6 +175,7 @@ pub fn element_positions(
 }
 
 // The byte of each lane's element, where they follow one another from an offset on.
+#[tactic(auto, using(crate::proofs::GridLaws::consecutive_elements))]
 pub fn raw_positions(variable: Variable, offset: u16) -> [u32; 32]
     ensures { result ≡ lane_positions (element_byte (variable.start + offset) (size_of variable.code) (λ k. k)) }
 {
