@@ -1,20 +1,19 @@
 -- Four and eight bytes at once, where they lie inside: what a store of them writes.
-use Prim.Native.Nat.{ℕ, zero, suc, ◌+◌, ◌-◌, ◌*◌, ◌/◌, ◌%◌, ◌≤◌, ◌<◌}
-use mathlib.Core.Path.{◌≡◌, refl, sym, ap, ◌∙◌}
+use Prim.Native.Nat.{ℕ, zero, suc, ◌+◌, ◌-◌, ◌*◌, ◌/◌, ◌%◌, ◌<◌}
+use mathlib.Core.Path.{◌≡◌, refl}
 use mathlib.Core.Bool.{Bool, true, false, ◌&&◌}
 use mathlib.Core.List.{List, ◌++◌}
 use native.Mathlib.Omega.{arith}
 use mir.Val.{bool_byte}
-use lib.Dec.{leb, eqb}
+use lib.Dec.{leb}
 use lib.ListN.{length, get_or, set}
-use borrow.Author.Tests.{leb-true, eqb-true}
+use borrow.Author.Tests.{leb-true}
 use Rattle.cells.specs.Buffer.{Buffer, buffer, is_tainted, mark_of}
 use Rattle.cells.specs.declared.Buffer as lent
 use Rattle.cells.specs.Lent.{held, Becomes, Leads}
 use Rattle.cells.proofs.LentLaws.{leads-bytes, leads-taint}
 use Rattle.cells.specs.Writes.{Write, written, written_all, number_writes, copy_writes}
 use Rattle.cell_writes.specs.Mirror.CopyRoom.{copy_room, CopyRoom}
-use Rattle.cells.proofs.WriteLaws.{written-append}
 use Rattle.cells.proofs.BoolLaws.{both_true}
 
 pub copy-room : (b : Buffer) (from : ℕ) (c : Buffer) (to n : ℕ) → copy_room b from c to n ≡ true → CopyRoom b from c to n

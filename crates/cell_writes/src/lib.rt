@@ -126,13 +126,7 @@ fn copy_any(from: View<'_>, source_at: usize, to: &mut Buffer<'_>, at: usize, co
 }
 
 // Whether both buffers have so many bytes there, with their taint.
-fn copy_has_room(
-    from: View<'_>,
-    source_at: usize,
-    to: &Buffer<'_>,
-    at: usize,
-    count: usize,
-) -> bool
+fn copy_has_room(from: View<'_>, source_at: usize, to: &Buffer<'_>, at: usize, count: usize) -> bool
     ensures { result ≡ copy_room (viewed from.entry) source_at (held to.now) at count }
 {
     let read = cell_reads::has_room(from.bytes.len(), source_at, count)

@@ -62,7 +62,8 @@ pub struct Pair {
     pub lane: u8,
 }
 
-// What was worked out once for each lane: whether it is on, and the sum of its address and its element offset.
+// What was worked out once for each lane: whether it is on, and the sum of its address and its element offset. Two slices side by side, since
+// the definitions of the search and of the writes (`first_breaking`, `all_writes`) are over the two lists.
 #[derive(Clone, Copy)]
 pub struct Targets<'a> {
     pub on: &'a [bool],

@@ -51,7 +51,6 @@ module _ (mask : ℕ) (p : Plan) (b : Buffer) where
   unfolding shl_effect
   effect_writes = refl
 
-
 -- what the code does with the registers that it is lent
 module _ (mask : ℕ) (p : Plan) (b : lent.Buffer) where
   pub shl-refused : (fit : Bool) → fit ≡ shl_fits p → not fit ≡ true → RegistersDone (shl_guarded mask p (held b)) (Err refusal.Outside) b b

@@ -30,7 +30,8 @@ fn fits(plan: Plan) -> bool
         & (plan.payload.size <= 4)
 }
 
-// What a lane asks of the plan: how its sources stand in the room, the sign of the first, and the size of the destination.
+// What a lane asks of the plan: how its sources stand in the room, the sign of the first, and the size of the destination. A gather's shape shares
+// the layout alone with it, so one generic shape would be no plainer.
 #[derive(Clone, Copy)]
 struct Shape {
     layout: Layout,

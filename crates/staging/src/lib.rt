@@ -78,13 +78,7 @@ fn place_of(elements: Elements, base: u32, lane: u8) -> usize
     (base as usize) + (lane as usize) * (elements.size as usize)
 }
 
-fn stage_lane(
-    registers: View<'_>,
-    elements: Elements,
-    lane: u8,
-    base: u32,
-    room: &mut Buffer<'_>,
-)
+fn stage_lane(registers: View<'_>, elements: Elements, lane: u8, base: u32, room: &mut Buffer<'_>)
     ensures { Becomes room.old room.new (written_all (stage_lane (viewed registers.entry) elements base lane) (held room.old)) }
 {
     let place = place_of(elements, base, lane);
@@ -184,7 +178,11 @@ pub fn first_number(room: View<'_>, layout: Layout, lane: u8) -> u64
 pub fn second_number(room: View<'_>, layout: Layout, lane: u8) -> u64
     ensures { result ≡ second_number room.entry.bytes.now layout lane }
 {
-    cell_reads::number_at(room.bytes, second_place(layout, lane) as usize, layout.second)
+    cell_reads::number_at(
+        room.bytes,
+        second_place(layout, lane) as usize,
+        layout.second,
+    )
 }
 
 // Whether a byte of either is tainted.

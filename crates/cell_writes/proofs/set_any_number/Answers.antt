@@ -1,5 +1,4 @@
 -- `cell_writes::set_any_number` meets its contract.
-use Rattle.std.proofs.Common.{refl}
 use Rattle.cells.proofs.WriteLaws.{number-writes-next, number-writes-over}
 use Rattle.cells.proofs.LentLaws.{leads-turn, leads-over}
 use Rattle.cell_writes.proofs.set_any_number.Goals as goal
