@@ -15,18 +15,6 @@ use Rattle.cells.specs.Element.{element}
 use Rattle.cells.proofs.NumberLaws.{number-none, number-next, element-is}
 use Rattle.cells.proofs.BoolLaws.{both_true}
 
--- ---- the tests
--- a sum up to an end, asked by a difference
-pub room-told : (end at count : ℕ) → count ≤ end → leb at (end - count) ≡ leb (at + count) end
-room-told end at count h = told (leb at (end - count)) refl
-  where
-    told : (t : Bool) → leb at (end - count) ≡ t → t ≡ leb (at + count) end
-    told true e = sym (le-leb (at + count) end (omega (arith, leb-true at (end - count) e)))
-    told false e = sym (lt-leb (at + count) end (omega (arith, leb-false at (end - count) e)))
-
-pub room-short : (end at count : ℕ) → end < count → false ≡ leb (at + count) end
-room-short end at count h = sym (lt-leb (at + count) end (omega arith))
-
 -- a size that was asked for, and room for it
 pub sized : (room : Bool) (size n at end : ℕ) → room ≡ leb (at + size) end → (room && eqb size n) ≡ true → (size ≡ n) × (at + n ≤ end)
 sized room size n at end told e =
@@ -82,6 +70,3 @@ pub eight-tainted : (l : List ℕ) (at : ℕ) (low high : Bool) → low ≡ any_
 eight-tainted l at low high p q =
     let e : any_tainted l at 8 ≡ (any_tainted l at 4 || any_tainted l (at + 4) 4) = tainted-append l 4 4 at in
     rw (e, ← p, ← q)
-
-pub tainted-of : (l : List ℕ) (at size n : ℕ) (r : Bool) → size ≡ n → r ≡ any_tainted l at n → r ≡ any_tainted l at size
-tainted-of l at size n r same read = rw same read

@@ -17,15 +17,6 @@ use Rattle.cell_writes.specs.Mirror.CopyRoom.{copy_room, CopyRoom}
 use Rattle.cells.proofs.WriteLaws.{written-append}
 use Rattle.cells.proofs.BoolLaws.{both_true}
 
--- ---- the tests
--- a size that was asked for, and room for it up to two ends
-pub sized-both : (one two : Bool) (size n at end other : ℕ) → one ≡ leb (at + size) end → two ≡ leb (at + size) other → ((one && two) && eqb size n) ≡ true → (size ≡ n) × (at + n ≤ end) × (at + n ≤ other)
-sized-both one two size n at end other told more e =
-    let both = both_true (one && two) (eqb size n) e in
-    let rooms = both_true one two both.0 in
-    let same : size ≡ n = eqb-true size n both.1 in
-    (same, omega (arith, leb-true (at + size) end (sym told ∙ rooms.0), same), omega (arith, leb-true (at + size) other (sym more ∙ rooms.1), same))
-
 pub copy-room : (b : Buffer) (from : ℕ) (c : Buffer) (to n : ℕ) → copy_room b from c to n ≡ true → CopyRoom b from c to n
 unfolding copy_room
 copy-room b from c to n e =
