@@ -48,7 +48,7 @@ fn assemble_line(characters: &[u8], out: &mut [u8], at: usize) -> usize
 {
     let mut bytes = [0u8; 64];
     match text::read_into(characters, &mut bytes) {
-        Ok(count) => put_encoding(out, at, line_blocks::first_bytes(&bytes, count)),
+        Ok(count) => put_encoding(out, at, line_blocks::first(&bytes, count)),
         Err(refusal) => put_column(out, at, refusal.column() as u64),
     }
 }
@@ -80,7 +80,7 @@ fn next_line(block: &[u8], line: &mut [u8], out: &mut [u8], s: State) -> State
     }
     State {
         begun: Begun::nothing(),
-        out: assemble_line(line_blocks::first_bytes(line, begun.used), out, s.out),
+        out: assemble_line(line_blocks::first(line, begun.used), out, s.out),
         place: end + 1,
     }
 }
@@ -118,7 +118,7 @@ fn assemble_block<W: Write>(
     for _turn in 0..u64::MAX {
         let next = work(block, line, out, s);
         writer
-            .write_all(line_blocks::first_bytes(out, next.out))
+            .write_all(line_blocks::first(out, next.out))
             .map_err(|_| Failure::Unwritten)?;
         if block.len() <= next.place {
             return Ok(next.begun);

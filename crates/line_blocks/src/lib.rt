@@ -12,13 +12,6 @@ pub fn first<T>(buffer: &[T], count: usize) -> &[T]
     buffer.get(..count).unwrap_or(buffer)
 }
 
-// The same of bytes.
-pub fn first_bytes(buffer: &[u8], count: usize) -> &[u8]
-    ensures { result.now ≡ take count buffer.now }
-{
-    first(buffer, count)
-}
-
 // Of the line begun, how many characters stand in the line buffer, and whether there were more.
 #[derive(Clone, Copy)]
 pub struct Begun {

@@ -94,7 +94,7 @@ fn list_step(block: &[u8], line: &[u8], kernel: &[u8], out: &mut [u8], s: State)
     requires at_in_bounds { s.at < length (take s.size kernel.now) }
     ensures { Goes block.now line.now kernel.now out.old s line.now kernel.now out.new result }
 {
-    let step = list_instruction(line_blocks::first_bytes(kernel, s.size), s.at, out, s.out);
+    let step = list_instruction(line_blocks::first(kernel, s.size), s.at, out, s.out);
     State {
         at: step.next,
         out: step.used,
@@ -116,7 +116,7 @@ fn take_line(line: &[u8], begun: Begun, kernel: &mut [u8], out: &mut [u8], at: u
     ensures { (take result.out out.new ++ listed_from (take result.size kernel.new) 0 ≡ take at out.old ++ row_listed (row line.now begun.used begun.long)) × (result.out ≤ length out.new) }
 {
     match load(
-        line_blocks::first_bytes(line, begun.used),
+        line_blocks::first(line, begun.used),
         begun.long,
         kernel,
     ) {
@@ -160,7 +160,7 @@ fn next_line(block: &[u8], line: &mut [u8], kernel: &mut [u8], out: &mut [u8], s
 fn has_lines(kernel: &[u8], s: State) -> bool
     ensures { result ≡ ltb s.at (length (take s.size kernel.now)) }
 {
-    let bytes = line_blocks::first_bytes(kernel, s.size);
+    let bytes = line_blocks::first(kernel, s.size);
     s.at < bytes.len()
 }
 
@@ -224,7 +224,7 @@ fn list_block<W: Write>(
     for _turn in 0..u64::MAX {
         let next = work(block, line, kernel, out, s);
         writer
-            .write_all(line_blocks::first_bytes(out, next.out))
+            .write_all(line_blocks::first(out, next.out))
             .map_err(|_| Failure::Unwritten)?;
         if !has_work(block, kernel, next) {
             return Ok(next.begun);

@@ -77,12 +77,14 @@ pub struct Settings {
 // What the lines so far came to, but for the contents, which stand in the caller's buffers.
 #[derive(Clone, Copy)]
 pub struct Case {
-    // how many lines there were, and the number of the first bad one; 0 if none is bad
+    // how many lines there were, and the number of the first bad one; 0 if none is bad (the definitions' `bad_line`, `verdict_of` and `line_read`
+    // ask whether it is above 0; an Option would need an invariant that no Some is 0)
     pub lines: u32,
     pub bad: u32,
     // whether a content did not fit its buffer, which is 13
     pub full: bool,
-    // for each kind, how many frames of it were met (of 02, 03 and 04: stored), and how many bytes their contents have together
+    // for each kind, how many frames of it were met (of 02, 03 and 04: stored), and how many bytes their contents have together (two arrays, as
+    // in the definitions' `counted` and `sized`)
     pub met: [usize; KINDS],
     pub lengths: [usize; KINDS],
     pub settings: Settings,

@@ -7,7 +7,7 @@ use Rattle.assembler.proofs.assemble_line.Goals as goal
 
 pub returns-in-Ok : goal.returns-in-Ok
 returns-in-Ok c =
-    wrote-put _ _ _ _ _ _ (length-replicate {A = ℕ} 64 0) _ _ c.first_bytes.result.now c.in-Ok.ensures.answer c.in-Ok.ensures.bytes c.first_bytes.ensures c.put_encoding.ensures
+    wrote-put _ _ _ _ _ _ (length-replicate {A = ℕ} 64 0) _ _ c.first.result.now c.in-Ok.ensures.answer c.in-Ok.ensures.bytes c.first.ensures c.put_encoding.ensures
 
 pub returns-in-Err : goal.returns-in-Err
 returns-in-Err c =

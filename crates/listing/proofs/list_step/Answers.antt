@@ -5,4 +5,4 @@ use Rattle.listing.proofs.list_step.Goals as goal
 
 pub returns : goal.returns
 returns c =
-    step-goes _ _ c.args.kernel.now c.first_bytes.result.now _ _ c.args.s _ _ (λ k. omega (arith, c.type_inv.kernel k)) c.first_bytes.ensures c.requires.at_in_bounds c.requires.out_in_bounds c.list_instruction-step.ensures
+    step-goes _ _ c.args.kernel.now c.first.result.now _ _ c.args.s _ _ (λ k. omega (arith, c.type_inv.kernel k)) c.first.ensures c.requires.at_in_bounds c.requires.out_in_bounds c.list_instruction-step.ensures
