@@ -8,7 +8,11 @@ use native.Mathlib.Numerals.{add-one}
 use lib.Dec.{eqb, ltb}
 use lib.ListN.{length, drop, get_or, length-drop, drop_of_length-le}
 use lib.Seq.{drop-cons, drop-drop}
-use borrow.Author.Tests.{eqb-true, eqb-false, eq-eqb, ne_eqb, ltb-true, ltb-false, lt-ltb}
+use borrow.Author.Tests.{eqb-true, eqb-false, eq-eqb, ne_eqb, ltb-true, ltb-false}
+use Rattle.std.specs.List.{position, position_or_len}
+use Rattle.std.specs.Option.{unwrap_or}
+use Rattle.std.specs.Prelude.{Some, None}
+use Rattle.std.proofs.lemmas.List.Recursion.{is_position_or_len}
 use Rattle.formats.specs.Format.{got, stop}
 use Rattle.formats.specs.Words.{ahead, words, one_of}
 use Rattle.formats.specs.Mirror.Scan.{common, word_of, in_word, alike_at, better, scan, no_word, chosen, word_in}
@@ -52,7 +56,7 @@ in-turn p j b e h = rw (add-one j) (word-is p j ∙ rw (← e, h))
 pub in-over : (p : List ℕ) (j : ℕ) (b : Bool) → b ≡ in_word p j → b ≡ false → word_of (drop j p) ≡ []
 in-over p j b e h = word-is p j ∙ rw (← e, h)
 
-word-within : (q : List ℕ) → length (word_of q) ≤ length q
+pub word-within : (q : List ℕ) → length (word_of q) ≤ length q
 unfolding word_of
 word-within [] = omega arith
 word-within (c ∷ q) = told (eqb c 124) (word-within q)
@@ -63,6 +67,31 @@ word-within (c ∷ q) = told (eqb c 124) (word-within q)
 
 pub word-inside : (p : List ℕ) (i : ℕ) → i ≤ length p → i + length (word_of (drop i p)) ≤ length p
 word-inside p i h = omega (arith, word-within (drop i p), length-drop i p)
+
+-- a word ends where the search finds a bar, or with the table
+word-position : (p : List ℕ) → length (word_of p) ≡ position_or_len (λ c. eqb c 124) p
+unfolding word_of
+word-position = is_position_or_len (λ p. length (word_of p)) (λ c. eqb c 124) word-nil word-more
+  where
+    word-nil : length (word_of []) ≡ 0
+    word-nil = refl
+
+    word-more : (c : ℕ) (p : List ℕ) → length (word_of (c ∷ p)) ≡ cond (eqb c 124) 0 (1 + length (word_of p))
+    word-more c p = told (eqb c 124)
+      where
+        told : (b : Bool) → length (cond b [] (c ∷ word_of p)) ≡ cond b 0 (1 + length (word_of p))
+        told true = refl
+        told false = omega arith
+
+pub word_found : (p : List ℕ) → unwrap_or (position (λ c. eqb c 124) p) (length p) ≡ length (word_of p)
+word_found p = rw (word-position p) (told (ltb (position_or_len (λ c. eqb c 124) p) (length p)) refl)
+  where
+    inside : position_or_len (λ c. eqb c 124) p ≤ length p
+    inside = omega (arith, word-position p, word-within p)
+
+    told : (q : Bool) → ltb (position_or_len (λ c. eqb c 124) p) (length p) ≡ q → unwrap_or (cond q (Some (position_or_len (λ c. eqb c 124) p)) None) (length p) ≡ position_or_len (λ c. eqb c 124) p
+    told true e = refl
+    told false e = omega (arith, inside, ltb-false (position_or_len (λ c. eqb c 124) p) (length p) e)
 
 -- what is left of a word behind its first n characters
 word-left : (q : List ℕ) (n : ℕ) → n ≤ length (word_of q) → length (word_of (drop n q)) ≡ length (word_of q) - n
@@ -180,13 +209,11 @@ pub word-missed : (p s : List ℕ) (at : ℕ) (b : Best) → b ≡ scan (words p
 unfolding one_of word_in chosen
 word-missed p s at b e f = rw (← e, f)
 
-pub better-longer : (b : Best) (n : ℕ) (full : Bool) (i : ℕ) → b.reach < n → record { reach = n; full = full; word = i } ≡ better b n full i
-unfolding better
-better-longer b n full i h = rw (lt-ltb b.reach n h)
-
 -- what the loops of src/lib.rt stand on
 pub ruleset letter_turns = (in-inside, in-turn, in-over)
 
 pub ruleset alike_turns = (alike-inside, alike-turn, alike-over)
 
 pub ruleset word_turns = (scan-turn, scan-over, agreed-inside, end-behind, word-inside, word_got, word-missed)
+
+pub ruleset words_inside = (word_none, word-within, length-drop)

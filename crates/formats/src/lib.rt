@@ -2,7 +2,7 @@
 
 #![tactic(auto)]
 
-ghost use Rattle.std.specs.Prelude.{◌≡◌, ◌+◌, ◌*◌, ◌≤◌, ◌<◌, length, drop};
+ghost use Rattle.std.specs.Prelude.{◌≡◌, ◌+◌, ◌*◌, ◌≤◌, ◌<◌, ◌==◌, length, drop, position};
 ghost use Rattle.formats.specs.Words.{words, one_of};
 ghost use Rattle.formats.specs.Numbers.{number, radix_of};
 ghost use Rattle.formats.specs.Format.{got};
@@ -28,7 +28,8 @@ pub enum Base {
     Hexadecimal,
 }
 
-// The longest start of a text that a word so far has too; whether a word is just that, and which.
+// The longest start of a text that a word so far has too; whether a word is just that, and which. The number stands beside the flag, and not in an
+// Option, since the definitions `better` and `scan` (specs/Mirror/Scan.antt) speak of both.
 #[derive(Clone, Copy)]
 struct Best {
     reach: usize,
@@ -44,16 +45,29 @@ pub fn in_word(table: &[u8], j: usize) -> bool
     j < table.len() && table[j] != b'|'
 }
 
+// The place of the first bar of a text.
+fn first_bar(text: &[u8]) -> Option<usize>
+    ensures { result ≡ position (λ c. c == 124) text.now }
+{
+    text.iter().position(|character| *character == b'|')
+}
+
+// How long the first word of a table is.
+fn word_length(table: &[u8]) -> usize
+    ensures { result ≡ length (word_of table.now) }
+{
+    first_bar(table).unwrap_or(table.len())
+}
+
 // Where the word ends that has a character at `from`, or ends there.
-#[tactic(auto, using(crate::proofs::ScanLaws::letter_turns))]
+#[tactic(auto, using(crate::proofs::ScanLaws::words_inside))]
 pub fn word_end(table: &[u8], from: usize) -> usize
     ensures { result ≡ from + length (word_of (drop from table.now)) }
 {
-    let mut i = from;
-    while in_word(table, i) {
-        i += 1;
+    match table.get(from..) {
+        Some(rest) => from + word_length(rest),
+        None => from,
     }
-    i
 }
 
 // Whether the text has at `i` the character that a word has at `j`.
@@ -64,7 +78,8 @@ fn alike(text: &[u8], i: usize, table: &[u8], j: usize) -> bool
     in_word(table, j) && i < text.len() && text[i] == table[j]
 }
 
-// How many characters the text from `at` on has in common with the word from `from` on.
+// How many characters the text from `at` on has in common with the word from `from` on. A chain over two slices is no plainer: it would need the
+// word's end, which is searched from here on.
 #[tactic(auto, using(crate::proofs::ScanLaws::alike_turns))]
 fn agreement(text: &[u8], at: usize, table: &[u8], from: usize) -> usize
     ensures { result ≡ common (drop at text.now) (word_of (drop from table.now)) }

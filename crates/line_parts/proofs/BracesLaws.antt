@@ -5,10 +5,10 @@ use mathlib.Core.Bool.{Bool, true, false, cond, ◌&&◌}
 use Prim.Native.Nat.{ℕ, ◌≤◌, ◌<◌}
 use native.Mathlib.Omega.{arith}
 use lib.Dec.{leb, eqb}
-use borrow.Author.Tests.{eqb-true, eqb-false, eq-eqb, ne_eqb, leb-true, le-leb}
+use borrow.Author.Tests.{eqb-true, eqb-false, ne_eqb, leb-true, le-leb}
 use Rattle.hex_text.specs.Digits.{is_decimal, is_letter}
 use Rattle.formats.specs.Text.{text}
-use Rattle.formats.specs.Format.{Out, Format, pair, through, blank}
+use Rattle.formats.specs.Format.{Format, pair, through, blank}
 use Rattle.formats.specs.Words.{words, word_at, one_of, table, after}
 use Rattle.formats.specs.Numbers.{number}
 use Rattle.formats.specs.Mirror.Digits.{is_digit, value_of}
@@ -59,15 +59,6 @@ scale-behind-lawful size =
 pub scale-behind-under : (size n : ℕ) → (scale_behind size).good n ≡ true → n ≤ 65535
 unfolding scale_behind
 scale-behind-under size n h = (decimal-between (cond (eqb size 0) 1 0) 65535 (text "}|") n h).1
-
--- what is read in the range that the code gives
-pub read-some-scale : (size : ℕ) (s : List ℕ) (at : ℕ) (o : Out ℕ) → size ≡ 0 → o ≡ (decimal 1 65535 (text "}|")).read s at → o ≡ (scale_behind size).read s at
-unfolding scale_behind
-read-some-scale size s at o e p = rw (eq-eqb size 0 e) p
-
-pub read-any-scale : (size : ℕ) (s : List ℕ) (at : ℕ) (o : Out ℕ) → (size ≡ 0 → ⊥) → o ≡ (decimal 0 65535 (text "}|")).read s at → o ≡ (scale_behind size).read s at
-unfolding scale_behind
-read-any-scale size s at o n p = rw (ne_eqb size 0 n) p
 
 size-and-scale-lawful : (braced : ℕ) → Lawful (size_and_scale braced) goes_on
 unfolding size_and_scale sound single opens is_digit value_of is_decimal is_letter

@@ -1,12 +1,11 @@
 -- The text of an immediate is a lawful format.
 use mathlib.Core.Path.{◌≡◌, refl, sym, ap, ◌∙◌}
-use mathlib.Core.List.{List}
 use mathlib.Core.Logic.{◌⊎◌, inl, inr}
 use mathlib.Core.Bool.{Bool, true, false, cond, ◌&&◌, ◌||◌, true≢false}
 use Prim.Native.Nat.{ℕ, suc, ◌+◌, ◌*◌, ◌-◌, ◌/◌, ◌%◌, ◌≤◌, ◌<◌}
 use native.Mathlib.Omega.{arith}
 use lib.Dec.{eqb, ltb}
-use borrow.Author.Tests.{eqb-true, eqb-false, eq-eqb, ne_eqb, ltb-true, ltb-false, lt-ltb, le-ltb}
+use borrow.Author.Tests.{eqb-true, eqb-false, eq-eqb, ne_eqb, ltb-true, ltb-false, lt-ltb}
 use Rattle.hex_text.specs.Digits.{is_decimal, is_letter}
 use Rattle.formats.specs.Format.{pair}
 use Rattle.formats.specs.Words.{table}
@@ -29,15 +28,6 @@ use Rattle.formats.proofs.PartLaws.{in_table, in-range}
 pub type-lawful : (n : ℕ) → Lawful (type_behind n) free
 unfolding type_behind sound
 type-lawful n = cond-lawful (ltb n 4294967296) (table-lawful types free refl) (table-lawful wide_types free refl)
-
--- the words that the code gives
-pub type-narrow : (n : ℕ) (s : List ℕ) (at : ℕ) → n < 4294967296 → (table types).read s at ≡ (type_behind n).read s at
-unfolding type_behind
-type-narrow n s at h = rw (lt-ltb n 4294967296 h)
-
-pub type-wide : (n : ℕ) (s : List ℕ) (at : ℕ) → 4294967296 ≤ n → (table wide_types).read s at ≡ (type_behind n).read s at
-unfolding type_behind
-type-wide n s at h = rw (le-ltb n 4294967296 h)
 
 type-begins : (n : ℕ) → Begins (is_digit 16) (type_behind n)
 unfolding type_behind opens is_digit value_of is_decimal is_letter
