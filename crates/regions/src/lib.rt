@@ -138,6 +138,7 @@ pub fn elements_good(
     let low = u64::from(reach.low);
     let high = u64::from(reach.high);
     let bytes = u64::from(size);
+    // with `||` and `&&` its goals stayed open
     ((lanes == 0) | (high < u64::from(variable.count)))
         & two_registers(
             register_size,
