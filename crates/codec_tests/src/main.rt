@@ -34,10 +34,8 @@ fn kernel_of(line: &[u8]) -> [u8; 64]
     ensures { 64 ≡ length result }
 {
     let mut kernel = [0u8; 64];
-    let mut i = 0;
-    while i < 64 {
+    for i in 0..64 {
         kernel[i] = 16 * digit_at(line, 2 * i) + digit_at(line, 2 * i + 1);
-        i += 1;
     }
     kernel
 }
@@ -76,15 +74,12 @@ fn next_line(text: &[u8], at: usize) -> usize
     requires { at < length text.now }
     ensures { (at < result) × (result ≤ length text.now) }
 {
-    let mut i = at;
-    while i + 1 < text.len() && text[i] != b'\n' {
-        i += 1;
-    }
-    i + 1
+    (line_blocks::line_end(text, at) + 1).min(text.len())
 }
 
 fn answer_lines(rt: &impl Print, text: &[u8]) -> io::Result<()> {
     let mut at = 0;
+    // from line to line: std splits no slice
     while at < text.len() {
         let next = next_line(text, at);
         answer_line(rt, &text[at..next])?;

@@ -123,6 +123,7 @@ impl Cursor {
         };
         let mut from = 0;
         let mut word = 0u64;
+        // from word to word: a step is as long as the word, which is searched for in the turn
         while from < table.len() {
             let n = agreement(text, at, table, from);
             let end = word_end(table, from + n);

@@ -57,11 +57,7 @@ fn next_line(text: &[u8], at: usize) -> usize
     requires { at < length text.now }
     ensures { (at < result) × (result ≤ length text.now) }
 {
-    let mut i = at;
-    while i + 1 < text.len() && text[i] != b'\n' {
-        i += 1;
-    }
-    i + 1
+    (line_blocks::line_end(text, at) + 1).min(text.len())
 }
 
 // Where the numbers of a table's latest line start, which is behind its letter.
@@ -89,6 +85,7 @@ fn answer_lines(rt: &impl Print, text: &[u8]) -> io::Result<()> {
     let mut variables = 0;
     let mut predicates = 0;
     let mut surfaces = 0;
+    // from line to line: std splits no slice
     while at < text.len() {
         let next = next_line(text, at);
         variables = latest(text, at, b'v', variables);
