@@ -6,9 +6,10 @@ use native.Mathlib.Omega.{arith}
 use borrow.Author.Tests.{lt-ltb, le-ltb}
 use lib.ListN.{length}
 use Rattle.tally.specs.declared.Case.{Case}
-use Rattle.tally.specs.declared.Verdict.{Verdict}
+use Rattle.tally.specs.declared.Unfit.{Unfit}
+use Rattle.tally.specs.declared.Unfit.TheVariants as unfit
 use Rattle.tally.specs.Mirror.Reading.{Contents, Reading, reading, tables}
-use Rattle.tally.specs.Mirror.Verdicts.{verdict_of}
+use Rattle.tally.specs.Mirror.Verdicts.{Verdict, verdict, number_of, position_of, verdict_of}
 use Rattle.refusal.specs.declared.Detail.TheVariants as detail
 use Rattle.format_writers.specs.Writing as formats
 use Rattle.format_writers.specs.Writing.{wrote}
@@ -17,7 +18,7 @@ use Rattle.output.specs.Mirror.Page.{page, written}
 use Rattle.output.specs.Output.{answer_line, buffer_lines, output_bytes}
 use Rattle.output.proofs.LengthLaws.{length-answer}
 use Rattle.step.specs.State.{Setup, State, state}
-use Rattle.run.specs.declared.Answer.{Answer}
+use Rattle.run.specs.Answer.{Answer}
 use Rattle.run.specs.Run.{Outcome, outcome, run}
 use Rattle.answering.specs.declared.Form.{Form}
 use Rattle.answering.specs.declared.Form.TheVariants as form
@@ -28,6 +29,10 @@ use Rattle.answering.specs.Mirror.Setting.{setup_of, state_of}
 use Rattle.answering.specs.Mirror.Bench.{good_output, case_output}
 use Rattle.answering.proofs.SamePage.{same-page}
 use Rattle.answering.proofs.SizeLaws.{outcome-size}
+
+unfit-number : (u : Unfit) → 0 < number_of u
+unfit-number (unfit.BadLine line) = omega arith
+unfit-number unfit.Full = omega arith
 
 -- a short text, written as `formats` tells it
 short-puts : (t out after : List ℕ) (used : ℕ) → (wrote used after ≡ formats.written out 0 t) × (length t ≤ 67) → Puts t out after used
@@ -68,9 +73,9 @@ module _ (f : Form) (out after : List ℕ) (used : ℕ) where
   unfolding good_output setup_of
   good-written c b types starts counts bits elements surfaces lengths cut s e h = rw (← e) h
 
-  pub refused-written : (r : Reading) (v : Verdict) → v ≡ verdict_of r.case → 0 < v.number → Puts (refusal_text f v.number v.position) out after used → Puts (case_output f r) out after used
+  pub refused-written : (r : Reading) (u : Unfit) → verdict (number_of u) (position_of u) ≡ verdict_of r.case → Puts (refusal_text f (number_of u) (position_of u)) out after used → Puts (case_output f r) out after used
   unfolding case_output
-  refused-written r v e h g = rw (sym e, lt-ltb 0 v.number h) g
+  refused-written r u e g = rw (← e, lt-ltb 0 (number_of u) (unfit-number u)) g
 
   pub accepted-written : (r : Reading) (v : Verdict) → v ≡ verdict_of r.case → v.number ≤ 0 → Puts (good_output f r) out after used → Puts (case_output f r) out after used
   unfolding case_output

@@ -2,7 +2,7 @@
 use Rattle.std.specs.Prelude.{ℕ, List}
 use Rattle.verdict_line.specs.VerdictLine.{verdict_line}
 use Rattle.output.specs.Output.{buffer_lines, output_bytes}
-use Rattle.run.specs.declared.Answer.{Answer}
+use Rattle.run.specs.Answer.{Answer}
 use Rattle.run.specs.Run.{Outcome}
 
 -- Document 01, "The bench table": "It writes 40 (number ub, completed uw, position ud), then 01, 05, 08, 0a."

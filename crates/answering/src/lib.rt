@@ -2,23 +2,26 @@
 
 #![tactic(auto)]
 
-ghost use Rattle.std.specs.Prelude.{◌≡◌, ◌≤◌, min};
-ghost use Rattle.tally.specs.Mirror.Reading.{contents, reading, tables};
-ghost use Rattle.tally.specs.Mirror.Lines.{length_of};
-ghost use Rattle.tally.specs.Mirror.Verdicts.{taint_length};
+ghost use Rattle.std.specs.Prelude.{◌≡◌, ◌≤◌};
+ghost use Rattle.tally.specs.Mirror.Kinds.{code_of};
+ghost use Rattle.tally.specs.Mirror.Lent.{tables_seen};
+ghost use Rattle.tally.specs.Mirror.Reading.{contents, reading};
+ghost use Rattle.tally.specs.Mirror.Verdicts.{number_of, position_of};
 ghost use Rattle.output.specs.Mirror.Page.{page, written};
 ghost use Rattle.output.specs.Output.{buffer_lines, output_bytes};
 ghost use Rattle.step.specs.Borrowed.{lent};
+ghost use Rattle.run.specs.Answer.{answer_of};
 ghost use Rattle.run.specs.Run.{outcome, run};
 ghost use Rattle.answering.specs.Mirror.Setting.{taint_of, setup_of};
 ghost use Rattle.answering.specs.Mirror.Forms.{outcome_text, refusal_text};
 ghost use Rattle.answering.specs.Mirror.Puts.{Puts};
 ghost use Rattle.answering.specs.Mirror.Bench.{good_output, case_output};
 
+use line_blocks::first;
 use refusal::Detail;
 use run::Answer;
-use step::Constants;
-use tally::Case;
+use step::{Constants, Room};
+use tally::{Case, Kind, TableViews, Unfit};
 
 // What is written of an answer: the 40 line and the buffers, or the verdict line.
 #[derive(Clone, Copy)]
@@ -27,84 +30,63 @@ pub enum Form {
     Verdict,
 }
 
-// As many bytes as a frame of this kind has, and no more than a buffer of 4,096.
-fn content_length(kind: u8, case: Case) -> usize
-    ensures { result ≡ min (length_of kind case) 4096 }
-{
-    let n = tally::length_of(kind, case);
-    if n < 4096 { n } else { 4096 }
-}
-
-// As many bytes of taint as a frame of this kind has, or the buffer if it is absent.
-fn taint_length(taint: u8, buffer: u8, case: Case) -> usize
-    ensures { result ≡ min (taint_length taint buffer case) 4096 }
-{
-    let n = tally::taint_length(taint, buffer, case);
-    if n < 4096 { n } else { 4096 }
+// The buffers that a run changes or marks, as a case file filled them.
+#[derive(Clone, Copy)]
+pub struct Storage {
+    pub registers: [u8; 4096],
+    pub memory: [u8; 4096],
+    pub register_taint: [u8; 4096],
+    pub surface_taint: [u8; 8192],
+    pub memory_taint: [u8; 4096],
 }
 
 // The taint of a frame; zeros if it is absent.
-fn taint_or_zeros(kind: u8, case: Case, taint: [u8; 4096]) -> [u8; 4096]
-    ensures { result ≡ taint_of 4096 kind case taint }
+#[tactic(auto, unfolding(crate::specs::Mirror::Setting::taint_of))]
+fn taint_or_zeros<const N: usize>(kind: Kind, case: Case, taint: [u8; N]) -> [u8; N]
+    ensures { result ≡ taint_of N (code_of kind) case taint.entry }
 {
-    if 0 < tally::met_of(kind, case) {
-        taint
-    } else {
-        [0; 4096]
-    }
-}
-
-fn surface_taint_or_zeros(case: Case, taint: [u8; 8192]) -> [u8; 8192]
-    ensures { result ≡ taint_of 8192 9 case taint }
-{
-    if 0 < tally::met_of(9, case) {
-        taint
-    } else {
-        [0; 8192]
-    }
+    if 0 < case.met(kind) { taint } else { [0; N] }
 }
 
 // The run, over tables and a kernel that are cut to what was read.
-fn run_case(
+fn run_case<'a>(
     case: Case,
     kernel: &[u8],
-    types: &[u8],
-    starts: &[u16],
-    counts: &[u16],
-    predicate_bits: &[u32],
-    predicate_counts: &[u8],
-    surface_lengths: &[u16],
-    surfaces: &[u8],
-    surface_taint: &[u8],
-    registers: &mut [u8],
-    register_taint: &mut [u8],
-    memory: &mut [u8],
-    memory_taint: &mut [u8],
+    tables: TableViews<'_>,
+    surfaces: &'a [u8],
+    surface_taint: &'a [u8],
+    registers: &'a mut [u8],
+    register_taint: &'a mut [u8],
+    memory: &'a mut [u8],
+    memory_taint: &'a mut [u8],
 ) -> Answer
-    ensures { let t = tables types.now starts.now counts.now predicate_bits.now predicate_counts.now surfaces.now surface_lengths.now in let s = lent registers register_taint surfaces surface_taint memory memory_taint in (outcome result s.exit ≡ run (setup_of case kernel.now t) s.entry) × (result.completed ≤ 4096) × (result.position ≤ 4096) }
+    ensures { let s = lent registers register_taint surfaces surface_taint memory memory_taint in (outcome (answer_of result) s.exit ≡ run (setup_of case kernel.now (tables_seen tables.entry)) s.entry) × (result.completed ≤ 4096) × (result.position ≤ 4096) }
 {
     let constants = Constants {
         base: case.settings.base,
         mask: case.settings.mask,
         register_size: case.settings.register_size,
     };
-    let variables = tally::met_of(2, case);
-    let predicates = tally::met_of(3, case);
-    run::run(
-        line_blocks::first_bytes(kernel, tally::length_of(7, case)),
-        line_blocks::first_bytes(types, variables),
-        feeding::first_words(starts, variables),
-        feeding::first_words(counts, variables),
-        feeding::first_dwords(predicate_bits, predicates),
-        line_blocks::first_bytes(predicate_counts, predicates),
-        feeding::first_words(surface_lengths, tally::met_of(4, case)),
-        constants,
-        surfaces,
-        surface_taint,
+    let variables = case.met(Kind::Variable);
+    let predicates = case.met(Kind::Predicate);
+    let mut room = Room {
         registers,
         register_taint,
         memory,
         memory_taint,
+        surfaces,
+        surface_taint,
+    };
+    run::run(
+        first(kernel, case.length(Kind::Kernel)),
+        first(tables.types, variables),
+        first(tables.starts, variables),
+        first(tables.counts, variables),
+        first(tables.predicate_bits, predicates),
+        first(tables.predicate_counts, predicates),
+        first(tables.surface_lengths, case.met(Kind::Surface)),
+        constants,
+        &mut room,
     )
 }
 
@@ -138,12 +120,7 @@ fn write_lines(
 fn run_and_write(
     case: Case,
     kernel: &[u8],
-    types: &[u8],
-    starts: &[u16],
-    counts: &[u16],
-    predicate_bits: &[u32],
-    predicate_counts: &[u8],
-    surface_lengths: &[u16],
+    tables: TableViews<'_>,
     surfaces: &[u8],
     surface_taint: &[u8],
     registers: &mut [u8],
@@ -153,17 +130,12 @@ fn run_and_write(
     form: Form,
     out: &mut [u8],
 ) -> usize
-    ensures { let t = tables types.now starts.now counts.now predicate_bits.now predicate_counts.now surfaces.now surface_lengths.now in let s = lent registers register_taint surfaces surface_taint memory memory_taint in Puts (outcome_text form case.settings.base (run (setup_of case kernel.now t) s.entry)) out.old out.new result }
+    ensures { let s = lent registers register_taint surfaces surface_taint memory memory_taint in Puts (outcome_text form case.settings.base (run (setup_of case kernel.now (tables_seen tables.entry)) s.entry)) out.old out.new result }
 {
     let answer = run_case(
         case,
         kernel,
-        types,
-        starts,
-        counts,
-        predicate_bits,
-        predicate_counts,
-        surface_lengths,
+        tables,
         surfaces,
         surface_taint,
         registers,
@@ -194,10 +166,12 @@ fn run_and_write(
     }
 }
 
-// A case that is not run: 14 or 13, and a position.
-fn write_refusal(number: u8, position: u32, form: Form, out: &mut [u8]) -> usize
-    ensures { Puts (refusal_text form number position) out.old out.new result }
+// A case that is not run: its number and position.
+fn write_refusal(unfit: Unfit, form: Form, out: &mut [u8]) -> usize
+    ensures { Puts (refusal_text form (number_of unfit) (position_of unfit)) out.old out.new result }
 {
+    let number = unfit.number();
+    let position = unfit.position();
     match form {
         Form::Lines => output::put_answer(out, 0, number, 0, position),
         Form::Verdict => verdict_line::put_verdict(out, number, 0, position as usize, Detail::None),
@@ -207,46 +181,38 @@ fn write_refusal(number: u8, position: u32, form: Form, out: &mut [u8]) -> usize
 // A case without a bad line, whose contents fit.
 fn answer_good(
     case: Case,
-    mut registers: [u8; 4096],
-    mut memory: [u8; 4096],
+    storage: Storage,
     kernel: &[u8],
-    register_taint: [u8; 4096],
-    surface_taint: [u8; 8192],
-    memory_taint: [u8; 4096],
-    types: &[u8],
-    starts: &[u16],
-    counts: &[u16],
-    predicate_bits: &[u32],
-    predicate_counts: &[u8],
-    surface_bytes: &[u8],
-    surface_lengths: &[u16],
+    tables: TableViews<'_>,
     form: Form,
     out: &mut [u8],
 ) -> usize
-    ensures { let t = tables types.now starts.now counts.now predicate_bits.now predicate_counts.now surface_bytes.now surface_lengths.now in Puts (good_output form (reading case (contents registers memory kernel.now register_taint surface_taint memory_taint) t)) out.old out.new result }
+    ensures { let b = contents storage.registers storage.memory kernel.now storage.register_taint storage.surface_taint storage.memory_taint in Puts (good_output form (reading case b (tables_seen tables.entry))) out.old out.new result }
 {
-    let file = content_length(1, case);
-    let window = content_length(5, case);
-    let file_taint = taint_length(8, 1, case);
-    let window_taint = taint_length(10, 5, case);
-    let mut of_registers = taint_or_zeros(8, case, register_taint);
-    let mut of_memory = taint_or_zeros(10, case, memory_taint);
-    let of_surfaces = surface_taint_or_zeros(case, surface_taint);
+    let mut registers = storage.registers;
+    let mut memory = storage.memory;
+    let mut register_taint = taint_or_zeros(Kind::RegisterTaint, case, storage.register_taint);
+    let mut memory_taint = taint_or_zeros(Kind::MemoryTaint, case, storage.memory_taint);
+    let surface_taint = taint_or_zeros(Kind::SurfaceTaint, case, storage.surface_taint);
+    let file = case.length(Kind::Registers).min(4096);
+    let window = case.length(Kind::Memory).min(4096);
+    let file_taint = case
+        .taint_length(Kind::RegisterTaint, Kind::Registers)
+        .min(4096);
+    let window_taint = case.taint_length(Kind::MemoryTaint, Kind::Memory).min(4096);
     run_and_write(
         case,
         kernel,
-        types,
-        starts,
-        counts,
-        predicate_bits,
-        predicate_counts,
-        surface_lengths,
-        line_blocks::first_bytes(surface_bytes, tally::length_of(4, case)),
-        line_blocks::first_bytes(&of_surfaces, tally::taint_length(9, 4, case)),
+        tables,
+        first(tables.surface_bytes, case.length(Kind::Surface)),
+        first(
+            &surface_taint,
+            case.taint_length(Kind::SurfaceTaint, Kind::Surface),
+        ),
         &mut registers[..file],
-        &mut of_registers[..file_taint],
+        &mut register_taint[..file_taint],
         &mut memory[..window],
-        &mut of_memory[..window_taint],
+        &mut memory_taint[..window_taint],
         form,
         out,
     )
@@ -255,44 +221,16 @@ fn answer_good(
 // The whole answer to a case and the buffers that it was read into, to the output buffer's start, and how many bytes it has.
 pub fn answer(
     case: Case,
-    registers: [u8; 4096],
-    memory: [u8; 4096],
+    storage: Storage,
     kernel: &[u8],
-    register_taint: [u8; 4096],
-    surface_taint: [u8; 8192],
-    memory_taint: [u8; 4096],
-    types: &[u8],
-    starts: &[u16],
-    counts: &[u16],
-    predicate_bits: &[u32],
-    predicate_counts: &[u8],
-    surface_bytes: &[u8],
-    surface_lengths: &[u16],
+    tables: TableViews<'_>,
     form: Form,
     out: &mut [u8],
 ) -> usize
-    ensures { let t = tables types.now starts.now counts.now predicate_bits.now predicate_counts.now surface_bytes.now surface_lengths.now in Puts (case_output form (reading case (contents registers memory kernel.now register_taint surface_taint memory_taint) t)) out.old out.new result }
+    ensures { let b = contents storage.registers storage.memory kernel.now storage.register_taint storage.surface_taint storage.memory_taint in Puts (case_output form (reading case b (tables_seen tables.entry))) out.old out.new result }
 {
-    let verdict = tally::judge(case);
-    if 0 < verdict.number {
-        return write_refusal(verdict.number, verdict.position, form, out);
+    match case.judge() {
+        Ok(()) => answer_good(case, storage, kernel, tables, form, out),
+        Err(unfit) => write_refusal(unfit, form, out),
     }
-    answer_good(
-        case,
-        registers,
-        memory,
-        kernel,
-        register_taint,
-        surface_taint,
-        memory_taint,
-        types,
-        starts,
-        counts,
-        predicate_bits,
-        predicate_counts,
-        surface_bytes,
-        surface_lengths,
-        form,
-        out,
-    )
 }

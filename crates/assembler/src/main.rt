@@ -13,7 +13,6 @@ use formats::Base;
 use line_blocks::Begun;
 use std::io::{Read, Write};
 use streams::Failure;
-use text::Assembled;
 
 // The line of a refusal.
 fn put_column(out: &mut [u8], at: usize, column: u64) -> usize
@@ -49,10 +48,8 @@ fn assemble_line(characters: &[u8], out: &mut [u8], at: usize) -> usize
 {
     let mut bytes = [0u8; 64];
     match text::read_into(characters, &mut bytes) {
-        Assembled::Wrote(count) => {
-            put_encoding(out, at, line_blocks::first_bytes(&bytes, count))
-        }
-        Assembled::Refused(_, column) => put_column(out, at, column as u64),
+        Ok(count) => put_encoding(out, at, line_blocks::first_bytes(&bytes, count)),
+        Err(refusal) => put_column(out, at, refusal.column() as u64),
     }
 }
 

@@ -1,6 +1,7 @@
 -- The laws of `every_below`: what a loop over a table learns, and what is then known of each entry.
-use mathlib.Core.Path.{◌≡◌, refl, ap}
-use mathlib.Core.Bool.{Bool, true, false, ◌&&◌}
+use mathlib.Core.Path.{◌≡◌, refl, sym, ap}
+use mathlib.Core.Logic.{◌↔◌}
+use mathlib.Core.Bool.{Bool, true, false, ◌&&◌, false≢true}
 use Prim.Native.Nat.{ℕ, zero, suc, ◌+◌, ◌<◌}
 use native.Mathlib.Omega.{arith}
 use native.Mathlib.Numerals.{add-one}
@@ -47,3 +48,12 @@ module _ (good : ℕ → Bool) where
       below_more (λ (j : ℕ). good j ≡ false → every_below (suc n) good ≡ false) n
       (λ j l f. left-fails (every_below n good) (good n) (every-fails n j l f))
       (λ f. right-fails (every_below n good) (good n) f) k (rw (add-one n) h) e
+
+  -- as a chain's `all` says it: the test passed is `every_below`
+  pub every_is : (n : ℕ) (b : Bool) → (b ≡ true ↔ ((k : ℕ) → k < n → good k ≡ true)) → b ≡ every_below n good
+  every_is n true h = sym (every_holds n (h.0 refl))
+  every_is n false h = told (every_below n good) refl
+    where
+      told : (q : Bool) → every_below n good ≡ q → false ≡ q
+      told true e = absurd (false≢true (h.1 (every-each n e)))
+      told false e = refl

@@ -2,7 +2,8 @@
 use Prim.Native.Nat.{ℕ, zero, suc, ◌+◌, ◌*◌, ◌-◌, ◌≤◌, ◌<◌}
 use mathlib.Core.Path.{◌≡◌, refl, sym, ◌∙◌}
 use mathlib.Core.Bool.{Bool, true, false, ◌&&◌, ◌||◌, or_assoc, or-false}
-use mathlib.Core.List.{List}
+use mathlib.Core.List.{List, [], ◌∷◌}
+use Rattle.std.specs.Int.{w32, from_le_bytes}
 use native.Mathlib.Omega.{arith}
 use lib.Dec.{leb, eqb}
 use lib.ListN.{get_or}
@@ -13,18 +14,6 @@ use Rattle.cells.specs.Buffer.{is_tainted, any_tainted}
 use Rattle.cells.specs.Element.{element}
 use Rattle.cells.proofs.NumberLaws.{number-none, number-next, element-is}
 use Rattle.cells.proofs.BoolLaws.{both_true}
-
--- ---- the tests
--- a sum up to an end, asked by a difference
-pub room-told : (end at count : ℕ) → count ≤ end → leb at (end - count) ≡ leb (at + count) end
-room-told end at count h = told (leb at (end - count)) refl
-  where
-    told : (t : Bool) → leb at (end - count) ≡ t → t ≡ leb (at + count) end
-    told true e = sym (le-leb (at + count) end (omega (arith, leb-true at (end - count) e)))
-    told false e = sym (lt-leb (at + count) end (omega (arith, leb-false at (end - count) e)))
-
-pub room-short : (end at count : ℕ) → end < count → false ≡ leb (at + count) end
-room-short end at count h = sym (lt-leb (at + count) end (omega arith))
 
 -- a size that was asked for, and room for it
 pub sized : (room : Bool) (size n at end : ℕ) → room ≡ leb (at + size) end → (room && eqb size n) ≡ true → (size ≡ n) × (at + n ≤ end)
@@ -45,8 +34,8 @@ four-number l at =
     let j : number_at 1 l (at + 3) ≡ get_or l (at + 3) 0 + 256 * number_at 0 l (suc (at + 3)) = number-next 0 l (at + 3) in
     omega (arith, n, m, k, j, number-none l (suc (at + 3)))
 
-pub four-read : (l : List ℕ) (at a b c d : ℕ) → a ≡ get_or l at 0 → b ≡ get_or l (at + 1) 0 → c ≡ get_or l (at + 2) 0 → d ≡ get_or l (at + 3) 0 → a + 256 * b + 65536 * c + 16777216 * d ≡ number_at 4 l at
-four-read l at a b c d p q r s = omega (arith, p, q, r, s, four-number l at)
+pub four-read : (l : List ℕ) (at r wide : ℕ) → r ≡ from_le_bytes w32 (get_or l at 0 ∷ get_or l (at + 1) 0 ∷ get_or l (at + 2) 0 ∷ get_or l (at + 3) 0 ∷ []) → wide ≡ r → wide ≡ number_at 4 l at
+four-read l at r wide p q = omega (arith, p, q, four-number l at)
 
 pub eight-read : (l : List ℕ) (at low high : ℕ) → low ≡ number_at 4 l at → high ≡ number_at 4 l (at + 4) → low + 4294967296 * high ≡ number_at 8 l at
 eight-read l at low high p q =
@@ -81,6 +70,3 @@ pub eight-tainted : (l : List ℕ) (at : ℕ) (low high : Bool) → low ≡ any_
 eight-tainted l at low high p q =
     let e : any_tainted l at 8 ≡ (any_tainted l at 4 || any_tainted l (at + 4) 4) = tainted-append l 4 4 at in
     rw (e, ← p, ← q)
-
-pub tainted-of : (l : List ℕ) (at size n : ℕ) (r : Bool) → size ≡ n → r ≡ any_tainted l at n → r ≡ any_tainted l at size
-tainted-of l at size n r same read = rw same read

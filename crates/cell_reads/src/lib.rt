@@ -30,20 +30,11 @@ pub fn byte_past(bytes: &[u8], at: usize, k: usize) -> u8
     }
 }
 
-fn wide(byte: u8) -> u64
-    ensures { (result ≡ byte) × (result < 256) }
-{
-    byte as u64
-}
-
 // Whether so many bytes from a position on lie before an end.
 pub fn has_room(end: usize, at: usize, count: usize) -> bool
     ensures { result ≡ leb (at + count) end }
 {
-    if end < count {
-        return false;
-    }
-    at <= end - count
+    count <= end && at <= end - count
 }
 
 // Four bytes that are there: no test for each.
@@ -51,11 +42,12 @@ fn four_at(bytes: &[u8], at: usize) -> u64
     requires { at + 4 ≤ length bytes.now }
     ensures { (result ≡ number_at 4 bytes.now at) × (result < 4294967296) }
 {
-    let first = wide(bytes[at]);
-    let second = wide(bytes[at + 1]);
-    let third = wide(bytes[at + 2]);
-    let fourth = wide(bytes[at + 3]);
-    first + 256 * second + 65536 * third + 16777216 * fourth
+    u64::from(u32::from_le_bytes([
+        bytes[at],
+        bytes[at + 1],
+        bytes[at + 2],
+        bytes[at + 3],
+    ]))
 }
 
 fn eight_at(bytes: &[u8], at: usize) -> u64
@@ -72,11 +64,9 @@ fn small_number_at(bytes: &[u8], at: usize, size: u8) -> u64
     requires { size ≤ 8 }
     ensures { result ≡ number_at size bytes.now at }
 {
-    let mut k = size;
     let mut number: u64 = 0;
-    while 0 < k {
-        k -= 1;
-        number = number * 256 + wide(byte_past(bytes, at, k as usize));
+    for k in (0..size).rev() {
+        number = number * 256 + u64::from(byte_past(bytes, at, usize::from(k)));
     }
     number
 }
@@ -95,7 +85,7 @@ fn any_number_at(bytes: &[u8], at: usize, size: u8) -> u64
 pub fn number_at(bytes: &[u8], at: usize, size: u8) -> u64
     ensures { result ≡ element size bytes.now at }
 {
-    let room = has_room(bytes.len(), at, size as usize);
+    let room = has_room(bytes.len(), at, usize::from(size));
     if room & (size == 4) {
         return four_at(bytes, at);
     }
@@ -129,10 +119,8 @@ fn some_tainted(taint: &[u8], at: usize, size: u8) -> bool
     ensures { result ≡ any_tainted taint.now at size }
 {
     let mut found = false;
-    let mut k: u8 = 0;
-    while k < size {
-        found |= is_tainted(byte_past(taint, at, k as usize));
-        k += 1;
+    for k in 0..size {
+        found |= is_tainted(byte_past(taint, at, usize::from(k)));
     }
     found
 }
@@ -141,7 +129,7 @@ fn some_tainted(taint: &[u8], at: usize, size: u8) -> bool
 pub fn any_tainted(taint: &[u8], at: usize, size: u8) -> bool
     ensures { result ≡ any_tainted taint.now at size }
 {
-    let room = has_room(taint.len(), at, size as usize);
+    let room = has_room(taint.len(), at, usize::from(size));
     if room & (size == 4) {
         return four_tainted(taint, at);
     }

@@ -1,26 +1,21 @@
 -- Four and eight bytes at once, where they lie inside: what a store of them writes.
-use Prim.Native.Nat.{ℕ, zero, suc, ◌+◌, ◌-◌, ◌/◌, ◌%◌, ◌≤◌, ◌<◌}
-use mathlib.Core.Path.{◌≡◌, sym, ap, ◌∙◌}
-use mathlib.Core.Bool.{Bool, true, ◌&&◌}
+use Prim.Native.Nat.{ℕ, zero, suc, ◌+◌, ◌-◌, ◌*◌, ◌/◌, ◌%◌, ◌≤◌, ◌<◌}
+use mathlib.Core.Path.{◌≡◌, refl, sym, ap, ◌∙◌}
+use mathlib.Core.Bool.{Bool, true, false, ◌&&◌}
 use mathlib.Core.List.{List, ◌++◌}
 use native.Mathlib.Omega.{arith}
+use mir.Val.{bool_byte}
 use lib.Dec.{leb, eqb}
 use lib.ListN.{length, get_or, set}
 use borrow.Author.Tests.{leb-true, eqb-true}
 use Rattle.cells.specs.Buffer.{Buffer, buffer, is_tainted, mark_of}
-use Rattle.cells.specs.Writes.{Write, written_all, number_writes, copy_writes}
+use Rattle.cells.specs.declared.Buffer as lent
+use Rattle.cells.specs.Lent.{held, Becomes, Leads}
+use Rattle.cells.proofs.LentLaws.{leads-bytes, leads-taint}
+use Rattle.cells.specs.Writes.{Write, written, written_all, number_writes, copy_writes}
 use Rattle.cell_writes.specs.Mirror.CopyRoom.{copy_room, CopyRoom}
 use Rattle.cells.proofs.WriteLaws.{written-append}
 use Rattle.cells.proofs.BoolLaws.{both_true}
-
--- ---- the tests
--- a size that was asked for, and room for it up to two ends
-pub sized-both : (one two : Bool) (size n at end other : ℕ) → one ≡ leb (at + size) end → two ≡ leb (at + size) other → ((one && two) && eqb size n) ≡ true → (size ≡ n) × (at + n ≤ end) × (at + n ≤ other)
-sized-both one two size n at end other told more e =
-    let both = both_true (one && two) (eqb size n) e in
-    let rooms = both_true one two both.0 in
-    let same : size ≡ n = eqb-true size n both.1 in
-    (same, omega (arith, leb-true (at + size) end (sym told ∙ rooms.0), same), omega (arith, leb-true (at + size) other (sym more ∙ rooms.1), same))
 
 pub copy-room : (b : Buffer) (from : ℕ) (c : Buffer) (to n : ℕ) → copy_room b from c to n ≡ true → CopyRoom b from c to n
 unfolding copy_room
@@ -36,6 +31,12 @@ copy-room b from c to n e =
     }
 
 -- ---- writes
+-- a mark as code makes it
+pub marked_byte : (tainted : Bool) → bool_byte tainted ≡ mark_of tainted
+unfolding mark_of
+marked_byte true = refl
+marked_byte false = refl
+
 module _ (l t l' t' : List ℕ) (at : ℕ) where
   pub four-numbers : (value mark : ℕ) → l' ≡ set (set (set (set l at (value % 256)) (at + 1) (value / 256 % 256)) (at + 2) (value / 256 / 256 % 256)) (at + 3) (value / 256 / 256 / 256 % 256) → t' ≡ set (set (set (set t at mark) (at + 1) mark) (at + 2) mark) (at + 3) mark → buffer l' t' ≡ written_all (number_writes at 4 mark value) (buffer l t)
   unfolding written_all number_writes
@@ -56,17 +57,11 @@ module _ (l t l' t' : List ℕ) (at : ℕ) where
       let k' : suc from ≡ from + 1 = omega arith in
       rw (i, j, k, i', j', k', p, q)
 
-numbers-split : (at mark value : ℕ) → number_writes at 8 mark value ≡ number_writes at 4 mark value ++ number_writes (at + 4) 4 mark (value / 256 / 256 / 256 / 256)
+pub numbers-split : (at mark value : ℕ) → number_writes at 8 mark value ≡ number_writes at 4 mark value ++ number_writes (at + 4) 4 mark (value / 256 / 256 / 256 / 256)
 unfolding number_writes
 numbers-split at mark value =
     let k : at + 4 ≡ suc (suc (suc (suc at))) = omega arith in
     rw k
-
-pub eight-numbers : (at mark value : ℕ) (b c d : Buffer) → c ≡ written_all (number_writes at 4 mark value) b → d ≡ written_all (number_writes (at + 4) 4 mark (value / 256 / 256 / 256 / 256)) c → d ≡ written_all (number_writes at 8 mark value) b
-eight-numbers at mark value b c d p q =
-    q ∙ (ap (λ (x : Buffer). written_all (number_writes (at + 4) 4 mark (value / 256 / 256 / 256 / 256)) x) p
-    ∙ (sym (written-append (number_writes at 4 mark value) (number_writes (at + 4) 4 mark (value / 256 / 256 / 256 / 256)) b)
-    ∙ ap (λ (ws : List Write). written_all ws b) (sym (numbers-split at mark value))))
 
 pub numbers_of : (at size n mark value : ℕ) (b c : Buffer) → size ≡ n → c ≡ written_all (number_writes at n mark value) b → c ≡ written_all (number_writes at size mark value) b
 numbers_of at size n mark value b c same made = rw same made
@@ -85,18 +80,27 @@ copies-split b (suc m) n from to =
     let g : to + suc m ≡ suc to + m = omega arith in
     rw (e, f, g, copies-split b m n (suc from) (suc to))
 
--- of fours, four are left where one is
-pub four-left : (k count : ℕ) → k < count → k % 4 ≡ 0 → count % 4 ≡ 0 → k + 4 ≤ count
-four-left k count h p q = omega arith
+-- four of those that are left, and the others
+pub fours-next : (b : Buffer) (from to i count : ℕ) → i < count / 4 → copy_writes b (from + 4 * i) (to + 4 * i) (count - 4 * i) ≡ copy_writes b (from + 4 * i) (to + 4 * i) 4 ++ copy_writes b (from + 4 * (i + 1)) (to + 4 * (i + 1)) (count - 4 * (i + 1))
+fours-next b from to i count h =
+    let n : count - 4 * i ≡ 4 + (count - 4 * (i + 1)) = omega arith in
+    let f : from + 4 * (i + 1) ≡ from + 4 * i + 4 = omega arith in
+    let g : to + 4 * (i + 1) ≡ to + 4 * i + 4 = omega arith in
+    rw (f, g, n) (copies-split b 4 (count - 4 * (i + 1)) (from + 4 * i) (to + 4 * i))
 
--- a turn that copies four of those that are left
-pub fours-turn : (b : Buffer) (from to k count : ℕ) (c c' whole : Buffer) → k + 4 ≤ count → c' ≡ written_all (copy_writes b (from + k) (to + k) 4) c → written_all (copy_writes b (from + k) (to + k) (count - k)) c ≡ whole → written_all (copy_writes b (from + (k + 4)) (to + (k + 4)) (count - (k + 4))) c' ≡ whole
-fours-turn b from to k count c c' whole h made e =
-    let n : count - k ≡ 4 + (count - (k + 4)) = omega arith in
-    let f : from + (k + 4) ≡ from + k + 4 = omega arith in
-    let g : to + (k + 4) ≡ to + k + 4 = omega arith in
-    let e' : written_all (copy_writes b (from + k) (to + k) 4 ++ copy_writes b (from + k + 4) (to + k + 4) (count - (k + 4))) c ≡ whole = rw (n, copies-split b 4 (count - (k + 4)) (from + k) (to + k)) at e in
-    rw (f, g, made) (sym (written-append (copy_writes b (from + k) (to + k) 4) (copy_writes b (from + k + 4) (to + k + 4) (count - (k + 4))) c) ∙ e')
+-- and they have room
+pub four-room : (b : Buffer) (c d : lent.Buffer) (from to i count : ℕ) (ws us : List Write) → i < count / 4 → CopyRoom b from (held c) to count → Leads c d ws us → CopyRoom b (from + 4 * i) (held d) (to + 4 * i) 4
+four-room b c d from to i count ws us h room l =
+    record {
+      from_bytes = omega (arith, room.from_bytes);
+      from-taint = omega (arith, room.from-taint);
+      to-bytes = omega (arith, room.to-bytes, leads-bytes c d ws us l);
+      to-taint = omega (arith, room.to-taint, leads-taint c d ws us l);
+    }
+
+-- a byte that is read of one buffer and written to the other
+pub byte-copied : (b : Buffer) (c d : lent.Buffer) (from to value mark : ℕ) (tainted : Bool) → value ≡ get_or b.bytes from 0 → mark ≡ get_or b.taint from 0 → tainted ≡ is_tainted mark → Becomes c d (written (record { at = to; value = value; mark = mark_of tainted }) (held c)) → Becomes c d (written (record { at = to; value = get_or b.bytes from 0; mark = mark_of (is_tainted (get_or b.taint from 0)) }) (held c))
+byte-copied b c d from to value mark tainted v m t made = rw (← v, ← m, ← t) made
 
 -- with the marks that were worked out
 module _ (l t l' t' : List ℕ) (at : ℕ) where

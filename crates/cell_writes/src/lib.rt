@@ -3,15 +3,12 @@
 #![tactic(auto)]
 
 ghost use Rattle.std.specs.Prelude.{◌≡◌, ◌+◌, ◌%◌, ◌≤◌, length, set};
-ghost use Rattle.cells.specs.Buffer.{buffer, mark_of};
+ghost use Rattle.cells.specs.Buffer.{mark_of};
 ghost use Rattle.cells.specs.Writes.{written, written_all, number_writes, copy_writes};
+ghost use Rattle.cells.specs.Lent.{viewed, held, Becomes};
 ghost use Rattle.cell_writes.specs.Mirror.CopyRoom.{CopyRoom, copy_room};
 
-fn mark_of(tainted: bool) -> u8
-    ensures { result ≡ mark_of tainted }
-{
-    if tainted { 1 } else { 0 }
-}
+use cells::{Buffer, View};
 
 fn set_past(bytes: &mut [u8], at: usize, k: usize, value: u8)
     ensures { bytes.new ≡ set bytes.old (at + k) value }
@@ -21,11 +18,11 @@ fn set_past(bytes: &mut [u8], at: usize, k: usize, value: u8)
     }
 }
 
-fn set_byte_past(bytes: &mut [u8], taint: &mut [u8], at: usize, k: usize, value: u8, tainted: bool)
-    ensures { buffer bytes.new taint.new ≡ written (record { at = at + k; value = value; mark = mark_of tainted }) (buffer bytes.old taint.old) }
+fn set_byte_past(to: &mut Buffer<'_>, at: usize, k: usize, value: u8, tainted: bool)
+    ensures { Becomes to.old to.new (written (record { at = at + k; value = value; mark = mark_of tainted }) (held to.old)) }
 {
-    set_past(bytes, at, k, value);
-    set_past(taint, at, k, mark_of(tainted));
+    set_past(to.bytes, at, k, value);
+    set_past(to.taint, at, k, u8::from(tainted));
 }
 
 // Four bytes that are there.
@@ -39,189 +36,131 @@ fn set_four(bytes: &mut [u8], at: usize, first: u8, second: u8, third: u8, fourt
     bytes[at + 3] = fourth;
 }
 
-fn set_dword(bytes: &mut [u8], taint: &mut [u8], at: usize, value: u64, tainted: bool)
-    requires { (at + 4 ≤ length bytes.old) × (at + 4 ≤ length taint.old) }
-    ensures { buffer bytes.new taint.new ≡ written_all (number_writes at 4 (mark_of tainted) value) (buffer bytes.old taint.old) }
+fn set_dword(to: &mut Buffer<'_>, at: usize, value: u64, tainted: bool)
+    requires { (at + 4 ≤ length to.old.bytes.now) × (at + 4 ≤ length to.old.taint.now) }
+    ensures { Becomes to.old to.new (written_all (number_writes at 4 (mark_of tainted) value) (held to.old)) }
 {
-    let mark = mark_of(tainted);
+    let mark = u8::from(tainted);
     let first = (value % 256) as u8;
     let second = (value / 256 % 256) as u8;
     let third = (value / 256 / 256 % 256) as u8;
     let fourth = (value / 256 / 256 / 256 % 256) as u8;
-    set_four(bytes, at, first, second, third, fourth);
-    set_four(taint, at, mark, mark, mark, mark);
+    set_four(to.bytes, at, first, second, third, fourth);
+    set_four(to.taint, at, mark, mark, mark, mark);
 }
 
-fn set_qword(bytes: &mut [u8], taint: &mut [u8], at: usize, value: u64, tainted: bool)
-    requires { (at + 8 ≤ length bytes.old) × (at + 8 ≤ length taint.old) }
-    ensures { buffer bytes.new taint.new ≡ written_all (number_writes at 8 (mark_of tainted) value) (buffer bytes.old taint.old) }
+fn set_qword(to: &mut Buffer<'_>, at: usize, value: u64, tainted: bool)
+    requires { (at + 8 ≤ length to.old.bytes.now) × (at + 8 ≤ length to.old.taint.now) }
+    ensures { Becomes to.old to.new (written_all (number_writes at 8 (mark_of tainted) value) (held to.old)) }
 {
-    set_dword(bytes, taint, at, value, tainted);
-    set_dword(bytes, taint, at + 4, value / 256 / 256 / 256 / 256, tainted);
+    set_dword(to, at, value, tainted);
+    set_dword(to, at + 4, value / 256 / 256 / 256 / 256, tainted);
 }
 
-fn set_any_number(
-    bytes: &mut [u8],
-    taint: &mut [u8],
-    at: usize,
-    size: u8,
-    value: u64,
-    tainted: bool,
-)
-    ensures { buffer bytes.new taint.new ≡ written_all (number_writes at size (mark_of tainted) value) (buffer bytes.old taint.old) }
+fn set_any_number(to: &mut Buffer<'_>, at: usize, size: u8, value: u64, tainted: bool)
+    ensures { Becomes to.old to.new (written_all (number_writes at size (mark_of tainted) value) (held to.old)) }
 {
     let mut rest = value;
-    let mut k: u8 = 0;
-    while k < size {
-        set_byte_past(bytes, taint, at, k as usize, (rest % 256) as u8, tainted);
-        rest = rest / 256;
-        k += 1;
+    for k in 0..size {
+        set_byte_past(to, at, usize::from(k), (rest % 256) as u8, tainted);
+        rest /= 256;
     }
 }
 
 // The size low bytes of a number, all tainted or all not.
-pub fn set_number(
-    bytes: &mut [u8],
-    taint: &mut [u8],
-    at: usize,
-    size: u8,
-    value: u64,
-    tainted: bool,
-)
-    ensures { buffer bytes.new taint.new ≡ written_all (number_writes at size (mark_of tainted) value) (buffer bytes.old taint.old) }
+pub fn set_number(to: &mut Buffer<'_>, at: usize, size: u8, value: u64, tainted: bool)
+    ensures { Becomes to.old to.new (written_all (number_writes at size (mark_of tainted) value) (held to.old)) }
 {
-    let count = size as usize;
-    let room = cell_reads::has_room(bytes.len(), at, count)
-        & cell_reads::has_room(taint.len(), at, count);
+    let count = usize::from(size);
+    let room = cell_reads::has_room(to.bytes.len(), at, count)
+        & cell_reads::has_room(to.taint.len(), at, count);
     if room & (size == 4) {
-        set_dword(bytes, taint, at, value, tainted);
+        set_dword(to, at, value, tainted);
         return;
     }
     if room & (size == 8) {
-        set_qword(bytes, taint, at, value, tainted);
+        set_qword(to, at, value, tainted);
         return;
     }
-    set_any_number(bytes, taint, at, size, value, tainted);
+    set_any_number(to, at, size, value, tainted);
 }
 
-fn copy_four(
-    from: &[u8],
-    from_taint: &[u8],
-    source_at: usize,
-    bytes: &mut [u8],
-    taint: &mut [u8],
-    at: usize,
-)
-    requires { CopyRoom (buffer from.now from_taint.now) source_at (buffer bytes.old taint.old) at 4 }
-    ensures { buffer bytes.new taint.new ≡ written_all (copy_writes (buffer from.now from_taint.now) source_at at 4) (buffer bytes.old taint.old) }
+fn copy_four(from: View<'_>, source_at: usize, to: &mut Buffer<'_>, at: usize)
+    requires { CopyRoom (viewed from) source_at (held to.old) at 4 }
+    ensures { Becomes to.old to.new (written_all (copy_writes (viewed from.entry) source_at at 4) (held to.old)) }
 {
+    let bytes = from.bytes;
+    let taint = from.taint;
     set_four(
-        bytes,
+        to.bytes,
         at,
-        from[source_at],
-        from[source_at + 1],
-        from[source_at + 2],
-        from[source_at + 3],
+        bytes[source_at],
+        bytes[source_at + 1],
+        bytes[source_at + 2],
+        bytes[source_at + 3],
     );
-    let first = mark_of(cell_reads::is_tainted(from_taint[source_at]));
-    let second = mark_of(cell_reads::is_tainted(from_taint[source_at + 1]));
-    let third = mark_of(cell_reads::is_tainted(from_taint[source_at + 2]));
-    let fourth = mark_of(cell_reads::is_tainted(from_taint[source_at + 3]));
-    set_four(taint, at, first, second, third, fourth);
+    let first = u8::from(cell_reads::is_tainted(taint[source_at]));
+    let second = u8::from(cell_reads::is_tainted(taint[source_at + 1]));
+    let third = u8::from(cell_reads::is_tainted(taint[source_at + 2]));
+    let fourth = u8::from(cell_reads::is_tainted(taint[source_at + 3]));
+    set_four(to.taint, at, first, second, third, fourth);
 }
 
-fn copy_fours(
-    from: &[u8],
-    from_taint: &[u8],
-    source_at: usize,
-    bytes: &mut [u8],
-    taint: &mut [u8],
-    at: usize,
-    count: usize,
-)
-    requires { CopyRoom (buffer from.now from_taint.now) source_at (buffer bytes.old taint.old) at count × (count % 4 ≡ 0) }
-    ensures { buffer bytes.new taint.new ≡ written_all (copy_writes (buffer from.now from_taint.now) source_at at count) (buffer bytes.old taint.old) }
+fn copy_fours(from: View<'_>, source_at: usize, to: &mut Buffer<'_>, at: usize, count: usize)
+    requires { CopyRoom (viewed from) source_at (held to.old) at count × (count % 4 ≡ 0) }
+    ensures { Becomes to.old to.new (written_all (copy_writes (viewed from.entry) source_at at count) (held to.old)) }
 {
-    let mut k: usize = 0;
-    while k < count {
-        copy_four(from, from_taint, source_at + k, bytes, taint, at + k);
-        k += 4;
+    for four in 0..count / 4 {
+        copy_four(from, source_at + 4 * four, to, at + 4 * four);
     }
 }
 
-fn copy_any(
-    from: &[u8],
-    from_taint: &[u8],
-    source_at: usize,
-    bytes: &mut [u8],
-    taint: &mut [u8],
-    at: usize,
-    count: usize,
-)
-    ensures { buffer bytes.new taint.new ≡ written_all (copy_writes (buffer from.now from_taint.now) source_at at count) (buffer bytes.old taint.old) }
+fn copy_any(from: View<'_>, source_at: usize, to: &mut Buffer<'_>, at: usize, count: usize)
+    ensures { Becomes to.old to.new (written_all (copy_writes (viewed from.entry) source_at at count) (held to.old)) }
 {
-    let mut k: usize = 0;
-    while k < count {
-        let value = cell_reads::byte_past(from, source_at, k);
-        let tainted = cell_reads::is_tainted(cell_reads::byte_past(from_taint, source_at, k));
-        set_byte_past(bytes, taint, at, k, value, tainted);
-        k += 1;
+    for k in 0..count {
+        let value = cell_reads::byte_past(from.bytes, source_at, k);
+        let tainted = cell_reads::is_tainted(cell_reads::byte_past(from.taint, source_at, k));
+        set_byte_past(to, at, k, value, tainted);
     }
 }
 
 // Whether both buffers have so many bytes there, with their taint.
 fn copy_has_room(
-    from: &[u8],
-    from_taint: &[u8],
+    from: View<'_>,
     source_at: usize,
-    bytes: &[u8],
-    taint: &[u8],
+    to: &Buffer<'_>,
     at: usize,
     count: usize,
 ) -> bool
-    ensures { result ≡ copy_room (buffer from.now from_taint.now) source_at (buffer bytes.now taint.now) at count }
+    ensures { result ≡ copy_room (viewed from.entry) source_at (held to.now) at count }
 {
-    let read = cell_reads::has_room(from.len(), source_at, count)
-        & cell_reads::has_room(from_taint.len(), source_at, count);
-    let written = cell_reads::has_room(bytes.len(), at, count)
-        & cell_reads::has_room(taint.len(), at, count);
+    let read = cell_reads::has_room(from.bytes.len(), source_at, count)
+        & cell_reads::has_room(from.taint.len(), source_at, count);
+    let written = cell_reads::has_room(to.bytes.len(), at, count)
+        & cell_reads::has_room(to.taint.len(), at, count);
     read & written
 }
 
 // Bytes of one buffer to another, each with its taint.
-pub fn copy(
-    from: &[u8],
-    from_taint: &[u8],
-    source_at: usize,
-    bytes: &mut [u8],
-    taint: &mut [u8],
-    at: usize,
-    count: usize,
-)
-    ensures { buffer bytes.new taint.new ≡ written_all (copy_writes (buffer from.now from_taint.now) source_at at count) (buffer bytes.old taint.old) }
+pub fn copy(from: View<'_>, source_at: usize, to: &mut Buffer<'_>, at: usize, count: usize)
+    ensures { Becomes to.old to.new (written_all (copy_writes (viewed from.entry) source_at at count) (held to.old)) }
 {
-    let room = copy_has_room(from, from_taint, source_at, bytes, taint, at, count);
+    let room = copy_has_room(from, source_at, to, at, count);
     if room & (count % 4 == 0) {
-        copy_fours(from, from_taint, source_at, bytes, taint, at, count);
+        copy_fours(from, source_at, to, at, count);
     } else {
-        copy_any(from, from_taint, source_at, bytes, taint, at, count);
+        copy_any(from, source_at, to, at, count);
     }
 }
 
 // Four bytes of one buffer to another, each with its taint.
-pub fn copy_dword(
-    from: &[u8],
-    from_taint: &[u8],
-    source_at: usize,
-    bytes: &mut [u8],
-    taint: &mut [u8],
-    at: usize,
-)
-    ensures { buffer bytes.new taint.new ≡ written_all (copy_writes (buffer from.now from_taint.now) source_at at 4) (buffer bytes.old taint.old) }
+pub fn copy_dword(from: View<'_>, source_at: usize, to: &mut Buffer<'_>, at: usize)
+    ensures { Becomes to.old to.new (written_all (copy_writes (viewed from.entry) source_at at 4) (held to.old)) }
 {
-    if copy_has_room(from, from_taint, source_at, bytes, taint, at, 4) {
-        copy_four(from, from_taint, source_at, bytes, taint, at);
+    if copy_has_room(from, source_at, to, at, 4) {
+        copy_four(from, source_at, to, at);
     } else {
-        copy_any(from, from_taint, source_at, bytes, taint, at, 4);
+        copy_any(from, source_at, to, at, 4);
     }
 }

@@ -34,7 +34,7 @@ pub struct Lanes {
 pub fn bit_at(word: u32, n: usize) -> bool
     ensures { result ≡ bit word n }
 {
-    if n < 32 { (word >> n) % 2 == 1 } else { false }
+    n < 32 && (word >> n) % 2 == 1
 }
 
 // Whether one of the size bits from the offset on has this value.
@@ -44,10 +44,8 @@ fn some_bit(bits: u32, exec: Exec, value: bool) -> bool
     let size = exec.size as usize;
     let offset = exec.offset as usize;
     let mut found = false;
-    let mut k: usize = 0;
-    while k < size {
+    for k in 0..size {
         found |= bit_at(bits, k + offset) == value;
-        k += 1;
     }
     found
 }

@@ -1,14 +1,13 @@
 // What is answered for a kernel and for an instruction of numbers: decoding, encoding, printing and reading, written out.
 use crate::{built, output, texts};
-use decoder::{Decoded, Instruction};
-use encoder::Encoded;
+use decoder::Instruction;
 use std::io;
 
 // The encoder's answer for this buffer, and the whole buffer after it.
 fn encode_into(rt: &impl Print, instruction: Instruction, buffer: &mut [u8]) -> io::Result<()> {
     match encoder::encode(instruction, buffer) {
-        Encoded::Wrote(count) => output::answer(rt, b" wrote ", count)?,
-        Encoded::Refused(number) => output::refused(rt, number)?,
+        Ok(count) => output::answer(rt, b" wrote ", count)?,
+        Err(refusal) => output::refused(rt, refusal.number())?,
     }
     output::bytes(rt, buffer)
 }
@@ -42,11 +41,11 @@ pub(crate) fn of_kernel(rt: &impl Print, kernel: &[u8]) -> io::Result<()> {
     output::number(rt, output::wide(decoder::decode_number(kernel, 0)))?;
     output::bytes(rt, decoder::own_bytes(kernel, 0))?;
     match decoder::decode(kernel, 0) {
-        Decoded::Accepted(instruction, cursor) => {
+        Ok((instruction, cursor)) => {
             encode_again(rt, instruction, cursor.at)?;
             texts::print_and_read(rt, instruction, cursor.at)?;
         }
-        Decoded::Refused(_) => {}
+        Err(_) => {}
     }
     output::text(rt, b"\n")
 }

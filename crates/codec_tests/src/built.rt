@@ -4,30 +4,26 @@ ghost use Rattle.std.specs.Prelude.{◌≤◌};
 use decoder::{Gather, Instruction, RawSend, Scatter, Shl};
 use field_groups::{Access, Control, Message};
 use operand_fields::{General, Immediate, Operand, Raw};
-use reader::{Cursor, ReadByte, ReadDword, ReadWord};
+use reader::{Cursor, Stored};
+
+// The stored number at a position, 0 where it is not whole.
+fn stored<T: Stored + From<u8>>(numbers: &[u8], at: usize) -> T {
+    match (Cursor { at }).read(numbers) {
+        Ok((v, _)) => v,
+        Err(_) => T::from(0),
+    }
+}
 
 pub(crate) fn byte(numbers: &[u8], at: usize) -> u8 {
-    let cursor = Cursor { at };
-    match cursor.byte(numbers) {
-        ReadByte::Got(v, _) => v,
-        ReadByte::Short => 0,
-    }
+    stored(numbers, at)
 }
 
 fn word(numbers: &[u8], at: usize) -> u16 {
-    let cursor = Cursor { at };
-    match cursor.word(numbers) {
-        ReadWord::Got(v, _) => v,
-        ReadWord::Short => 0,
-    }
+    stored(numbers, at)
 }
 
 fn dword(numbers: &[u8], at: usize) -> u32 {
-    let cursor = Cursor { at };
-    match cursor.dword(numbers) {
-        ReadDword::Got(v, _) => v,
-        ReadDword::Short => 0,
-    }
+    stored(numbers, at)
 }
 
 fn control(numbers: &[u8], at: usize) -> Control

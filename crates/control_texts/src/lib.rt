@@ -6,37 +6,25 @@ ghost use Rattle.std.specs.Prelude.{◌≡◌, ◌&&◌, ◌+◌, ◌*◌, ◌-�
 ghost use Rattle.formats.specs.Told.{told};
 ghost use Rattle.control_texts.specs.Mirror.Predicate.{ending, predicate};
 ghost use Rattle.control_texts.specs.Mirror.Exec.{mask, exec, scatter_exec};
-ghost use Rattle.control_texts.specs.Told.{told_byte, told_word};
 
-use formats::{Base, Cursor, NumberRead};
-
-#[derive(Clone, Copy)]
-pub enum ByteRead {
-    Got(u8, Cursor),
-    Stop(usize),
-}
-
-#[derive(Clone, Copy)]
-pub enum WordRead {
-    Got(u16, Cursor),
-    Stop(usize),
-}
+use formats::{Base, Cursor, Stop};
 
 // Whether a predicate that opens so and has this id would be the word 0, if it ended at once.
 pub fn is_p0(opening: u64, id: u64) -> bool
     ensures { result ≡ (eqb opening 1 && eqb id 0) }
 {
-    if opening == 1 { id == 0 } else { false }
+    opening == 1 && id == 0
 }
 
 // What ends a predicate.
-fn ending_at(text: &[u8], c: Cursor, opening: u64, id: u64) -> NumberRead
-    ensures { told result ≡ (ending opening id).read text.now c.at }
+#[tactic(auto, unfolding(crate::specs::Mirror::Predicate::ending))]
+fn ending_at(text: &[u8], cursor: Cursor, opening: u64, id: u64) -> Result<(u64, Cursor), Stop>
+    ensures { told result ≡ (ending opening id).read text.now cursor.at }
 {
     if is_p0(opening, id) {
-        c.one_of(text, b".any) |.all) |")
+        cursor.one_of(text, b".any) |.all) |")
     } else {
-        c.one_of(text, b".any) |.all) |) |")
+        cursor.one_of(text, b".any) |.all) |) |")
     }
 }
 
@@ -47,51 +35,28 @@ fn predicate_word(opening: u64, id: u64, end: u64) -> u16
     ((opening - 1) * 32768 + (end + 1) % 3 * 8192 + id) as u16
 }
 
-pub fn predicate_at(text: &[u8], c: Cursor) -> WordRead
-    ensures { told_word result ≡ predicate.read text.now c.at }
+#[tactic(auto, using(crate::proofs::BoundLaws::predicate_bounds), unfolding(crate::specs::Mirror::Predicate::predicate, crate::specs::Mirror::Predicate::id_and_ending, formats::specs::Format::pair, formats::specs::Format::through, formats::specs::Format::blank))]
+pub fn predicate_at(text: &[u8], cursor: Cursor) -> Result<(u16, Cursor), Stop>
+    ensures { told result ≡ predicate.read text.now cursor.at }
 {
-    match c.one_of(text, b"|(P|(!P|") {
-        NumberRead::Got(opening, c1) => {
-            if opening == 0 {
-                WordRead::Got(0, c1)
-            } else {
-                match c1.number(text, Base::Decimal, 0, 4095) {
-                    NumberRead::Got(id, c2) => match ending_at(text, c2, opening, id) {
-                        NumberRead::Got(end, c3) => WordRead::Got(
-                            predicate_word(opening, id, end),
-                            c3,
-                        ),
-                        NumberRead::Stop(k) => WordRead::Stop(k),
-                    },
-                    NumberRead::Stop(k) => WordRead::Stop(k),
-                }
-            }
-        }
-        NumberRead::Stop(k) => WordRead::Stop(k),
+    let (opening, cursor) = cursor.one_of(text, b"|(P|(!P|")?;
+    if opening == 0 {
+        return Ok((0, cursor));
     }
-}
-
-fn mask_code(number: u64, end: u64) -> u64
-    requires { (1 ≤ number) × (number ≤ 8) × (end < 2) }
-    ensures { result ≡ number - 1 + 8 * end }
-{
-    number - 1 + 8 * end
+    let (id, cursor) = cursor.number(text, Base::Decimal, 0, 4095)?;
+    let (end, cursor) = ending_at(text, cursor, opening, id)?;
+    Ok((predicate_word(opening, id, end), cursor))
 }
 
 // The mask of an exec byte: its high four bits.
-fn mask_at(text: &[u8], c: Cursor) -> NumberRead
-    ensures { told result ≡ mask.read text.now c.at }
+#[tactic(auto, using(crate::proofs::BoundLaws::mask_bounds), unfolding(crate::specs::Mirror::Exec::mask, crate::specs::Mirror::Exec::mask_parts, formats::specs::Words::before, formats::specs::Format::pair, formats::specs::Format::through))]
+fn mask_at(text: &[u8], cursor: Cursor) -> Result<(u64, Cursor), Stop>
+    ensures { told result ≡ mask.read text.now cursor.at }
 {
-    match c.one_of(text, b"(M|") {
-        NumberRead::Got(opening, c1) => match c1.number(text, Base::Decimal, 1, 8) {
-            NumberRead::Got(number, c2) => match c2.one_of(text, b",|_NM,|") {
-                NumberRead::Got(end, c3) => NumberRead::Got(mask_code(number, end), c3),
-                NumberRead::Stop(k) => NumberRead::Stop(k),
-            },
-            NumberRead::Stop(k) => NumberRead::Stop(k),
-        },
-        NumberRead::Stop(k) => NumberRead::Stop(k),
-    }
+    let (_, cursor) = cursor.one_of(text, b"(M|")?;
+    let (number, cursor) = cursor.number(text, Base::Decimal, 1, 8)?;
+    let (end, cursor) = cursor.one_of(text, b",|_NM,|")?;
+    Ok((number - 1 + 8 * end, cursor))
 }
 
 // The exec byte of a mask and the word `size` of a table that begins with size code `first`.
@@ -102,26 +67,21 @@ fn exec_byte(mask: u64, first: u64, size: u64) -> u8
     (mask * 16 + (first + size)) as u8
 }
 
-pub fn exec_at(text: &[u8], c: Cursor) -> ByteRead
-    ensures { told_byte result ≡ exec.read text.now c.at }
+#[tactic(auto, unfolding(crate::specs::Mirror::Exec::exec, crate::specs::Mirror::Exec::exec_from, formats::specs::Format::pair, formats::specs::Format::through))]
+pub fn exec_at(text: &[u8], cursor: Cursor) -> Result<(u8, Cursor), Stop>
+    ensures { told result ≡ exec.read text.now cursor.at }
 {
-    match mask_at(text, c) {
-        NumberRead::Got(m, c1) => match c1.one_of(text, b"1) |2) |4) |8) |16) |32) |") {
-            NumberRead::Got(size, c2) => ByteRead::Got(exec_byte(m, 0, size), c2),
-            NumberRead::Stop(k) => ByteRead::Stop(k),
-        },
-        NumberRead::Stop(k) => ByteRead::Stop(k),
-    }
+    let (mask, cursor) = mask_at(text, cursor)?;
+    let (size, cursor) = cursor.one_of(text, b"1) |2) |4) |8) |16) |32) |")?;
+    Ok((exec_byte(mask, 0, size), cursor))
 }
 
-pub fn scatter_exec_at(text: &[u8], c: Cursor) -> ByteRead
-    ensures { told_byte result ≡ scatter_exec.read text.now c.at }
+// Kept beside `exec_at`: one function over both tables is no plainer, it would owe a bound on the words of each.
+#[tactic(auto, using(crate::proofs::BoundLaws::exec_bounds), unfolding(crate::specs::Mirror::Exec::scatter_exec, crate::specs::Mirror::Exec::exec_from, formats::specs::Format::pair, formats::specs::Format::through))]
+pub fn scatter_exec_at(text: &[u8], cursor: Cursor) -> Result<(u8, Cursor), Stop>
+    ensures { told result ≡ scatter_exec.read text.now cursor.at }
 {
-    match mask_at(text, c) {
-        NumberRead::Got(m, c1) => match c1.one_of(text, b"8) |16) |") {
-            NumberRead::Got(size, c2) => ByteRead::Got(exec_byte(m, 3, size), c2),
-            NumberRead::Stop(k) => ByteRead::Stop(k),
-        },
-        NumberRead::Stop(k) => ByteRead::Stop(k),
-    }
+    let (mask, cursor) = mask_at(text, cursor)?;
+    let (size, cursor) = cursor.one_of(text, b"8) |16) |")?;
+    Ok((exec_byte(mask, 3, size), cursor))
 }

@@ -3,53 +3,58 @@
 #![tactic(auto)]
 
 ghost use Rattle.std.specs.Prelude.{◌≡◌};
+ghost use Rattle.refusal.specs.Numbers.{number_given, detail_given};
+ghost use Rattle.refusal.specs.declared.Detail.TheVariants as detail;
+ghost use Rattle.predicate_table.specs.Borrowed.{record_of};
 ghost use Rattle.controls.specs.Control.{lanes_end, predicate_refusal, control_refusal, bits_named};
 
 use field_groups::Control;
-use predicate_table::PredicateRecord;
+use predicate_table::Predicate;
+use refusal::Refusal;
 
 // Offset plus ExecSize.
 fn lanes_end(exec: u8) -> u16
     ensures { result ≡ lanes_end exec }
 {
     let lanes = exec_byte::split(exec);
-    (lanes.offset as u16) + (lanes.size as u16)
+    u16::from(lanes.offset) + u16::from(lanes.size)
 }
 
 // 5, then 17, of the predicate that a pred word names.
-fn predicate_refusal(predicate: PredicateRecord, exec: u8) -> u8
-    ensures { result ≡ predicate_refusal predicate exec }
+#[tactic(auto, unfolding(crate::specs::Control::predicate_refusal))]
+fn predicate_refusal(predicate: Option<Predicate>, exec: u8) -> Result<(), Refusal>
+    ensures number { number_given result ≡ predicate_refusal (record_of predicate) exec }
+    ensures detail { detail_given result ≡ detail.None }
 {
-    if !predicate.present {
-        return 5;
+    let named = predicate.ok_or(Refusal::Missing)?;
+    if u16::from(named.count) < lanes_end(exec) {
+        return Err(Refusal::Predicate);
     }
-    if (predicate.count as u16) < lanes_end(exec) {
-        17
-    } else {
-        0
-    }
+    Ok(())
 }
 
 // 8, then those of the predicate, if one is named.
-pub fn control_refusal(predicate: PredicateRecord, control: Control) -> u8
-    ensures { result ≡ control_refusal predicate control }
+#[tactic(auto, unfolding(crate::specs::Control::control_refusal))]
+pub fn control_refusal(predicate: Option<Predicate>, control: Control) -> Result<(), Refusal>
+    ensures number { number_given result ≡ control_refusal (record_of predicate) control }
+    ensures detail { detail_given result ≡ detail.None }
 {
     if 32 < lanes_end(control.exec) {
-        return 8;
+        return Err(Refusal::Lanes);
     }
     if predicate_field::has_predicate(control.pred) {
         return predicate_refusal(predicate, control.exec);
     }
-    0
+    Ok(())
 }
 
 // The bits of the predicate that the pred word names.
-pub fn bits_named(predicate: PredicateRecord, pred: u16) -> u32
-    ensures { result ≡ bits_named predicate pred }
+#[tactic(auto, unfolding(crate::specs::Control::bits_named))]
+pub fn bits_named(predicate: Option<Predicate>, pred: u16) -> u32
+    ensures { result ≡ bits_named (record_of predicate) pred }
 {
-    if predicate_field::has_predicate(pred) {
-        predicate.bits
-    } else {
-        0
+    match predicate {
+        Some(named) if predicate_field::has_predicate(pred) => named.bits,
+        _ => 0,
     }
 }

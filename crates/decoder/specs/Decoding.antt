@@ -10,8 +10,6 @@ use Rattle.field_groups.specs.Reading.{control_at, access_at, message_at}
 use Rattle.operand_fields.specs.Reading.{operand_at, scalar_and_raws_at}
 use Rattle.decoder.specs.declared.Instruction.{Instruction}
 use Rattle.decoder.specs.declared.Instruction.TheVariants.{Shl, Gather, Scatter, RawSend}
-use Rattle.decoder.specs.declared.Decoded.{Decoded}
-use Rattle.decoder.specs.declared.Decoded.TheVariants as decoded
 
 -- page 004: Exec_size, Pred, Dst, Src0, Src1
 unfoldable pub shl_at : List ℕ → ℕ → Reply (Read Instruction)
@@ -83,11 +81,6 @@ instruction_at s at =
     (cond (eqb opcode.value 0x4e) (svm_at s opcode.next)
     (cond (eqb opcode.value 0x5d) (raw_send_at s opcode.next)
     (refused 2)))))
-
--- number and values of each case
-abbrev pub decoded_reply : Decoded → Reply (Read Instruction)
-decoded_reply (decoded.Refused n) = refused n
-decoded_reply (decoded.Accepted i c) = got i c.at
 
 -- "the decoder hands back the instruction's own bytes as a part of the kernel, an empty part on a refusal"
 unfoldable pub own_bytes : List ℕ → ℕ → List ℕ

@@ -3,13 +3,14 @@
 #![tactic(auto)]
 
 ghost use Rattle.std.specs.Prelude.{◌≡◌};
-ghost use Rattle.reader.specs.Reply.{number_of};
-ghost use Rattle.decoder.specs.Decoding.{shl_at, gather_at, scatter_at, svm_at, raw_send_at, instruction_at, decoded_reply, own_bytes};
+ghost use Rattle.reader.specs.Reply.{reply, number_of};
+ghost use Rattle.decoder.specs.Decoding.{shl_at, gather_at, scatter_at, svm_at, raw_send_at, instruction_at, own_bytes};
 
-use field_groups::{Access, AccessField, Control, ControlField, Message, MessageField};
-use fields::{ByteField, ByteRule, TagRule, WordField, WordRule};
-use operand_fields::{Operand, OperandField, Raw, ScalarAndRawsField};
+use field_groups::{Access, Control, Message};
+use fields::{ByteRule, TagRule, WordRule};
+use operand_fields::{Operand, Raw};
 use reader::Cursor;
+use refusal::Refusal;
 
 #[derive(Clone, Copy)]
 pub struct Shl {
@@ -58,208 +59,131 @@ pub enum Instruction {
     RawSend(RawSend),
 }
 
-// The instruction with the cursor at its end, or the number of its refusal.
-#[derive(Clone, Copy)]
-pub enum Decoded {
-    Accepted(Instruction, Cursor),
-    Refused(u8),
-}
-
 // SHL after its opcode.
-fn shl_fields(kernel: &[u8], cursor: Cursor) -> Decoded
-    ensures { decoded_reply result ≡ shl_at kernel.now cursor.at }
+#[tactic(auto, unfolding(crate::specs::Decoding::shl_at))]
+fn shl_fields(kernel: &[u8], cursor: Cursor) -> Result<(Instruction, Cursor), Refusal>
+    ensures { reply result ≡ shl_at kernel.now cursor.at }
 {
-    match field_groups::control_field(kernel, cursor, ByteRule::Exec) {
-        ControlField::Got(control, c1) => {
-            match operand_fields::operand_field(kernel, c1, TagRule::Destination) {
-                OperandField::Got(destination, c2) => {
-                    match operand_fields::operand_field(kernel, c2, TagRule::Source) {
-                        OperandField::Got(source, c3) => {
-                            match operand_fields::operand_field(kernel, c3, TagRule::Source) {
-                                OperandField::Got(count, c4) => Decoded::Accepted(
-                                    Instruction::Shl(Shl {
-                                        control,
-                                        destination,
-                                        source,
-                                        count,
-                                    }),
-                                    c4,
-                                ),
-                                OperandField::Refused(number) => Decoded::Refused(number),
-                            }
-                        }
-                        OperandField::Refused(number) => Decoded::Refused(number),
-                    }
-                }
-                OperandField::Refused(number) => Decoded::Refused(number),
-            }
-        }
-        ControlField::Refused(number) => Decoded::Refused(number),
-    }
+    let (control, cursor) = field_groups::control_field(kernel, cursor, ByteRule::Exec)?;
+    let (destination, cursor) = operand_fields::operand_field(
+        kernel,
+        cursor,
+        TagRule::Destination,
+    )?;
+    let (source, cursor) = operand_fields::operand_field(kernel, cursor, TagRule::Source)?;
+    let (count, cursor) = operand_fields::operand_field(kernel, cursor, TagRule::Source)?;
+    let shl = Shl {
+        control,
+        destination,
+        source,
+        count,
+    };
+    Ok((Instruction::Shl(shl), cursor))
 }
 
 // GATHER_SCALED after its opcode.
-fn gather_fields(kernel: &[u8], cursor: Cursor) -> Decoded
-    ensures { decoded_reply result ≡ gather_at kernel.now cursor.at }
+#[tactic(auto, unfolding(crate::specs::Decoding::gather_at))]
+fn gather_fields(kernel: &[u8], cursor: Cursor) -> Result<(Instruction, Cursor), Refusal>
+    ensures { reply result ≡ gather_at kernel.now cursor.at }
 {
-    match field_groups::control_field(kernel, cursor, ByteRule::Exec) {
-        ControlField::Got(control, c1) => {
-            match field_groups::access_field(kernel, c1) {
-                AccessField::Got(access, c2) => {
-                    match operand_fields::scalar_and_raws_field(kernel, c2) {
-                        ScalarAndRawsField::Got(offset, element_offset, destination, c3) =>
-                            Decoded::Accepted(
-                                Instruction::Gather(Gather {
-                                    control,
-                                    access,
-                                    offset,
-                                    element_offset,
-                                    destination,
-                                }),
-                                c3,
-                            ),
-                        ScalarAndRawsField::Refused(number) => Decoded::Refused(number),
-                    }
-                }
-                AccessField::Refused(number) => Decoded::Refused(number),
-            }
-        }
-        ControlField::Refused(number) => Decoded::Refused(number),
-    }
+    let (control, cursor) = field_groups::control_field(kernel, cursor, ByteRule::Exec)?;
+    let (access, cursor) = field_groups::access_field(kernel, cursor)?;
+    let (last, cursor) = operand_fields::scalar_and_raws_field(kernel, cursor)?;
+    let gather = Gather {
+        control,
+        access,
+        offset: last.scalar,
+        element_offset: last.first,
+        destination: last.second,
+    };
+    Ok((Instruction::Gather(gather), cursor))
 }
 
 // SVM SCATTER4_SCALED after its sub-opcode.
-fn scatter_fields(kernel: &[u8], cursor: Cursor) -> Decoded
-    ensures { decoded_reply result ≡ scatter_at kernel.now cursor.at }
+#[tactic(auto, unfolding(crate::specs::Decoding::scatter_at))]
+fn scatter_fields(kernel: &[u8], cursor: Cursor) -> Result<(Instruction, Cursor), Refusal>
+    ensures { reply result ≡ scatter_at kernel.now cursor.at }
 {
-    match field_groups::control_field(kernel, cursor, ByteRule::ScatterExec) {
-        ControlField::Got(control, c1) => {
-            match fields::byte_field(kernel, c1, ByteRule::Channels) {
-                ByteField::Got(channels, c2) => {
-                    match fields::word_field(kernel, c2, WordRule::Free) {
-                        WordField::Got(scale, c3) => {
-                            match operand_fields::scalar_and_raws_field(kernel, c3) {
-                                ScalarAndRawsField::Got(address, element_offset, source, c4) =>
-                                    Decoded::Accepted(
-                                        Instruction::Scatter(Scatter {
-                                            control,
-                                            channels,
-                                            scale,
-                                            address,
-                                            element_offset,
-                                            source,
-                                        }),
-                                        c4,
-                                    ),
-                                ScalarAndRawsField::Refused(number) => Decoded::Refused(number),
-                            }
-                        }
-                        WordField::Refused(number) => Decoded::Refused(number),
-                    }
-                }
-                ByteField::Refused(number) => Decoded::Refused(number),
-            }
-        }
-        ControlField::Refused(number) => Decoded::Refused(number),
-    }
+    let (control, cursor) = field_groups::control_field(kernel, cursor, ByteRule::ScatterExec)?;
+    let (channels, cursor) = fields::read(kernel, cursor, ByteRule::Channels)?;
+    let (scale, cursor) = fields::read(kernel, cursor, WordRule::Free)?;
+    let (last, cursor) = operand_fields::scalar_and_raws_field(kernel, cursor)?;
+    let scatter = Scatter {
+        control,
+        channels,
+        scale,
+        address: last.scalar,
+        element_offset: last.first,
+        source: last.second,
+    };
+    Ok((Instruction::Scatter(scatter), cursor))
 }
 
 // SVM after its opcode.
-fn svm_fields(kernel: &[u8], cursor: Cursor) -> Decoded
-    ensures { decoded_reply result ≡ svm_at kernel.now cursor.at }
+#[tactic(auto, unfolding(crate::specs::Decoding::svm_at))]
+fn svm_fields(kernel: &[u8], cursor: Cursor) -> Result<(Instruction, Cursor), Refusal>
+    ensures { reply result ≡ svm_at kernel.now cursor.at }
 {
-    match fields::byte_field(kernel, cursor, ByteRule::Free) {
-        ByteField::Got(sub_opcode, c1) => {
-            if sub_opcode == 0x07 {
-                scatter_fields(kernel, c1)
-            } else {
-                Decoded::Refused(2)
-            }
-        }
-        ByteField::Refused(number) => Decoded::Refused(number),
+    let (sub_opcode, cursor) = fields::read(kernel, cursor, ByteRule::Free)?;
+    match sub_opcode {
+        0x07 => scatter_fields(kernel, cursor),
+        _ => Err(Refusal::Opcode),
     }
 }
 
 // RAW_SEND after its opcode.
-fn raw_send_fields(kernel: &[u8], cursor: Cursor) -> Decoded
-    ensures { decoded_reply result ≡ raw_send_at kernel.now cursor.at }
+#[tactic(auto, unfolding(crate::specs::Decoding::raw_send_at))]
+fn raw_send_fields(kernel: &[u8], cursor: Cursor) -> Result<(Instruction, Cursor), Refusal>
+    ensures { reply result ≡ raw_send_at kernel.now cursor.at }
 {
-    match fields::byte_field(kernel, cursor, ByteRule::Modifiers) {
-        ByteField::Got(modifiers, c1) => {
-            match field_groups::control_field(kernel, c1, ByteRule::Exec) {
-                ControlField::Got(control, c2) => {
-                    match field_groups::message_field(kernel, c2) {
-                        MessageField::Got(message, c3) => {
-                            match operand_fields::scalar_and_raws_field(kernel, c3) {
-                                ScalarAndRawsField::Got(descriptor, source, destination, c4) =>
-                                    Decoded::Accepted(
-                                        Instruction::RawSend(RawSend {
-                                            modifiers,
-                                            control,
-                                            message,
-                                            descriptor,
-                                            source,
-                                            destination,
-                                        }),
-                                        c4,
-                                    ),
-                                ScalarAndRawsField::Refused(number) => Decoded::Refused(number),
-                            }
-                        }
-                        MessageField::Refused(number) => Decoded::Refused(number),
-                    }
-                }
-                ControlField::Refused(number) => Decoded::Refused(number),
-            }
-        }
-        ByteField::Refused(number) => Decoded::Refused(number),
-    }
+    let (modifiers, cursor) = fields::read(kernel, cursor, ByteRule::Modifiers)?;
+    let (control, cursor) = field_groups::control_field(kernel, cursor, ByteRule::Exec)?;
+    let (message, cursor) = field_groups::message_field(kernel, cursor)?;
+    let (last, cursor) = operand_fields::scalar_and_raws_field(kernel, cursor)?;
+    let raw_send = RawSend {
+        modifiers,
+        control,
+        message,
+        descriptor: last.scalar,
+        source: last.first,
+        destination: last.second,
+    };
+    Ok((Instruction::RawSend(raw_send), cursor))
 }
 
-// The instruction at a position, which may lie past the end.
-pub fn decode(kernel: &[u8], at: usize) -> Decoded
-    ensures { decoded_reply result ≡ instruction_at kernel.now at }
+// The instruction at a position, which may lie past the end, with the cursor at its end.
+#[tactic(auto, unfolding(crate::specs::Decoding::instruction_at))]
+pub fn decode(kernel: &[u8], at: usize) -> Result<(Instruction, Cursor), Refusal>
+    ensures { reply result ≡ instruction_at kernel.now at }
 {
-    match fields::byte_field(kernel, Cursor { at }, ByteRule::Free) {
-        ByteField::Got(opcode, c1) => {
-            if opcode == 0x24 {
-                return shl_fields(kernel, c1);
-            }
-            if opcode == 0x78 {
-                return gather_fields(kernel, c1);
-            }
-            if opcode == 0x4e {
-                return svm_fields(kernel, c1);
-            }
-            if opcode == 0x5d {
-                raw_send_fields(kernel, c1)
-            } else {
-                Decoded::Refused(2)
-            }
-        }
-        ByteField::Refused(number) => Decoded::Refused(number),
+    let (opcode, cursor) = fields::read(kernel, Cursor { at }, ByteRule::Free)?;
+    match opcode {
+        0x24 => shl_fields(kernel, cursor),
+        0x78 => gather_fields(kernel, cursor),
+        0x4e => svm_fields(kernel, cursor),
+        0x5d => raw_send_fields(kernel, cursor),
+        _ => Err(Refusal::Opcode),
     }
 }
 
 // The number that decoding at a position gives back: 0, or the refusal's.
+#[tactic(auto, unfolding(reader::specs::Reply::number_of))]
 pub fn decode_number(kernel: &[u8], at: usize) -> u8
     ensures { result ≡ number_of (instruction_at kernel.now at) }
 {
     match decode(kernel, at) {
-        Decoded::Accepted(_, _) => 0,
-        Decoded::Refused(number) => number,
+        Ok(_) => 0,
+        Err(refusal) => refusal.number(),
     }
 }
 
 // The instruction's own bytes, as a part of the kernel; an empty part on a refusal.
+#[tactic(auto, unfolding(crate::specs::Decoding::own_bytes))]
 pub fn own_bytes(kernel: &[u8], at: usize) -> &[u8]
     ensures { result.now ≡ own_bytes kernel.now at }
 {
     match decode(kernel, at) {
-        Decoded::Accepted(_, cursor) => {
-            let end = cursor.at;
-            &kernel[at..end]
-        }
-        Decoded::Refused(_) => &kernel[..0],
+        Ok((_, end)) => &kernel[at..end.at],
+        Err(_) => &kernel[..0],
     }
 }

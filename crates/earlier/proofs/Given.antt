@@ -13,7 +13,7 @@ use Rattle.element_types.specs.Types.{size_of}
 use Rattle.exec_byte.specs.Exec.{exec_size}
 use Rattle.predicate_field.specs.Predicate.{has_predicate}
 use Rattle.tables.specs.Tables.{Tables}
-use Rattle.predicate_table.specs.declared.PredicateRecord.{PredicateRecord}
+use Rattle.predicate_table.specs.PredicateRecord.{PredicateRecord}
 use Rattle.tables.specs.Variables.{Variables}
 use Rattle.field_groups.specs.declared.Control.{Control}
 use Rattle.operand_fields.specs.declared.Immediate.{Immediate}
@@ -30,7 +30,7 @@ use Rattle.operands.specs.Allowed.{type_allowed}
 use Rattle.operands.specs.Variables.{in_table, variable_at}
 use Rattle.operands.specs.Elements.{immediate_element, refused_operand}
 use Rattle.operands.specs.Operands.{immediate_of, located_immediate, located_vector, raw_good}
-use Rattle.plan.specs.declared.Plan.{Plan}
+use Rattle.plan.specs.Plan.{Plan}
 use Rattle.controls.specs.Control.{lanes_end, predicate_for, predicate_refusal, control_refusal, bits_named}
 use Rattle.plan.specs.Control.{control_of}
 use Rattle.plan.specs.Plans.{refused_plan, tested, tested_from, shl_plan, gather_plan, scatter_plan}

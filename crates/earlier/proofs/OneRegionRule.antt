@@ -29,7 +29,7 @@ use Rattle.operands.specs.declared.TypeRule.{TypeRule}
 use Rattle.operands.specs.Allowed.{type_allowed}
 use Rattle.operands.specs.Variables.{in_table, variable_at}
 use Rattle.operands.specs.Operands.{located_vector, located_raw}
-use Rattle.plan.specs.declared.Plan.{Plan}
+use Rattle.plan.specs.Plan.{Plan}
 use Rattle.controls.specs.Control.{predicate_for, control_refusal, bits_named}
 use Rattle.plan.specs.Control.{control_of}
 use Rattle.plan.specs.Plans.{refused_plan, tested, tested_from, shl_plan, gather_plan, scatter_plan}

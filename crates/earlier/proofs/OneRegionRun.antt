@@ -18,7 +18,7 @@ use Rattle.decoder.specs.declared.Instruction.{Instruction}
 use Rattle.decoder.specs.Decoding.{instruction_at}
 use Rattle.decoder.proofs.RefusalNumbers.{refusal-at-most-four}
 use Rattle.tables.specs.Tables.{tables_good}
-use Rattle.plan.specs.declared.Plan.{Plan}
+use Rattle.plan.specs.Plan.{Plan}
 use Rattle.plan.specs.Checked.{checked}
 use Rattle.step.specs.State.{Setup, State, register_bytes, lengths_of}
 use Rattle.step.specs.Step.{Stepped, acted, plan_effect, step_at, after}

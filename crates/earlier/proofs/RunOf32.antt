@@ -28,9 +28,9 @@ use Rattle.regions.specs.Regions.{row_elements, first_element, source_element, e
 use Rattle.regions.specs.Reach.{two_registers, reach_good, elements_good}
 use Rattle.operands.specs.declared.TypeRule.{TypeRule}
 use Rattle.operands.specs.Operands.{general_of, located_general, located_vector}
-use Rattle.plan.specs.declared.Plan.{Plan}
-use Rattle.plan.specs.declared.Operation.{Operation}
-use Rattle.plan.specs.declared.Operation.TheVariants as operation
+use Rattle.plan.specs.Plan.{Plan}
+use Rattle.plan.specs.Operation.{Operation}
+use Rattle.plan.specs.Operation as operation
 use Rattle.payloads.specs.Needed.{registers_needed}
 use Rattle.plan.specs.Checked.{shl_dst, shl_src0, shl_src1, checked_shl, gather_offset, gather_element_offset, gather_dst, checked_gather_operands, checked_gather, scatter_address, scatter_element_offset, scatter_src, checked_scatter, send_desc, send_src, send_dst, checked_send, checked_operands, checked}
 use Rattle.plan.proofs.InstructionLaws.{plan-keeps}

@@ -23,7 +23,7 @@ use Rattle.bits.proofs.Every.{every_holds}
 use Rattle.field_groups.specs.declared.Control.{Control}
 use Rattle.decoder.specs.declared.Instruction.{Instruction}
 use Rattle.decoder.specs.Decoding.{instruction_at}
-use Rattle.plan.specs.declared.Plan.{Plan}
+use Rattle.plan.specs.Plan.{Plan}
 use Rattle.controls.specs.Control.{lanes_end, predicate_for, control_refusal}
 use Rattle.plan.specs.Control.{control_of}
 use Rattle.plan.specs.Plans.{refused_plan}

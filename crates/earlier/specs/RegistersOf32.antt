@@ -5,7 +5,7 @@ use Rattle.exec_byte.specs.Exec.{exec_size}
 use Rattle.operand_fields.specs.declared.General.{General}
 use Rattle.lengths.specs.declared.Lengths.{Lengths}
 use Rattle.lengths.specs.Lengths.{addresses_good, taint_good}
-use Rattle.plan.specs.declared.Plan.{Plan}
+use Rattle.plan.specs.Plan.{Plan}
 use Rattle.payloads.specs.Needed.{enabled_below}
 
 -- "Register file: multiple of 32, at most 4,096."

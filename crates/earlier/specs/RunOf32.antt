@@ -33,15 +33,15 @@ use Rattle.region_rules.specs.RegionRules.{region_refusal}
 use Rattle.region_rules.specs.RegionWord.{vertical_code, width_code, horizontal_code, stride_of}
 use Rattle.operands.specs.declared.TypeRule.{TypeRule}
 use Rattle.operands.specs.declared.TypeRule.TheVariants as rule
-use Rattle.operands.specs.declared.Located.{Located}
+use Rattle.operands.specs.Located.{Located}
 use Rattle.operands.specs.Allowed.{type_allowed}
 use Rattle.operands.specs.Elements.{register_elements, refused_operand}
 use Rattle.operands.specs.Operands.{located_immediate, located_raw}
 use Rattle.operands.specs.Variables.{in_table, variable_at}
 use Rattle.controls.specs.Control.{predicate_for, control_refusal, bits_named}
-use Rattle.plan.specs.declared.Plan.{Plan}
-use Rattle.plan.specs.declared.Operation.{Operation}
-use Rattle.plan.specs.declared.Operation.TheVariants as operation
+use Rattle.plan.specs.Plan.{Plan}
+use Rattle.plan.specs.Operation.{Operation}
+use Rattle.plan.specs.Operation as operation
 use Rattle.plan.specs.Checked.{surface_part}
 use Rattle.plan.specs.Control.{control_of}
 use Rattle.payloads.specs.Needed.{elements_needed, block_bytes}

@@ -13,7 +13,7 @@ use Rattle.lengths.specs.Lengths.{lengths_good}
 use Rattle.tables.specs.Variables.{variables_good}
 use Rattle.surface_table.specs.Surfaces.{surfaces_good}
 use Rattle.tables.specs.Tables.{Tables}
-use Rattle.plan.specs.declared.Plan.{Plan}
+use Rattle.plan.specs.Plan.{Plan}
 use Rattle.controls.specs.Control.{lanes_end}
 use Rattle.plan.specs.Control.{control_of}
 use Rattle.plan.specs.Plans.{tested}

@@ -1,5 +1,5 @@
 -- What a finished draft says of its instruction: refused, too long for the buffer, or encoded.
-use mathlib.Core.Path.{◌≡◌, refl, sym, ◌∙◌}
+use mathlib.Core.Path.{◌≡◌, refl}
 use mathlib.Core.List.{List, ◌++◌}
 use mathlib.Core.Bool.{true, false}
 use Prim.Native.Nat.{ℕ, ◌≤◌, ◌<◌}
@@ -7,46 +7,50 @@ use native.Mathlib.Omega.{arith}
 use lib.ListN.{length, take, drop}
 use lib.Dec.{ltb, eqb}
 use borrow.Author.Tests.{lt-ltb, le-ltb, eq-eqb, ne_eqb}
+use Rattle.reader.specs.Reply.{Reply, refused, done}
 use Rattle.decoder.specs.declared.Instruction.{Instruction}
 use Rattle.decoder.specs.Format.{instruction_fields, instruction_bytes, instruction_refusal}
 use Rattle.decoder.proofs.FormatLaws.{instruction-bytes, instruction-refusal, instruction-at-most}
 use Rattle.encoder.specs.declared.Draft.{Draft}
-use Rattle.encoder.specs.declared.Encoded.{Encoded}
-use Rattle.encoder.specs.declared.Encoded.TheVariants as encoded
 use Rattle.encoder.specs.Mirror.Draft.{empty_draft, with_fields}
-use Rattle.encoder.specs.Encoding.{encoded_in, encoded_into, encoded_reply}
-use Rattle.encoder.proofs.DraftLaws.{Holds, drafted-holds}
+use Rattle.encoder.specs.Encoding.{encoded_in, encoded_into}
+use Rattle.encoder.proofs.DraftLaws.{Drafts, drafted-drafts}
 
 -- the answer `r` and the buffer `m` that a call leaves of the buffer `l`
-abbrev pub Meets : Instruction → List ℕ → Encoded → List ℕ → Type 0
-Meets i l r m = (encoded_reply r ≡ encoded_in (length l) i) × (m ≡ encoded_into l i)
+abbrev pub Meets : Instruction → List ℕ → Reply ℕ → List ℕ → Type 0
+Meets i l r m = (r ≡ encoded_in (length l) i) × (m ≡ encoded_into l i)
 
-module _ (i : Instruction) (d : Draft) (e : d ≡ with_fields (instruction_fields i) empty_draft) where
-  whole : Holds d (instruction_refusal i) (instruction_bytes i)
-  whole =
-      let fits : length (instruction_bytes i) ≤ 64 = omega (arith, instruction-at-most i) in
-      rw (e, instruction-bytes i, instruction-refusal i) (drafted-holds (instruction_fields i) (rw instruction-bytes at fits))
+whole : (i : Instruction) (a : Reply Draft) → a ≡ with_fields (instruction_fields i) empty_draft → Drafts a (instruction_refusal i) (instruction_bytes i)
+whole i a e =
+    let fits : length (instruction_bytes i) ≤ 64 = omega (arith, instruction-at-most i) in
+    rw (e, instruction-bytes i, instruction-refusal i) (drafted-drafts (instruction_fields i) (rw instruction-bytes at fits))
 
-  pub in-room : d.length < length d.bytes
-  in-room = omega (arith, whole.count, whole.room, instruction-at-most i)
+module _ (i : Instruction) where
+  pub refused_in : (room n : ℕ) → refused n ≡ with_fields (instruction_fields i) empty_draft → encoded_in room i ≡ refused n
+  unfolding encoded_in
+  refused_in room n e =
+      let d = whole i (refused n) e in
+      let bad : eqb (instruction_refusal i) 0 ≡ false = ne_eqb (instruction_refusal i) 0 d.1 in
+      rw (bad, d.0)
 
-  module _ (l : List ℕ) where
-    pub field-refused : (d.number ≡ 0 → ⊥) → Meets i l (encoded.Refused d.number) l
+  pub refused_into : (l : List ℕ) (n : ℕ) → refused n ≡ with_fields (instruction_fields i) empty_draft → encoded_into l i ≡ l
+  unfolding encoded_into
+  refused_into l n e = rw (refused_in (length l) n e)
+
+  module _ (d : Draft) (e : done d ≡ with_fields (instruction_fields i) empty_draft) where
+    pub in-room : d.length < length d.bytes
+    in-room = let h = (whole i (done d) e).1 in omega (arith, h.count, h.room, instruction-at-most i)
+
+    pub too_short : (l : List ℕ) → length l < d.length → Meets i l (refused 15) l
     unfolding encoded_in encoded_into
-    field-refused n =
-        let bad : eqb (instruction_refusal i) 0 ≡ false = ne_eqb (instruction_refusal i) 0 (λ z. n (whole.refusal ∙ z)) in
-        rw (bad, whole.refusal) (refl, refl)
+    too_short l h =
+        let w = whole i (done d) e in
+        let short : ltb (length l) (length (instruction_bytes i)) ≡ true = lt-ltb (length l) (length (instruction_bytes i)) (omega (arith, w.1.count)) in
+        rw (eq-eqb (instruction_refusal i) 0 w.0, short) (refl, refl)
 
-    pub too_short : d.number ≡ 0 → length l < d.length → Meets i l (encoded.Refused 15) l
+    pub written : (l m : List ℕ) → d.length ≤ length l → m ≡ take d.length d.bytes ++ drop d.length l → Meets i l (done d.length) m
     unfolding encoded_in encoded_into
-    too_short n h =
-        let good : eqb (instruction_refusal i) 0 ≡ true = eq-eqb (instruction_refusal i) 0 (sym whole.refusal ∙ n) in
-        let short : ltb (length l) (length (instruction_bytes i)) ≡ true = lt-ltb (length l) (length (instruction_bytes i)) (omega (arith, whole.count)) in
-        rw (good, short) (refl, refl)
-
-    pub written : (m : List ℕ) → d.number ≡ 0 → d.length ≤ length l → m ≡ take d.length d.bytes ++ drop d.length l → Meets i l (encoded.Wrote d.length) m
-    unfolding encoded_in encoded_into
-    written m n h k =
-        let good : eqb (instruction_refusal i) 0 ≡ true = eq-eqb (instruction_refusal i) 0 (sym whole.refusal ∙ n) in
-        let long : ltb (length l) (length (instruction_bytes i)) ≡ false = le-ltb (length l) (length (instruction_bytes i)) (omega (arith, whole.count)) in
-        rw (good, long, k, whole.count, whole.bytes) (refl, refl)
+    written l m h k =
+        let w = whole i (done d) e in
+        let long : ltb (length l) (length (instruction_bytes i)) ≡ false = le-ltb (length l) (length (instruction_bytes i)) (omega (arith, w.1.count)) in
+        rw (eq-eqb (instruction_refusal i) 0 w.0, long, k, w.1.count, w.1.bytes) (refl, refl)

@@ -1,5 +1,4 @@
 pub mod DraftLaws
-pub mod CopyLaws
 pub mod EncodeLaws
 pub mod RoundTrip
 pub mod RefusedAlike

@@ -5,8 +5,6 @@ use Rattle.std.specs.Prelude.{ℕ, List, ◌++◌, cond, length, drop, ltb, eqb}
 use Rattle.reader.specs.Reply.{Reply, refused, done, on_reply}
 use Rattle.decoder.specs.declared.Instruction.{Instruction}
 use Rattle.decoder.specs.Format.{instruction_bytes, instruction_refusal}
-use Rattle.encoder.specs.declared.Encoded.{Encoded}
-use Rattle.encoder.specs.declared.Encoded.TheVariants as encoded
 
 -- the first field that is refused decides; then "15: encoder's buffer shorter than the encoding"; else the number of bytes
 unfoldable pub encoded_in : ℕ → Instruction → Reply ℕ
@@ -18,8 +16,3 @@ encoded_in room i =
 -- the buffer after it: untouched on a refusal, else the encoding and the bytes past it
 unfoldable pub encoded_into : List ℕ → Instruction → List ℕ
 encoded_into l i = on_reply (encoded_in (length l) i) (λ n. l) (λ n. instruction_bytes i ++ drop n l)
-
--- number and values of each case
-abbrev pub encoded_reply : Encoded → Reply ℕ
-encoded_reply (encoded.Refused n) = refused n
-encoded_reply (encoded.Wrote n) = done n

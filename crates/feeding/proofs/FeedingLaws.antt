@@ -13,12 +13,12 @@ use mir.Syntax.{w64}
 use borrow.Author.Tests.{eq-eqb}
 use Rattle.tally.specs.Mirror.Reading.{Reading}
 use Rattle.frames.specs.Mirror.Frames.{line_read}
-use Rattle.line_blocks.specs.Mirror.Rows.{Row, all_pushed, line_length}
+use Rattle.line_blocks.specs.declared.Begun.{Begun}
+use Rattle.line_blocks.specs.Mirror.Rows.{Row, row, all_pushed, line_length}
 use Rattle.line_blocks.proofs.PartLaws.{part-inside}
 use Rattle.feeding.specs.Mirror.Feeding.{Machine, ended, byte_fed, read_on, fed}
-use Rattle.feeding.proofs.EndLaws.{line_over, line-ended}
+use Rattle.feeding.proofs.EndLaws.{over_nothing, line-ended}
 use Rattle.feeding.proofs.PartLaws.{line-pushed}
-use Rattle.feeding.proofs.KeptLaws.{Told, Kept, kept-none, kept_more}
 
 -- the place after one inside a block
 pub next_fits : (i n : ℕ) → i < n → n < 2 ^ 64 → Fits w64 (i + 1)
@@ -57,19 +57,16 @@ unfolding fed
 fed-over block i m h = rw (drop_of_length-le block h)
 
 -- of a block that a machine is fed, the bytes before i are: the rest makes of it what the block makes of the first; while bytes are left no
--- line was bad; no buffer has another length
+-- line was bad
 pub record Fed (block : List ℕ) (i : ℕ) (m n : Machine) : Type 0 where
   pub inside : i ≤ length block
   pub rest : fed (drop i block) n ≡ fed block m
   pub good : i < length block → ltb 0 n.reading.case.bad ≡ false
-  pub line : length n.row.line ≡ length m.row.line
-  pub kept : Kept m.reading n.reading
 
 -- feeding goes on at i, or at the block's end if a line was bad
-on-fed : (block : List ℕ) (i j : ℕ) (m n : Machine) → i ≤ length block → fed (drop i block) n ≡ fed block m → length n.row.line ≡ length m.row.line →
-    Kept m.reading n.reading → j ≡ read_on n.reading.case.bad i (length block) → Fed block j m n
+on-fed : (block : List ℕ) (i j : ℕ) (m n : Machine) → i ≤ length block → fed (drop i block) n ≡ fed block m → j ≡ read_on n.reading.case.bad i (length block) → Fed block j m n
 unfolding read_on
-on-fed block i j m n h rest line kept e = told (ltb 0 n.reading.case.bad) refl e
+on-fed block i j m n h rest e = told (ltb 0 n.reading.case.bad) refl e
   where
     told : (q : Bool) → ltb 0 n.reading.case.bad ≡ q → j ≡ cond q (length block) i → Fed block j m n
     told true b e =
@@ -77,26 +74,22 @@ on-fed block i j m n h rest line kept e = told (ltb 0 n.reading.case.bad) refl e
           inside = omega (arith, e);
           rest = fed-over block j n (omega (arith, e)) ∙ (sym (fed-stays (drop i block) n b) ∙ rest);
           good = λ l. absurd (omega (arith, e, l));
-          line = line;
-          kept = kept;
         }
     told false b e =
         record {
           inside = omega (arith, e, h);
           rest = ap (λ (k : ℕ). fed (drop k block) n) e ∙ rest;
           good = λ _. b;
-          line = line;
-          kept = kept;
         }
 
 pub none-fed : (block : List ℕ) (i : ℕ) (m : Machine) → i ≡ read_on m.reading.case.bad 0 (length block) → Fed block i m m
-none-fed block i m e = on-fed block 0 i m m (omega arith) refl refl (kept-none m.reading m.reading.case) e
+none-fed block i m e = on-fed block 0 i m m (omega arith) refl e
 
 module _ (block : List ℕ) (i : ℕ) (m n : Machine) (f : Fed block i m n) (h : i < length block) where
   -- the characters up to the next 0x0a
-  pub part-more : (end : ℕ) (w : Row) → end ≡ i + line_length (drop i block) → w ≡ all_pushed (take (end - i) (drop i block)) n.row → length w.line ≡ length n.row.line →
+  pub part-more : (end : ℕ) (w : Row) → end ≡ i + line_length (drop i block) → w ≡ all_pushed (take (end - i) (drop i block)) n.row →
       Fed block end m (record { row = w; reading = n.reading })
-  part-more end w e we l =
+  part-more end w e we =
       let k : end - i ≡ line_length (drop i block) = omega (arith, e) in
       let row_is : w ≡ all_pushed (take (line_length (drop i block)) (drop i block)) n.row = we ∙ ap (λ (j : ℕ). all_pushed (take j (drop i block)) n.row) k in
       let rest_is : drop end block ≡ drop (line_length (drop i block)) (drop i block) = ap (λ (j : ℕ). drop j block) e ∙ sym (drop-drop (line_length (drop i block)) i block) in
@@ -104,17 +97,15 @@ module _ (block : List ℕ) (i : ℕ) (m n : Machine) (f : Fed block i m n) (h :
         inside = part-inside block i end h e;
         rest = ap₂ (λ (x : List ℕ) (y : Row). fed x (record { row = y; reading = n.reading })) rest_is row_is ∙ (sym (line-pushed (drop i block) n (f.good h)) ∙ f.rest);
         good = λ _. f.good h;
-        line = l ∙ f.line;
-        kept = f.kept;
       }
 
-  pub line-more : (r : Reading) (characters : List ℕ) (j : ℕ) → get_or block i 0 ≡ 10 → characters ≡ cond n.row.long [] (take n.row.used n.row.line) →
-      r ≡ line_read characters n.reading → Told n.reading r → j ≡ read_on r.case.bad (i + 1) (length block) → Fed block j m (line_over n r)
-  line-more r characters j t c e k =
-      on-fed block (i + 1) j m (line_over n r) (omega (arith, h))
-      (fed-turn block i n (line_over n r) h (end-fed (get_or block i 0) n (line_over n r) (f.good h) t (line-ended n r characters c e)) ∙ f.rest)
-      f.line
-      (kept_more m.reading n.reading r f.kept k)
+  pub line-more : (r : Reading) (b : Begun) (characters : List ℕ) (j : ℕ) → get_or block i 0 ≡ 10 → characters ≡ cond n.row.long [] (take n.row.used n.row.line) →
+      r ≡ line_read characters n.reading → b ≡ record { used = 0; long = false } → j ≡ read_on r.case.bad (i + 1) (length block) →
+      Fed block j m (record { row = row n.row.line b.used b.long; reading = r })
+  line-more r b characters j t c e k =
+      let o : Machine = record { row = row n.row.line b.used b.long; reading = r } in
+      on-fed block (i + 1) j m o (omega (arith, h))
+      (fed-turn block i n o h (end-fed (get_or block i 0) n o (f.good h) t (over_nothing n r b k ∙ line-ended n r characters c e)) ∙ f.rest)
 
 pub all-fed : (block : List ℕ) (i : ℕ) (m n : Machine) → Fed block i m n → length block ≤ i → n ≡ fed block m
 all-fed block i m n f h = sym (fed-over block i n h) ∙ f.rest

@@ -1,5 +1,4 @@
 pub mod EndLaws
-pub mod KeptLaws
 pub mod StayLaws
 pub mod PartLaws
 pub mod FeedingLaws

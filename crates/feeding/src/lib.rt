@@ -3,64 +3,45 @@
 #![tactic(auto)]
 
 ghost use Rattle.std.specs.Prelude.{◌≡◌, cond, [], take};
-ghost use Rattle.tally.specs.Mirror.Lent.{lent_contents, lent_tables};
-ghost use Rattle.line_blocks.specs.Mirror.Rows.{is_begun};
+ghost use Rattle.tally.specs.Mirror.Lent.{contents_of, tables_of, SameContents, SameTables};
 ghost use Rattle.feeding.specs.Mirror.Feeding.{machine, fresh, read_on, fed, finished};
 
 use line_blocks::Begun;
-use tally::Case;
+use tally::{Case, ContentBuffers, TableBuffers};
 
-// How many characters of the line begun stand in the line buffer, whether there were more, and what the lines before came to.
+// What stands in the line buffer of the line begun, and what the lines before came to.
 #[derive(Clone, Copy)]
 pub struct State {
-    pub used: usize,
-    pub long: bool,
+    pub begun: Begun,
     pub case: Case,
 }
 
-pub fn start() -> State
-    ensures { result ≡ fresh }
-{
-    State {
-        used: 0,
-        long: false,
-        case: tally::start(),
-    }
-}
-
-// The first elements of a buffer; all of them if there are fewer.
-pub fn first_words(buffer: &[u16], count: usize) -> &[u16]
-    ensures { result.now ≡ take count buffer.now }
-{
-    if count <= buffer.len() {
-        &buffer[..count]
-    } else {
-        buffer
-    }
-}
-
-pub fn first_dwords(buffer: &[u32], count: usize) -> &[u32]
-    ensures { result.now ≡ take count buffer.now }
-{
-    if count <= buffer.len() {
-        &buffer[..count]
-    } else {
-        buffer
+impl State {
+    // Before the first byte.
+    #[tactic(auto, unfolding(crate::specs::Mirror::Feeding::fresh))]
+    pub fn new() -> State
+        ensures { result ≡ fresh }
+    {
+        State {
+            begun: Begun::nothing(),
+            case: Case::new(),
+        }
     }
 }
 
 // The characters of the line begun; none of one that was too long, since an empty line is as bad.
-fn line_characters(line: &[u8], used: usize, long: bool) -> &[u8]
-    ensures { result.now ≡ cond long [] (take used line.now) }
+fn line_characters(line: &[u8], begun: Begun) -> &[u8]
+    ensures { result.now ≡ cond begun.long [] (take begun.used line.now) }
 {
-    if long {
-        &line[..0]
+    if begun.long {
+        &[]
     } else {
-        line_blocks::first_bytes(line, used)
+        line_blocks::first(line, begun.used)
     }
 }
 
 // Where a block is read on, `next` or its end: after a bad line nothing counts.
+#[tactic(auto, unfolding(crate::specs::Mirror::Feeding::read_on))]
 fn read_on(bad: u32, next: usize, end: usize) -> usize
     ensures { result ≡ read_on bad next end }
 {
@@ -71,111 +52,52 @@ fn read_on(bad: u32, next: usize, end: usize) -> usize
 pub fn feed(
     block: &[u8],
     line: &mut [u8],
-    registers: &mut [u8],
-    memory: &mut [u8],
-    kernel: &mut [u8],
-    register_taint: &mut [u8],
-    surface_taint: &mut [u8],
-    memory_taint: &mut [u8],
-    types: &mut [u8],
-    starts: &mut [u16],
-    counts: &mut [u16],
-    predicate_bits: &mut [u32],
-    predicate_counts: &mut [u8],
-    surface_bytes: &mut [u8],
-    surface_lengths: &mut [u16],
+    contents: &mut ContentBuffers<'_>,
+    tables: &mut TableBuffers<'_>,
     state: State,
 ) -> State
-    ensures { let b = lent_contents registers memory kernel register_taint surface_taint memory_taint in let t = lent_tables types starts counts predicate_bits predicate_counts surface_bytes surface_lengths in machine line.new result b.exit t.exit ≡ fed block.now (machine line.old state b.entry t.entry) }
+    ensures machine { machine line.new result (contents_of contents.new) (tables_of tables.new) ≡ fed block.now (machine line.old state (contents_of contents.old) (tables_of tables.old)) }
+    ensures contents { SameContents contents.old contents.new }
+    ensures tables { SameTables tables.old tables.new }
 {
-    let mut used = state.used;
-    let mut long = state.long;
+    let mut begun = state.begun;
     let mut case = state.case;
+    // By an index: over the rest of the block as a slice the bound of `end + 1` was not proved.
     let mut i = read_on(state.case.bad, 0, block.len());
     while i < block.len() {
         let end = line_blocks::line_end(block, i);
-        let begun = line_blocks::push_all(line, &block[i..end], Begun { used, long });
+        let row = line_blocks::push_all(line, &block[i..end], begun);
         if block.len() <= end {
-            used = begun.used;
-            long = begun.long;
+            begun = row;
             i = end;
             continue;
         }
-        let next = frames::take_line(
-            line_characters(line, begun.used, begun.long),
-            registers,
-            memory,
-            kernel,
-            register_taint,
-            surface_taint,
-            memory_taint,
-            types,
-            starts,
-            counts,
-            predicate_bits,
-            predicate_counts,
-            surface_bytes,
-            surface_lengths,
-            case,
-        );
-        used = 0;
-        long = false;
+        let next = frames::take_line(line_characters(line, row), contents, tables, case);
+        begun = Begun::nothing();
         case = next;
         i = read_on(next.bad, end + 1, block.len());
     }
-    State { used, long, case }
-}
-
-// Whether a line is begun that has no end yet.
-fn is_begun(state: State) -> bool
-    ensures { result ≡ is_begun state.used state.long }
-{
-    state.long | (0 < state.used)
+    State { begun, case }
 }
 
 // The end of the file: its last line may lack the 0x0a.
+#[tactic(auto, using(crate::proofs::EndLaws::last_finished, crate::proofs::EndLaws::none_finished))]
 pub fn finish(
     line: &[u8],
-    registers: &mut [u8],
-    memory: &mut [u8],
-    kernel: &mut [u8],
-    register_taint: &mut [u8],
-    surface_taint: &mut [u8],
-    memory_taint: &mut [u8],
-    types: &mut [u8],
-    starts: &mut [u16],
-    counts: &mut [u16],
-    predicate_bits: &mut [u32],
-    predicate_counts: &mut [u8],
-    surface_bytes: &mut [u8],
-    surface_lengths: &mut [u16],
+    contents: &mut ContentBuffers<'_>,
+    tables: &mut TableBuffers<'_>,
     state: State,
 ) -> State
-    ensures { let b = lent_contents registers memory kernel register_taint surface_taint memory_taint in let t = lent_tables types starts counts predicate_bits predicate_counts surface_bytes surface_lengths in machine line.now result b.exit t.exit ≡ finished (machine line.now state b.entry t.entry) }
+    ensures machine { machine line.now result (contents_of contents.new) (tables_of tables.new) ≡ finished (machine line.now state (contents_of contents.old) (tables_of tables.old)) }
+    ensures contents { SameContents contents.old contents.new }
+    ensures tables { SameTables tables.old tables.new }
 {
-    if !is_begun(state) {
+    if !state.begun.is_begun() {
         return state;
     }
-    let case = frames::take_line(
-        line_characters(line, state.used, state.long),
-        registers,
-        memory,
-        kernel,
-        register_taint,
-        surface_taint,
-        memory_taint,
-        types,
-        starts,
-        counts,
-        predicate_bits,
-        predicate_counts,
-        surface_bytes,
-        surface_lengths,
-        state.case,
-    );
+    let characters = line_characters(line, state.begun);
     State {
-        used: 0,
-        long: false,
-        case,
+        begun: Begun::nothing(),
+        case: frames::take_line(characters, contents, tables, state.case),
     }
 }

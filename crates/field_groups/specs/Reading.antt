@@ -1,20 +1,14 @@
 -- Reading each group of fields, field by field. Document 01, "The numbers given back": "Decoding needs no tables and goes by field: 1 for a
 -- field not whole, then 2 or 3, then 4 for class and modifier."
 use Rattle.std.specs.Prelude.{ℕ, List}
-use Rattle.reader.specs.Reply.{Reply, refused, Read, got, and_then}
+use Rattle.reader.specs.Reply.{Reply, Read, got, and_then}
 use Rattle.fields.specs.declared.ByteRule.{ByteRule}
 use Rattle.fields.specs.declared.ByteRule.TheVariants as byte
 use Rattle.fields.specs.declared.WordRule.TheVariants as word
 use Rattle.fields.specs.Reading.{byte_field_at, word_field_at, dword_field_at}
 use Rattle.field_groups.specs.declared.Control.{Control}
-use Rattle.field_groups.specs.declared.ControlField.{ControlField}
-use Rattle.field_groups.specs.declared.ControlField.TheVariants as control
 use Rattle.field_groups.specs.declared.Access.{Access}
-use Rattle.field_groups.specs.declared.AccessField.{AccessField}
-use Rattle.field_groups.specs.declared.AccessField.TheVariants as access
 use Rattle.field_groups.specs.declared.Message.{Message}
-use Rattle.field_groups.specs.declared.MessageField.{MessageField}
-use Rattle.field_groups.specs.declared.MessageField.TheVariants as message
 
 -- Exec_size and Pred
 unfoldable pub control_at : ByteRule → List ℕ → ℕ → Reply (Read Control)
@@ -39,16 +33,3 @@ message_at s at =
     and_then (byte_field_at byte.NumSrc s extended.next) (λ sources.
     and_then (byte_field_at byte.NumDst s sources.next) (λ destinations.
     got (record { extended = extended.value; num_src = sources.value; num_dst = destinations.value }) destinations.next)))
-
--- number and values of each case
-abbrev pub control_field_reply : ControlField → Reply (Read Control)
-control_field_reply (control.Refused n) = refused n
-control_field_reply (control.Got v c) = got v c.at
-
-abbrev pub access_field_reply : AccessField → Reply (Read Access)
-access_field_reply (access.Refused n) = refused n
-access_field_reply (access.Got v c) = got v c.at
-
-abbrev pub message_field_reply : MessageField → Reply (Read Message)
-message_field_reply (message.Refused n) = refused n
-message_field_reply (message.Got v c) = got v c.at

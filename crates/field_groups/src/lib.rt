@@ -3,10 +3,12 @@
 #![tactic(auto)]
 
 ghost use Rattle.std.specs.Prelude.{◌≡◌};
-ghost use Rattle.field_groups.specs.Reading.{control_at, access_at, message_at, control_field_reply, access_field_reply, message_field_reply};
+ghost use Rattle.field_groups.specs.Reading.{control_at, access_at, message_at};
+ghost use Rattle.reader.specs.Reply.{reply};
 
-use fields::{ByteField, ByteRule, DwordField, WordField, WordRule};
+use fields::{ByteRule, WordRule};
 use reader::Cursor;
+use refusal::Refusal;
 
 // Exec_size and Pred, which every instruction has.
 #[derive(Clone, Copy)]
@@ -32,88 +34,47 @@ pub struct Message {
     pub num_dst: u8,
 }
 
-#[derive(Clone, Copy)]
-pub enum ControlField {
-    Got(Control, Cursor),
-    Refused(u8),
-}
-
-#[derive(Clone, Copy)]
-pub enum AccessField {
-    Got(Access, Cursor),
-    Refused(u8),
-}
-
-#[derive(Clone, Copy)]
-pub enum MessageField {
-    Got(Message, Cursor),
-    Refused(u8),
-}
-
-pub fn control_field(kernel: &[u8], cursor: Cursor, rule: ByteRule) -> ControlField
-    ensures { control_field_reply result ≡ control_at rule kernel.now cursor.at }
+#[tactic(auto, unfolding(crate::specs::Reading::control_at))]
+pub fn control_field(
+    kernel: &[u8],
+    cursor: Cursor,
+    rule: ByteRule,
+) -> Result<(Control, Cursor), Refusal>
+    ensures { reply result ≡ control_at rule kernel.now cursor.at }
 {
-    match fields::byte_field(kernel, cursor, rule) {
-        ByteField::Got(exec, c1) => match fields::word_field(kernel, c1, WordRule::Predicate) {
-            WordField::Got(pred, c2) => ControlField::Got(Control { exec, pred }, c2),
-            WordField::Refused(number) => ControlField::Refused(number),
-        },
-        ByteField::Refused(number) => ControlField::Refused(number),
-    }
+    let (exec, cursor) = fields::read(kernel, cursor, rule)?;
+    let (pred, cursor) = fields::read(kernel, cursor, WordRule::Predicate)?;
+    Ok((Control { exec, pred }, cursor))
 }
 
-pub fn access_field(kernel: &[u8], cursor: Cursor) -> AccessField
-    ensures { access_field_reply result ≡ access_at kernel.now cursor.at }
+#[tactic(auto, unfolding(crate::specs::Reading::access_at))]
+pub fn access_field(kernel: &[u8], cursor: Cursor) -> Result<(Access, Cursor), Refusal>
+    ensures { reply result ≡ access_at kernel.now cursor.at }
 {
-    match fields::byte_field(kernel, cursor, ByteRule::Free) {
-        ByteField::Got(block_size, c1) => {
-            match fields::byte_field(kernel, c1, ByteRule::NumBlocks) {
-                ByteField::Got(num_blocks, c2) => {
-                    match fields::word_field(kernel, c2, WordRule::Free) {
-                        WordField::Got(scale, c3) => {
-                            match fields::byte_field(kernel, c3, ByteRule::Free) {
-                                ByteField::Got(surface, c4) => AccessField::Got(
-                                    Access {
-                                        block_size,
-                                        num_blocks,
-                                        scale,
-                                        surface,
-                                    },
-                                    c4,
-                                ),
-                                ByteField::Refused(number) => AccessField::Refused(number),
-                            }
-                        }
-                        WordField::Refused(number) => AccessField::Refused(number),
-                    }
-                }
-                ByteField::Refused(number) => AccessField::Refused(number),
-            }
-        }
-        ByteField::Refused(number) => AccessField::Refused(number),
-    }
+    let (block_size, cursor) = fields::read(kernel, cursor, ByteRule::Free)?;
+    let (num_blocks, cursor) = fields::read(kernel, cursor, ByteRule::NumBlocks)?;
+    let (scale, cursor) = fields::read(kernel, cursor, WordRule::Free)?;
+    let (surface, cursor) = fields::read(kernel, cursor, ByteRule::Free)?;
+    let access = Access {
+        block_size,
+        num_blocks,
+        scale,
+        surface,
+    };
+    Ok((access, cursor))
 }
 
-pub fn message_field(kernel: &[u8], cursor: Cursor) -> MessageField
-    ensures { message_field_reply result ≡ message_at kernel.now cursor.at }
+#[tactic(auto, unfolding(crate::specs::Reading::message_at))]
+pub fn message_field(kernel: &[u8], cursor: Cursor) -> Result<(Message, Cursor), Refusal>
+    ensures { reply result ≡ message_at kernel.now cursor.at }
 {
-    match fields::dword_field(kernel, cursor) {
-        DwordField::Got(extended, c1) => match fields::byte_field(kernel, c1, ByteRule::NumSrc) {
-            ByteField::Got(num_src, c2) => {
-                match fields::byte_field(kernel, c2, ByteRule::NumDst) {
-                    ByteField::Got(num_dst, c3) => MessageField::Got(
-                        Message {
-                            extended,
-                            num_src,
-                            num_dst,
-                        },
-                        c3,
-                    ),
-                    ByteField::Refused(number) => MessageField::Refused(number),
-                }
-            }
-            ByteField::Refused(number) => MessageField::Refused(number),
-        },
-        DwordField::Refused(number) => MessageField::Refused(number),
-    }
+    let (extended, cursor) = fields::dword_field(kernel, cursor)?;
+    let (num_src, cursor) = fields::read(kernel, cursor, ByteRule::NumSrc)?;
+    let (num_dst, cursor) = fields::read(kernel, cursor, ByteRule::NumDst)?;
+    let message = Message {
+        extended,
+        num_src,
+        num_dst,
+    };
+    Ok((message, cursor))
 }

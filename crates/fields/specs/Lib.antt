@@ -3,3 +3,4 @@ pub mod Rules
 pub mod Reading
 pub mod Layout
 pub mod Told
+pub mod Reads

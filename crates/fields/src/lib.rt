@@ -2,12 +2,17 @@
 
 #![tactic(auto)]
 
-ghost use Rattle.std.specs.Prelude.{◌≡◌};
+ghost use Rattle.std.specs.Prelude.{◌≡◌, ℕ, List};
 ghost use Rattle.fields.specs.Tags.{tag_of};
 ghost use Rattle.fields.specs.Rules.{judged, exec_good, scatter_exec_good, channels_good, source_count_good, predicate_good, region_good, class_good, tag_good, tag_refusal, byte_refusal, word_refusal};
-ghost use Rattle.fields.specs.Reading.{byte_field_at, word_field_at, dword_field_at, byte_field_reply, word_field_reply, dword_field_reply};
+ghost use Rattle.fields.specs.Reading.{judged_read, byte_field_at, word_field_at, dword_field_at};
+ghost use Rattle.fields.specs.Reads.{byte_reads, word_reads};
+ghost use Rattle.reader.specs.Reading.{stored_at};
+ghost use Rattle.reader.specs.Reply.{Reply, Read, and_then, reply};
+ghost use Rattle.refusal.specs.Numbers.{number_of, number_given};
 
-use reader::{Cursor, ReadByte, ReadDword, ReadWord};
+use reader::{Cursor, Stored};
+use refusal::Refusal;
 
 // Whose tag it is: SHL's destination, a source of SHL, or a scalar (a gather's Offset, a scatter's Address, RAW_SEND's Desc).
 #[derive(Clone, Copy)]
@@ -39,23 +44,10 @@ pub enum WordRule {
     Region,
 }
 
-#[derive(Clone, Copy)]
-pub enum ByteField {
-    Got(u8, Cursor),
-    Refused(u8),
-}
+// The classes of an operand.
+pub const GENERAL: u8 = 0;
 
-#[derive(Clone, Copy)]
-pub enum WordField {
-    Got(u16, Cursor),
-    Refused(u8),
-}
-
-#[derive(Clone, Copy)]
-pub enum DwordField {
-    Got(u32, Cursor),
-    Refused(u8),
-}
+pub const IMMEDIATE: u8 = 5;
 
 // The parts of a tag: class, modifier, and the bits that are not named.
 #[derive(Clone, Copy)]
@@ -75,36 +67,37 @@ pub enum Field {
     Lacking(u32),
 }
 
-// The refusal of a number that is not good, 0 where it is.
-pub fn judge(good: bool, number: u8) -> u8
-    ensures { result ≡ judged good number }
+// The refusal of a number that is not good.
+#[tactic(auto, unfolding(crate::specs::Rules::judged))]
+pub fn judge(good: bool, refusal: Refusal) -> Result<(), Refusal>
+    ensures { number_given result ≡ judged good (number_of refusal) }
 {
-    if good { 0 } else { number }
+    if good { Ok(()) } else { Err(refusal) }
 }
 
+#[tactic(auto, unfolding(crate::specs::Rules::exec_good))]
 fn exec_good(v: u8) -> bool
     ensures { result ≡ exec_good v }
 {
-    let exec = exec_byte::split(v);
-    !exec.reserved
+    !exec_byte::split(v).reserved
 }
 
+#[tactic(auto, unfolding(crate::specs::Rules::exec_good, crate::specs::Rules::scatter_exec_good))]
 fn scatter_exec_good(v: u8) -> bool
     ensures { result ≡ scatter_exec_good v }
 {
     let exec = exec_byte::split(v);
-    if exec.reserved {
-        return false;
-    }
-    exec.size == 8 || exec.size == 16
+    !exec.reserved && (exec.size == 8 || exec.size == 16)
 }
 
+#[tactic(auto, unfolding(crate::specs::Rules::channels_good))]
 fn channels_good(v: u8) -> bool
     ensures { result ≡ channels_good v }
 {
     0 < v && v < 16
 }
 
+#[tactic(auto, unfolding(crate::specs::Rules::source_count_good))]
 fn source_count_good(v: u8) -> bool
     ensures { result ≡ source_count_good v }
 {
@@ -122,122 +115,124 @@ pub fn split_tag(v: u8) -> Tag
     }
 }
 
-// General is class 0, Immediate class 5.
+#[tactic(auto, unfolding(crate::specs::Rules::class_good))]
 fn class_good(rule: TagRule, class: u8) -> bool
     ensures { result ≡ class_good rule class }
 {
     match rule {
-        TagRule::Destination => class == 0,
-        TagRule::Source => class == 0 || class == 5,
-        TagRule::Scalar => class == 0 || class == 5,
+        TagRule::Destination => class == GENERAL,
+        TagRule::Source | TagRule::Scalar => class == GENERAL || class == IMMEDIATE,
     }
 }
 
+#[tactic(auto, unfolding(crate::specs::Rules::tag_good))]
 fn tag_good(rule: TagRule, v: u8) -> bool
     ensures { result ≡ tag_good rule v }
 {
     let tag = split_tag(v);
-    if tag.modifier == 0 {
-        class_good(rule, tag.class)
-    } else {
-        false
-    }
+    tag.modifier == 0 && class_good(rule, tag.class)
 }
 
-fn tag_refusal(rule: TagRule, v: u8) -> u8
-    ensures { result ≡ tag_refusal rule v }
+#[tactic(auto, unfolding(crate::specs::Rules::judged, crate::specs::Rules::tag_refusal))]
+fn judge_tag(rule: TagRule, v: u8) -> Result<(), Refusal>
+    ensures { number_given result ≡ tag_refusal rule v }
 {
-    let tag = split_tag(v);
-    if tag.unnamed == 0 {
-        judge(tag_good(rule, v), 4)
-    } else {
-        3
-    }
+    judge(split_tag(v).unnamed == 0, Refusal::Reserved)?;
+    judge(tag_good(rule, v), Refusal::Unfit)
 }
 
+#[tactic(auto, unfolding(crate::specs::Rules::predicate_good))]
 fn predicate_good(v: u16) -> bool
     ensures { result ≡ predicate_good v }
 {
     !predicate_field::predicate_reserved(v)
 }
 
+#[tactic(auto, unfolding(crate::specs::Rules::region_good))]
 fn region_good(v: u16) -> bool
     ensures { result ≡ region_good v }
 {
-    if v / 4096 == 0 {
-        if v % 16 < 8 {
-            if v / 16 % 16 < 8 {
-                return v / 256 % 16 < 8;
-            }
+    v / 4096 == 0 && v % 16 < 8 && v / 16 % 16 < 8 && v / 256 % 16 < 8
+}
+
+// A rule of stored numbers of one width: what refuses a number, and reading one by the rule.
+pub trait FieldRule: Copy {
+    type Number: Stored;
+
+    ghost refusal: { Self → Self.Number → ℕ };
+
+    ghost field_at: { Self → List ℕ → ℕ → Reply (Read Self.Number) };
+
+    fn judge(self, v: Self::Number) -> Result<(), Refusal>
+        ensures { number_given result ≡ refusal self v };
+
+    ghost reads: { (rule : Self) (s : List ℕ) (at : ℕ) → field_at rule s at ≡ and_then (stored_at Self.Number.WIDTH Self.Number.value_at s at) (judged_read (refusal rule)) };
+}
+
+impl FieldRule for ByteRule {
+    type Number = u8;
+
+    ghost refusal = { byte_refusal };
+
+    ghost field_at = { byte_field_at };
+
+    ghost reads = { byte_reads };
+
+    #[tactic(auto, unfolding(crate::specs::Rules::byte_refusal, crate::specs::Rules::judged))]
+    fn judge(self, v: u8) -> Result<(), Refusal> {
+        let good = match self {
+            ByteRule::Free => true,
+            ByteRule::Exec => exec_good(v),
+            ByteRule::ScatterExec => scatter_exec_good(v),
+            ByteRule::NumBlocks => v < 3,
+            ByteRule::Channels => channels_good(v),
+            ByteRule::Modifiers => v < 2,
+            ByteRule::NumSrc => source_count_good(v),
+            ByteRule::NumDst => v <= 16,
+            ByteRule::Tag(rule) => return judge_tag(rule, v),
+            ByteRule::ImmediateType => element_types::is_listed(v),
+        };
+        judge(good, Refusal::Reserved)
+    }
+}
+
+impl FieldRule for WordRule {
+    type Number = u16;
+
+    ghost refusal = { word_refusal };
+
+    ghost field_at = { word_field_at };
+
+    ghost reads = { word_reads };
+
+    #[tactic(auto, unfolding(crate::specs::Rules::word_refusal))]
+    fn judge(self, v: u16) -> Result<(), Refusal> {
+        match self {
+            WordRule::Free => Ok(()),
+            WordRule::Predicate => judge(predicate_good(v), Refusal::Reserved),
+            WordRule::Region => judge(region_good(v), Refusal::Reserved),
         }
     }
-    false
 }
 
-pub fn byte_refusal(rule: ByteRule, v: u8) -> u8
-    ensures { result ≡ byte_refusal rule v }
+// A field of one byte or of two, by its rule.
+#[tactic(auto, using(refusal::proofs::RuleLaws::number_some), unfolding(crate::specs::Reading::judged_read))]
+pub fn read<R: FieldRule>(
+    kernel: &[u8],
+    cursor: Cursor,
+    rule: R,
+) -> Result<(R::Number, Cursor), Refusal>
+    ensures { reply result ≡ R.field_at rule kernel.now cursor.at }
 {
-    match rule {
-        ByteRule::Free => 0,
-        ByteRule::Exec => judge(exec_good(v), 3),
-        ByteRule::ScatterExec => judge(scatter_exec_good(v), 3),
-        ByteRule::NumBlocks => judge(v < 3, 3),
-        ByteRule::Channels => judge(channels_good(v), 3),
-        ByteRule::Modifiers => judge(v < 2, 3),
-        ByteRule::NumSrc => judge(source_count_good(v), 3),
-        ByteRule::NumDst => judge(v <= 16, 3),
-        ByteRule::Tag(tag) => tag_refusal(tag, v),
-        ByteRule::ImmediateType => judge(element_types::is_listed(v), 3),
-    }
+    let (v, next) = cursor.read::<R::Number>(kernel)?;
+    rule.judge(v)?;
+    Ok((v, next))
 }
 
-pub fn word_refusal(rule: WordRule, v: u16) -> u8
-    ensures { result ≡ word_refusal rule v }
+// A field of four bytes; none of these has a rule.
+#[tactic(auto, unfolding(crate::specs::Reading::dword_field_at, reader::specs::Reading::read_at))]
+pub fn dword_field(kernel: &[u8], cursor: Cursor) -> Result<(u32, Cursor), Refusal>
+    ensures { reply result ≡ dword_field_at kernel.now cursor.at }
 {
-    match rule {
-        WordRule::Free => 0,
-        WordRule::Predicate => judge(predicate_good(v), 3),
-        WordRule::Region => judge(region_good(v), 3),
-    }
-}
-
-pub fn byte_field(kernel: &[u8], cursor: Cursor, rule: ByteRule) -> ByteField
-    ensures { byte_field_reply result ≡ byte_field_at rule kernel.now cursor.at }
-{
-    match cursor.byte(kernel) {
-        ReadByte::Got(v, next) => {
-            let number = byte_refusal(rule, v);
-            if number == 0 {
-                ByteField::Got(v, next)
-            } else {
-                ByteField::Refused(number)
-            }
-        }
-        ReadByte::Short => ByteField::Refused(1),
-    }
-}
-
-pub fn word_field(kernel: &[u8], cursor: Cursor, rule: WordRule) -> WordField
-    ensures { word_field_reply result ≡ word_field_at rule kernel.now cursor.at }
-{
-    match cursor.word(kernel) {
-        ReadWord::Got(v, next) => {
-            let number = word_refusal(rule, v);
-            if number == 0 {
-                WordField::Got(v, next)
-            } else {
-                WordField::Refused(number)
-            }
-        }
-        ReadWord::Short => WordField::Refused(1),
-    }
-}
-
-pub fn dword_field(kernel: &[u8], cursor: Cursor) -> DwordField
-    ensures { dword_field_reply result ≡ dword_field_at kernel.now cursor.at }
-{
-    match cursor.dword(kernel) {
-        ReadDword::Got(v, next) => DwordField::Got(v, next),
-        ReadDword::Short => DwordField::Refused(1),
-    }
+    cursor.read::<u32>(kernel)
 }

@@ -3,8 +3,9 @@ use mathlib.Core.Path.{◌≡◌, refl}
 use mathlib.Core.List.{List}
 use mathlib.Core.Bool.{Bool, true}
 use Prim.Native.Nat.{ℕ}
-use Rattle.formats.specs.Format.{Format, pair}
+use Rattle.formats.specs.Format.{Out, got, stop, on_out, Format, pair, through}
 use Rattle.formats.specs.Words.{words, one_of, table, before, after}
+use Rattle.formats.specs.Told.{ended_by}
 use Rattle.formats.proofs.Tests.{both, both_left, both_right}
 use Rattle.formats.proofs.Law.{Lawful, free}
 use Rattle.formats.proofs.Following.{Matches, Begins, follows-free, follows-begins, begins-pair, begins-through}
@@ -43,3 +44,16 @@ after-lawful p {f} {m} e k o law = through-lawful (pair-lawful law (λ _. table-
 pub begins-after : {A : Type 0} (p : List ℕ) (f : Format A) (m : ℕ → Bool) → single p ≡ true → Begins m f → Begins m (after f p)
 unfolding after
 begins-after p f m e b = begins-through (begins-pair (λ _. table p) b) (matches-after p f e)
+
+-- reading a format and the word behind it
+pub after_read : {A : Type 0} (f : Format A) (end s : List ℕ) (at : ℕ) → (after f end).read s at ≡ ended_by (f.read s at) s end
+unfolding after pair through
+after_read {A} f end s at = told (f.read s at)
+  where
+    second : (a : A) (o : Out ℕ) → on_out {X = Out A} (on_out {X = Out (A × ℕ)} o stop (λ b d. got (a, b) d)) stop (λ v e. got v.0 e) ≡ on_out o stop (λ b d. got a d)
+    second a (got b d) = refl
+    second a (stop k) = refl
+
+    told : (o : Out A) → on_out {X = Out A} (on_out {X = Out (A × ℕ)} o stop (λ a e. on_out ((table end).read s e) stop (λ b d. got (a, b) d))) stop (λ v e. got v.0 e) ≡ ended_by o s end
+    told (got a e) = second a ((table end).read s e)
+    told (stop k) = refl

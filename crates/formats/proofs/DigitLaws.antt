@@ -95,3 +95,8 @@ module _ (s : List ℕ) (b low high at d : ℕ) (g : Bool) (inside : at < length
 pub number-end : (s : List ℕ) (b low high at : ℕ) → length s ≤ at → stop at ≡ (number b low high).read s at
 unfolding number number_in
 number-end s b low high at h = rw (drop_of_length-le s h)
+
+-- what `more_digits` and `number` (src/lib.rt) stand on
+pub ruleset digit_turns = (digits-fit, digits-go, digits-stop, digits-end)
+
+pub ruleset number_cases = (number-zero, number_more, number-none, number-end)

@@ -183,3 +183,10 @@ word-missed p s at b e f = rw (← e, f)
 pub better-longer : (b : Best) (n : ℕ) (full : Bool) (i : ℕ) → b.reach < n → record { reach = n; full = full; word = i } ≡ better b n full i
 unfolding better
 better-longer b n full i h = rw (lt-ltb b.reach n h)
+
+-- what the loops of src/lib.rt stand on
+pub ruleset letter_turns = (in-inside, in-turn, in-over)
+
+pub ruleset alike_turns = (alike-inside, alike-turn, alike-over)
+
+pub ruleset word_turns = (scan-turn, scan-over, agreed-inside, end-behind, word-inside, word_got, word-missed)

@@ -5,7 +5,8 @@
 ghost use Rattle.std.specs.Prelude.{◌≡◌, ◌+◌, ◌*◌, ◌≤◌, ◌<◌, length, drop};
 ghost use Rattle.formats.specs.Words.{words, one_of};
 ghost use Rattle.formats.specs.Numbers.{number, radix_of};
-ghost use Rattle.formats.specs.Told.{told};
+ghost use Rattle.formats.specs.Format.{got};
+ghost use Rattle.formats.specs.Told.{told, ended_by};
 ghost use Rattle.formats.specs.Mirror.Scan.{common, word_of, in_word, alike_at, better};
 ghost use Rattle.formats.specs.Mirror.Digits.{value_of, goes_on, more_digits, begins};
 
@@ -15,11 +16,10 @@ pub struct Cursor {
     pub at: usize,
 }
 
-// A number with the cursor past its text, or the position of the first character with which no such text goes on.
+// Where reading stops: the position of the first character with which no such text goes on.
 #[derive(Clone, Copy)]
-pub enum NumberRead {
-    Got(u64, Cursor),
-    Stop(usize),
+pub struct Stop {
+    pub at: usize,
 }
 
 #[derive(Clone, Copy)]
@@ -37,17 +37,15 @@ struct Best {
 }
 
 // Whether the table has a character of a word at `j`.
+#[tactic(auto, unfolding(crate::specs::Mirror::Scan::in_word))]
 pub fn in_word(table: &[u8], j: usize) -> bool
     ensures { result ≡ in_word table.now j }
 {
-    if j < table.len() {
-        table[j] != b'|'
-    } else {
-        false
-    }
+    j < table.len() && table[j] != b'|'
 }
 
 // Where the word ends that has a character at `from`, or ends there.
+#[tactic(auto, using(crate::proofs::ScanLaws::letter_turns))]
 pub fn word_end(table: &[u8], from: usize) -> usize
     ensures { result ≡ from + length (word_of (drop from table.now)) }
 {
@@ -59,21 +57,15 @@ pub fn word_end(table: &[u8], from: usize) -> usize
 }
 
 // Whether the text has at `i` the character that a word has at `j`.
+#[tactic(auto, using(crate::proofs::ScanLaws::letter_turns), unfolding(crate::specs::Mirror::Scan::alike_at))]
 fn alike(text: &[u8], i: usize, table: &[u8], j: usize) -> bool
     ensures { result ≡ alike_at text.now i table.now j }
 {
-    if in_word(table, j) {
-        if i < text.len() {
-            text[i] == table[j]
-        } else {
-            false
-        }
-    } else {
-        false
-    }
+    in_word(table, j) && i < text.len() && text[i] == table[j]
 }
 
 // How many characters the text from `at` on has in common with the word from `from` on.
+#[tactic(auto, using(crate::proofs::ScanLaws::alike_turns))]
 fn agreement(text: &[u8], at: usize, table: &[u8], from: usize) -> usize
     ensures { result ≡ common (drop at text.now) (word_of (drop from table.now)) }
 {
@@ -87,35 +79,25 @@ fn agreement(text: &[u8], at: usize, table: &[u8], from: usize) -> usize
 }
 
 // With the next word, of which the text has `n` characters; of two that are just the longest start the first stays.
-fn with_word(b: Best, n: usize, full: bool, word: u64) -> Best
-    ensures { result ≡ better b n full word }
+#[tactic(auto, unfolding(crate::specs::Mirror::Scan::better))]
+fn with_word(best: Best, n: usize, full: bool, word: u64) -> Best
+    ensures { result ≡ better best n full word }
 {
-    if b.reach < n {
-        return Best {
+    if best.reach < n || best.reach == n && full && !best.full {
+        Best {
             reach: n,
-            full: full,
-            word: word,
-        };
-    }
-    if n == b.reach {
-        if full {
-            if b.full {
-                return b;
-            }
-            return Best {
-                reach: n,
-                full: true,
-                word: word,
-            };
+            full,
+            word,
         }
-        return b;
+    } else {
+        best
     }
-    b
 }
 
 impl Cursor {
     // One word of a table; its number is how many words stand before it.
-    pub fn one_of(self, text: &[u8], table: &[u8]) -> NumberRead
+    #[tactic(auto, using(crate::proofs::ScanLaws::word_turns))]
+    pub fn one_of(self, text: &[u8], table: &[u8]) -> Result<(u64, Cursor), Stop>
         ensures { told result ≡ (one_of (words table.now)).read text.now self.at }
     {
         let at = self.at;
@@ -129,44 +111,50 @@ impl Cursor {
         while from < table.len() {
             let n = agreement(text, at, table, from);
             let end = word_end(table, from + n);
-            let next = with_word(best, n, end == from + n, word);
-            best = next;
+            best = with_word(best, n, end == from + n, word);
             from = end + 1;
             word += 1;
         }
+        let end = at + best.reach;
         if best.full {
-            NumberRead::Got(
-                best.word,
-                Cursor {
-                    at: at + best.reach,
-                },
-            )
+            Ok((best.word, Cursor { at: end }))
         } else {
-            NumberRead::Stop(at + best.reach)
+            Err(Stop { at: end })
         }
     }
 
     // A number from `low` to `high` without leading zeros; `low` is 0 or 1.
-    pub fn number(self, text: &[u8], base: Base, low: u64, high: u64) -> NumberRead
+    #[tactic(auto, using(crate::proofs::DigitLaws::number_cases))]
+    pub fn number(self, text: &[u8], base: Base, low: u64, high: u64) -> Result<(u64, Cursor), Stop>
         ensures { told result ≡ (number (radix_of base) low high).read text.now self.at }
     {
         let at = self.at;
-        let b = radix(base);
-        if at < text.len() {
-            let d = value(text[at]);
-            if starts(b, low, high, d) {
-                if d == 0 {
-                    NumberRead::Got(0, Cursor { at: at + 1 })
-                } else {
-                    more_digits(text, at + 1, b, high, d)
-                }
-            } else {
-                NumberRead::Stop(at)
-            }
-        } else {
-            NumberRead::Stop(at)
+        let radix = radix(base);
+        if at >= text.len() {
+            return Err(Stop { at });
         }
+        let digit = value(text[at]);
+        if !starts(radix, low, high, digit) {
+            return Err(Stop { at });
+        }
+        if digit == 0 {
+            return Ok((0, Cursor { at: at + 1 }));
+        }
+        Ok(more_digits(text, at + 1, radix, high, digit))
     }
+}
+
+// What was read, with the word of a table that ends it.
+pub fn ended<T: Copy>(
+    read: Result<(T, Cursor), Stop>,
+    text: &[u8],
+    end: &[u8],
+) -> Result<(T, Cursor), Stop>
+    ensures { told result ≡ ended_by (told read) text.now end.now }
+{
+    let (value, cursor) = read?;
+    let (_, cursor) = cursor.one_of(text, end)?;
+    Ok((value, cursor))
 }
 
 pub fn radix(base: Base) -> u64
@@ -179,62 +167,50 @@ pub fn radix(base: Base) -> u64
 }
 
 // The value of a digit; 16 for any other character.
+#[tactic(auto, unfolding(crate::specs::Mirror::Digits::value_of, hex_text::specs::Digits::is_decimal, hex_text::specs::Digits::is_letter))]
 fn value(character: u8) -> u64
     ensures { result ≡ value_of character }
 {
-    if hex_text::is_decimal(character) {
-        return (character - b'0') as u64;
+    match character {
+        b'0'..=b'9' => u64::from(character - b'0'),
+        b'a'..=b'f' => u64::from(character - b'a' + 10),
+        _ => 16,
     }
-    if hex_text::is_letter(character) {
-        return (character - b'a' + 10) as u64;
-    }
-    16
 }
 
 // Whether the digit `d` begins a number from `low` to `high`.
+#[tactic(auto, unfolding(crate::specs::Mirror::Digits::begins))]
 fn starts(base: u64, low: u64, high: u64, d: u64) -> bool
     ensures { result ≡ begins base low high d }
 {
-    if d < base {
-        if low <= d { d <= high } else { false }
-    } else {
-        false
-    }
+    d < base && low <= d && d <= high
 }
 
 // Whether the digit `d` goes on with the number `v`, `most * base + last` at most.
+#[tactic(auto, unfolding(crate::specs::Mirror::Digits::goes_on))]
 fn goes_on(base: u64, most: u64, last: u64, v: u64, d: u64) -> bool
     requires { last < base }
     ensures { result ≡ goes_on base (most * base + last) v d }
 {
-    if d < base {
-        if v < most {
-            true
-        } else {
-            if v == most { d <= last } else { false }
-        }
-    } else {
-        false
-    }
+    d < base && (v < most || v == most && d <= last)
 }
 
 // The number whose digits before `at` are `first`, with the digits from `at` on that go on with it.
-fn more_digits(text: &[u8], at: usize, base: u64, high: u64, first: u64) -> NumberRead
-    requires { 2 ≤ base }
-    ensures { told result ≡ more_digits base high first at (drop at text.now) }
+#[tactic(auto, using(crate::proofs::DigitLaws::digit_turns))]
+fn more_digits(text: &[u8], at: usize, base: u64, high: u64, first: u64) -> (u64, Cursor)
+    requires base { 2 ≤ base }
+    requires inside { at ≤ length text.now }
+    ensures { got result.0 result.1.at ≡ more_digits base high first at (drop at text.now) }
 {
     let most = high / base;
     let last = high % base;
     let mut v = first;
-    let mut i = at;
-    while i < text.len() {
+    for i in at..text.len() {
         let d = value(text[i]);
-        if goes_on(base, most, last, v, d) {
-            v = v * base + d;
-            i += 1;
-        } else {
-            return NumberRead::Got(v, Cursor { at: i });
+        if !goes_on(base, most, last, v, d) {
+            return (v, Cursor { at: i });
         }
+        v = v * base + d;
     }
-    NumberRead::Got(v, Cursor { at: i })
+    (v, Cursor { at: text.len() })
 }

@@ -4,56 +4,43 @@
 
 ghost use Rattle.std.specs.Prelude.{◌≡◌};
 ghost use Rattle.tally.specs.Mirror.Reading.{reading};
-ghost use Rattle.tally.specs.Mirror.Lent.{lent_contents, lent_tables};
+ghost use Rattle.tally.specs.Mirror.Lent.{contents_of, tables_of, SameContents, SameTables};
 ghost use Rattle.frames.specs.Mirror.Frames.{line_read};
 
-use tally::Case;
+use tally::{Case, ContentBuffers, Kind, TableBuffers};
 
 // One line's characters. After the first bad line nothing counts.
+#[tactic(auto, unfolding(crate::specs::Mirror::Frames::line_read, crate::specs::Mirror::Frames::frame_read))]
 pub fn take_line(
     line: &[u8],
-    registers: &mut [u8],
-    memory: &mut [u8],
-    kernel: &mut [u8],
-    register_taint: &mut [u8],
-    surface_taint: &mut [u8],
-    memory_taint: &mut [u8],
-    types: &mut [u8],
-    starts: &mut [u16],
-    counts: &mut [u16],
-    predicate_bits: &mut [u32],
-    predicate_counts: &mut [u8],
-    surface_bytes: &mut [u8],
-    surface_lengths: &mut [u16],
+    contents: &mut ContentBuffers<'_>,
+    tables: &mut TableBuffers<'_>,
     case: Case,
 ) -> Case
-    ensures { let b = lent_contents registers memory kernel register_taint surface_taint memory_taint in let t = lent_tables types starts counts predicate_bits predicate_counts surface_bytes surface_lengths in reading result b.exit t.exit ≡ line_read line.now (reading case b.entry t.entry) }
+    ensures reading { reading result (contents_of contents.new) (tables_of tables.new) ≡ line_read line.now (reading case (contents_of contents.old) (tables_of tables.old)) }
+    ensures contents { SameContents contents.old contents.new }
+    ensures tables { SameTables tables.old tables.new }
 {
     if 0 < case.bad {
         return case;
     }
     if !hex_text::is_hex(line) {
-        return tally::bad_line(case);
+        return case.bad_line();
     }
-    let kind = hex_text::byte(line, 0);
-    if kind == 2 {
-        return table_frames::put_variable(line, types, starts, counts, case);
+    let code = hex_text::byte(line, 0);
+    match Kind::try_from(code) {
+        Ok(Kind::Variable) => {
+            table_frames::put_variable(line, tables.types, tables.starts, tables.counts, case)
+        }
+        Ok(Kind::Predicate) => table_frames::put_predicate(
+            line,
+            tables.predicate_bits,
+            tables.predicate_counts,
+            case,
+        ),
+        Ok(Kind::Surface) => {
+            table_frames::put_surface(line, tables.surface_bytes, tables.surface_lengths, case)
+        }
+        _ => once_frames::take_once(line, code, contents, case),
     }
-    if kind == 3 {
-        return table_frames::put_predicate(line, predicate_bits, predicate_counts, case);
-    }
-    if kind == 4 {
-        return table_frames::put_surface(line, surface_bytes, surface_lengths, case);
-    }
-    once_frames::take_once(
-        line,
-        kind,
-        registers,
-        memory,
-        kernel,
-        register_taint,
-        surface_taint,
-        memory_taint,
-        case,
-    )
 }

@@ -1,12 +1,14 @@
 -- The writes of a dword of which some bytes are read, in the code's words and in the definition's.
 use Rattle.std.proofs.Common.{◌≡◌, ℕ, zero, suc, ◌+◌, ◌-◌, ◌/◌, ◌%◌, ◌<◌, ◌≤◌, Bool, true, false, cond, ltb, List, ◌++◌, get_or, sym, refl, ◌∙◌, arith, ltb-false, ltb-true, le-ltb, lt-ltb}
 use Rattle.little_endian.specs.LittleEndian.{number_at, Bytes}
+use Rattle.cells.specs.declared.Buffer as lent
 use Rattle.cells.specs.Buffer.{Buffer, mark_of}
+use Rattle.cells.specs.Lent.{held, Becomes}
 use Rattle.cells.specs.Element.{element}
 use Rattle.cells.specs.Writes.{written_all, number_writes, copy_writes}
 use Rattle.cells.proofs.NumberLaws.{number-none, number-next, element-is}
-use Rattle.cells.proofs.WriteLaws.{written-append}
-use Rattle.plan.specs.declared.Plan.{Plan}
+use Rattle.cells.proofs.LentLaws.{becomes-more}
+use Rattle.plan.specs.Plan.{Plan}
 use Rattle.gather_effect.specs.Gather.{is_read, gathered_byte, gather_writes}
 use Rattle.gather.specs.Mirror.FromRoom.{dword_writes}
 use Rattle.gather_effect.proofs.MarkLaws.{doubtful-mark, zero-mark, zero-byte, read-mark, read_byte}
@@ -107,12 +109,12 @@ module _ (surfaces : Buffer) (p : Plan) (address at n : ℕ) (small : n ≤ 4) (
       rw (both, first, second)
 
 -- the calls that write it
-module _ (surfaces : Buffer) (from n at : ℕ) (b : Buffer) where
-  pub doubtful-written : (doubtful : Bool) (value : ℕ) (b' : Buffer) → b' ≡ written_all (number_writes at 4 (mark_of true) value) b → doubtful ≡ true → value ≡ element n surfaces.bytes from → b' ≡ written_all (dword_writes surfaces from n doubtful at) b
+module _ (surfaces : Buffer) (from n at : ℕ) (b : lent.Buffer) where
+  pub doubtful-written : (doubtful : Bool) (value : ℕ) (b' : lent.Buffer) → Becomes b b' (written_all (number_writes at 4 (mark_of true) value) (held b)) → doubtful ≡ true → value ≡ element n surfaces.bytes from → Becomes b b' (written_all (dword_writes surfaces from n doubtful at) (held b))
   unfolding dword_writes
   doubtful-written doubtful value b' made taken v = rw (taken, ← v) made
 
-  pub read-written : (doubtful : Bool) (m : ℕ) (c b' : Buffer) → b' ≡ written_all (number_writes (at + n) m (mark_of false) 0) c → m ≡ 4 - n → c ≡ written_all (copy_writes surfaces from at n) b → doubtful ≡ false → b' ≡ written_all (dword_writes surfaces from n doubtful at) b
+  pub read-written : (doubtful : Bool) (m : ℕ) (c b' : lent.Buffer) → Becomes c b' (written_all (number_writes (at + n) m (mark_of false) 0) (held c)) → m ≡ 4 - n → Becomes b c (written_all (copy_writes surfaces from at n) (held b)) → doubtful ≡ false → Becomes b b' (written_all (dword_writes surfaces from n doubtful at) (held b))
   unfolding dword_writes
   read-written doubtful m c b' made rest copied left =
-      rw (left, written-append (copy_writes surfaces from at n) (number_writes (at + n) (4 - n) (mark_of false) 0) b, ← copied, ← rest) made
+      becomes-more b c b' (copy_writes surfaces from at n) (number_writes (at + n) m (mark_of false) 0) _ (rw (left, rest)) copied made

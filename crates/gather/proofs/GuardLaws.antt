@@ -2,24 +2,29 @@
 use Rattle.std.proofs.Common.{◌≡◌, ℕ, Bool, true, false, not, ◌&&◌, sym, refl, ap, ◌∙◌}
 use borrow.Author.Tests.{not-true, not-false}
 use Rattle.little_endian.specs.LittleEndian.{Bytes}
+use Rattle.cells.specs.declared.Buffer as lent
 use Rattle.cells.specs.Buffer.{Buffer}
+use Rattle.cells.specs.Lent.{held, Becomes}
 use Rattle.cells.specs.Writes.{written_all}
 use Rattle.cells.specs.Over.{among, each}
+use Rattle.std.specs.Prelude.{Ok, Err}
 use Rattle.refusal.specs.declared.Detail.TheVariants as detail
+use Rattle.refusal.specs.declared.Refusal.TheVariants as refusal
 use Rattle.cells.specs.Effect.{refused, RegistersDone}
-use Rattle.cells.proofs.EffectLaws.{unless-refused, unless-passed, nothing_written}
+use Rattle.cells.proofs.EffectLaws.{unless-refused, unless-passed, registers-refused}
 use Rattle.cells.proofs.LaneLaws.{lanes-alike}
 use Rattle.exec_byte.specs.Exec.{exec_size, exec_of}
 use Rattle.channels.specs.Lanes.{lane_on}
 use Rattle.exec_byte.specs.declared.Exec.{Exec}
 use Rattle.channels.specs.declared.Lanes.{Lanes}
 use Rattle.channels.specs.Mirror.Prepared.{lanes_of, is_on}
-use Rattle.plan.specs.declared.Plan.{Plan}
+use Rattle.plan.specs.Plan.{Plan}
 use Rattle.staging.specs.Lanes.{lanes_on}
 use Rattle.staging.specs.Mirror.Room.{elements_fit, both_staged}
 use Rattle.staging.proofs.LanesOnLaws.{lanes-on-are, prepared-lanes-are}
 use Rattle.gather.specs.declared.Shape.{Shape}
 use Rattle.gather_effect.specs.Gather.{gather_lane, gather_effect}
+use Rattle.gather_effect.proofs.Refusal.{gather-number, gather-detail}
 use Rattle.gather.specs.Mirror.Guarded.{gather_fits, gather_guarded}
 use Rattle.gather.specs.Mirror.FromRoom.{shape_of, room_lane}
 use Rattle.gather.proofs.RoomLaws.{room-lane-is}
@@ -39,11 +44,6 @@ module _ (mask : ℕ) (p : Plan) (b surfaces : Buffer) where
   unfolding gather_guarded
   guard-passes e = unless-passed _ 7 _ _ (ap not e)
 
-  pub gather-refused : (fit : Bool) → fit ≡ gather_fits p → not fit ≡ true → RegistersDone (gather_guarded mask p b surfaces) 7 b b
-  gather-refused fit f e =
-      let g = guard-refuses (sym f ∙ not-true fit e) in
-      (rw g, rw g (sym (nothing_written b)))
-
   abbrev room : Buffer
   room = both_staged b p.left p.right (exec_size p.control.exec)
 
@@ -56,13 +56,14 @@ module _ (mask : ℕ) (p : Plan) (b surfaces : Buffer) where
   unfolding gather_effect
   effect_writes = refl
 
-  effect-number : (gather_effect p (lanes_on mask p) b surfaces).number ≡ 0
-  unfolding gather_effect
-  effect-number = refl
+-- what the code does with the registers that it is lent
+module _ (mask : ℕ) (p : Plan) (b : lent.Buffer) (surfaces : Buffer) where
+  pub gather-refused : (fit : Bool) → fit ≡ gather_fits p → not fit ≡ true → RegistersDone (gather_guarded mask p (held b) surfaces) (Err refusal.Outside) b b
+  gather-refused fit f e = registers-refused _ refusal.Outside b (guard-refuses mask p (held b) surfaces (sym f ∙ not-true fit e))
 
   -- all lanes, as the code worked them out: with the plan's shape and lanes, from the room
-  pub gather-done : Bytes surfaces.bytes → (fit : Bool) (s : Shape) (lanes : Lanes) (staged b' : Buffer) → fit ≡ gather_fits p → not fit ≡ false → s ≡ shape_of p → lanes ≡ lanes_of p.control.exec p.control.pred mask p.bits → staged ≡ both_staged b p.left p.right s.layout.lanes → b' ≡ written_all (each (room_lane staged surfaces s p.payload.at) (among (is_on lanes) s.layout.lanes)) b → RegistersDone (gather_guarded mask p b surfaces) 0 b b'
-  gather-done bytes fit s lanes staged b' f e shaped prepared there made =
+  pub gather-done : Bytes surfaces.bytes → (fit : Bool) (s : Shape) (lanes : Lanes) (seen staged : Buffer) (b' : lent.Buffer) → fit ≡ gather_fits p → not fit ≡ false → s ≡ shape_of p → lanes ≡ lanes_of p.control.exec p.control.pred mask p.bits → seen ≡ held b → staged ≡ both_staged seen p.left p.right s.layout.lanes → Becomes b b' (written_all (each (room_lane staged surfaces s p.payload.at) (among (is_on lanes) s.layout.lanes)) (held b)) → RegistersDone (gather_guarded mask p (held b) surfaces) (Ok tt) b b'
+  gather-done bytes fit s lanes seen staged b' f e shaped prepared same there made =
       let fits = sym f ∙ not-false fit e in
-      let g = guard-passes fits in
-      (rw (g, effect-number), rw (g, effect_writes, ← same_writes bytes fits, ← prepared-lanes-are mask p) (rw (there, shaped, prepared) at made))
+      let g = guard-passes mask p (held b) surfaces fits in
+      (rw (g, gather-number p (lanes_on mask p) (held b) surfaces), rw (g, gather-detail p (lanes_on mask p) (held b) surfaces), rw (g, effect_writes mask p (held b) surfaces, ← same_writes mask p (held b) surfaces bytes fits, ← prepared-lanes-are mask p) (rw (there, same, shaped, prepared) at made))

@@ -3,8 +3,8 @@ use Rattle.std.proofs.Common.{◌≡◌, ◌≤◌, true, arith}
 use Rattle.exec_byte.specs.Exec.{exec_size}
 use Rattle.field_groups.specs.declared.Control.{Control}
 use Rattle.operands.specs.declared.TypeRule.TheVariants as rule
-use Rattle.plan.specs.declared.Plan.{Plan}
-use Rattle.plan.specs.declared.Operation.TheVariants as operation
+use Rattle.plan.specs.Plan.{Plan}
+use Rattle.plan.specs.Operation as operation
 use Rattle.plan.proofs.InstructionLaws.{Keeps}
 use Rattle.staging.proofs.FitLaws.{elements-fit}
 use Rattle.gather.specs.Mirror.Guarded.{gather_fits}

@@ -2,22 +2,26 @@
 
 #![tactic(auto)]
 
-ghost use Rattle.std.specs.Prelude.{◌≡◌, ◌%◌, ◌≤◌, min, [], if◌then◌else◌};
-ghost use Rattle.cells.specs.Buffer.{buffer};
+ghost use Rattle.std.specs.Prelude.{◌≡◌, ◌%◌, ◌≤◌, [], if◌then◌else◌};
+ghost use Rattle.little_endian.specs.LittleEndian.{Bytes};
 ghost use Rattle.cells.specs.Writes.{written_all};
+ghost use Rattle.cells.specs.Lent.{viewed, held, Becomes};
 ghost use Rattle.cells.specs.Over.{among, each};
 ghost use Rattle.cells.specs.Effect.{RegistersDone};
+ghost use Rattle.plan.specs.Planned.{plan_of};
 ghost use Rattle.channels.specs.Mirror.Prepared.{is_on};
 ghost use Rattle.gather.specs.Mirror.FromRoom.{shape_of, room_address, bytes_read, dword_writes, room_writes, room_lane};
 ghost use Rattle.gather.specs.Mirror.Guarded.{gather_fits, gather_guarded};
 
+use cells::{Buffer, View};
 use channels::Lanes;
 use plan::Plan;
+use refusal::Refusal;
 use staging::Layout;
 
 // Whether the offsets have room, and are dwords at most.
 fn fits(plan: Plan) -> bool
-    ensures { result ≡ gather_fits plan }
+    ensures { result ≡ gather_fits (plan_of plan) }
 {
     let lanes = exec_byte::split(plan.control.exec).size;
     let left = plan.left;
@@ -36,7 +40,7 @@ struct Shape {
 }
 
 fn shape_of(plan: Plan) -> Shape
-    ensures { result ≡ shape_of plan }
+    ensures { result ≡ shape_of (plan_of plan) }
 {
     let left = plan.left;
     let right = plan.right;
@@ -56,69 +60,43 @@ fn low_dword(number: u64) -> u32
 }
 
 // The sum of a lane's two offsets, modulo 2^32.
-fn address_of(bytes: &[u8], layout: Layout, lane: u8) -> u32
-    ensures { result ≡ room_address bytes.now layout lane }
+fn address_of(room: View<'_>, layout: Layout, lane: u8) -> u32
+    ensures { result ≡ room_address room.entry.bytes.now layout lane }
 {
-    let offset = low_dword(staging::first_number(bytes, layout, lane));
-    let element_offset = low_dword(staging::second_number(bytes, layout, lane));
-    std::num::wrapping_add_u32(offset, element_offset)
-}
-
-fn smaller(a: u32, b: u32) -> u32
-    ensures { result ≡ min a b }
-{
-    if a < b { a } else { b }
+    let offset = low_dword(staging::first_number(room, layout, lane));
+    let element_offset = low_dword(staging::second_number(room, layout, lane));
+    offset.wrapping_add(element_offset)
 }
 
 // How many bytes of the dword are read: those of the block that lie before the surface's end.
+#[tactic(auto, unfolding(crate::specs::Mirror::FromRoom::bytes_read))]
 fn bytes_read(shape: Shape, address: u32) -> u8
     ensures { result ≡ bytes_read shape address }
 {
-    let block = smaller(shape.block as u32, 4);
-    if address < shape.length {
-        smaller(block, shape.length - address) as u8
-    } else {
-        0
-    }
+    let left = shape.length.saturating_sub(address);
+    u32::from(shape.block).min(4).min(left) as u8
 }
 
 // The dword of one lane, to the registers from a byte on. So many of its bytes are read from a position on, and the others are zeros.
 fn write_dword(
-    surfaces: &[u8],
-    surface_taint: &[u8],
+    surfaces: View<'_>,
     from: usize,
     count: u8,
     doubtful: bool,
-    registers: &mut [u8],
-    register_taint: &mut [u8],
+    registers: &mut Buffer<'_>,
     at: u32,
 )
     requires { count ≤ 4 }
-    ensures { buffer registers.new register_taint.new ≡ written_all (dword_writes (buffer surfaces.now surface_taint.now) from count doubtful at) (buffer registers.old register_taint.old) }
+    ensures { Becomes registers.old registers.new (written_all (dword_writes (viewed surfaces.entry) from count doubtful at) (held registers.old)) }
 {
     let place = at as usize;
     if doubtful {
-        let value = cell_reads::number_at(surfaces, from, count);
-        cell_writes::set_number(registers, register_taint, place, 4, value, true);
+        let value = cell_reads::number_at(surfaces.bytes, from, count);
+        cell_writes::set_number(registers, place, 4, value, true);
     } else {
-        let length = count as usize;
-        cell_writes::copy(
-            surfaces,
-            surface_taint,
-            from,
-            registers,
-            register_taint,
-            place,
-            length,
-        );
-        cell_writes::set_number(
-            registers,
-            register_taint,
-            place + length,
-            4 - count,
-            0,
-            false,
-        );
+        let length = usize::from(count);
+        cell_writes::copy(surfaces, from, registers, place, length);
+        cell_writes::set_number(registers, place + length, 4 - count, 0, false);
     }
 }
 
@@ -128,31 +106,19 @@ fn gather_lane(
     on: bool,
     at: u32,
     lane: u8,
-    bytes: &[u8],
-    taint: &[u8],
-    surfaces: &[u8],
-    surface_taint: &[u8],
-    registers: &mut [u8],
-    register_taint: &mut [u8],
+    room: View<'_>,
+    surfaces: View<'_>,
+    registers: &mut Buffer<'_>,
 )
-    ensures { buffer registers.new register_taint.new ≡ written_all (if on then room_writes (buffer bytes.now taint.now) (buffer surfaces.now surface_taint.now) shape at lane else []) (buffer registers.old register_taint.old) }
+    ensures { Becomes registers.old registers.new (written_all (if on then room_writes (viewed room.entry) (viewed surfaces.entry) shape at lane else []) (held registers.old)) }
 {
     if on {
         let layout = shape.layout;
-        let doubtful = staging::either_taint(taint, layout, lane);
-        let address = address_of(bytes, layout, lane);
+        let doubtful = staging::either_taint(room, layout, lane);
+        let address = address_of(room, layout, lane);
         let count = bytes_read(shape, address);
         let from = (shape.start as usize) + (address as usize);
-        write_dword(
-            surfaces,
-            surface_taint,
-            from,
-            count,
-            doubtful,
-            registers,
-            register_taint,
-            at,
-        );
+        write_dword(surfaces, from, count, doubtful, registers, at);
     }
 }
 
@@ -161,51 +127,39 @@ fn gather_lanes(
     shape: Shape,
     lanes: Lanes,
     positions: &[u32; 32],
-    bytes: &[u8],
-    taint: &[u8],
-    surfaces: &[u8],
-    surface_taint: &[u8],
-    registers: &mut [u8],
-    register_taint: &mut [u8],
+    room: View<'_>,
+    surfaces: View<'_>,
+    registers: &mut Buffer<'_>,
 )
     requires { shape.layout.lanes ≤ 32 }
-    ensures { buffer registers.new register_taint.new ≡ written_all (each (room_lane (buffer bytes.now taint.now) (buffer surfaces.now surface_taint.now) shape positions.now) (among (is_on lanes) shape.layout.lanes)) (buffer registers.old register_taint.old) }
+    ensures { Becomes registers.old registers.new (written_all (each (room_lane (viewed room.entry) (viewed surfaces.entry) shape positions.now) (among (is_on lanes) shape.layout.lanes)) (held registers.old)) }
 {
-    let size = shape.layout.lanes;
-    let mut lane: u8 = 0;
-    while lane < size {
-        let index = lane as usize;
+    for lane in 0..shape.layout.lanes {
+        let index = usize::from(lane);
         let on = lanes.on(index);
         let at = positions[index];
-        gather_lane(
-            shape,
-            on,
-            at,
-            lane,
-            bytes,
-            taint,
-            surfaces,
-            surface_taint,
-            registers,
-            register_taint,
-        );
-        lane += 1;
+        gather_lane(shape, on, at, lane, room, surfaces, registers);
     }
 }
 
-// Number 0, or 7 with nothing written for a plan that no check makes.
+// A slice of bytes has no number over 255. A slice within a struct doesn't say so by itself.
+fn holds_bytes(bytes: &[u8])
+    ensures { Bytes bytes.now }
+{
+    let _length = bytes.len();
+}
+
+// Refused, with nothing written, is only a plan that no check makes.
 pub fn gather(
     plan: Plan,
     mask: u32,
-    registers: &mut [u8],
-    register_taint: &mut [u8],
-    surfaces: &[u8],
-    surface_taint: &[u8],
-) -> u8
-    ensures { RegistersDone (gather_guarded mask plan (buffer registers.old register_taint.old) (buffer surfaces.now surface_taint.now)) result (buffer registers.old register_taint.old) (buffer registers.new register_taint.new) }
+    registers: &mut Buffer<'_>,
+    surfaces: View<'_>,
+) -> Result<(), Refusal>
+    ensures { RegistersDone (gather_guarded mask (plan_of plan) (held registers.old) (viewed surfaces.entry)) result registers.old registers.new }
 {
     if !fits(plan) {
-        return 7;
+        return Err(Refusal::Outside);
     }
     let shape = shape_of(plan);
     let control = plan.control;
@@ -213,19 +167,8 @@ pub fn gather(
     let positions = plan.payload.at;
     let left = plan.left;
     let right = plan.right;
-    let room = staging::stage_both(registers, register_taint, left, right, shape.layout.lanes);
-    let bytes = room.bytes;
-    let taint = room.taint;
-    gather_lanes(
-        shape,
-        lanes,
-        &positions,
-        &bytes,
-        &taint,
-        surfaces,
-        surface_taint,
-        registers,
-        register_taint,
-    );
-    0
+    let room = staging::stage_both(registers.view(), left, right, shape.layout.lanes);
+    holds_bytes(surfaces.bytes);
+    gather_lanes(shape, lanes, &positions, room.view(), surfaces, registers);
+    Ok(())
 }

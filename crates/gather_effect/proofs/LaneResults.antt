@@ -11,7 +11,7 @@ use Rattle.cells.specs.Buffer.{Buffer}
 use Rattle.cells.specs.Writes.{Write, written_all}
 use Rattle.cells.proofs.RowLaws.{row, row-none, row_next}
 use Rattle.exec_byte.specs.Exec.{exec_size}
-use Rattle.plan.specs.declared.Plan.{Plan}
+use Rattle.plan.specs.Plan.{Plan}
 use Rattle.plan.proofs.PlanLaws.{GatherSound}
 use Rattle.staging.specs.Lanes.{lanes_on}
 use Rattle.staging.specs.Results.{destination}

@@ -7,7 +7,7 @@ use Prim.Native.Nat.{ℕ, ◌+◌}
 use lib.ListN.{get_or}
 use Rattle.cells.specs.Buffer.{is_tainted, mark_of}
 use Rattle.cells.proofs.TaintLaws.{tainted-mark}
-use Rattle.plan.specs.declared.Plan.{Plan}
+use Rattle.plan.specs.Plan.{Plan}
 use Rattle.gather_effect.specs.Gather.{is_read, gathered_byte, gathered_mark}
 
 module _ (bytes taint : List ℕ) (p : Plan) (address j : ℕ) where

@@ -8,7 +8,7 @@ use lib.ListN.{get_or}
 use Rattle.cells.specs.Buffer.{Buffer}
 use Rattle.cells.proofs.Related.{none, more, each-alike}
 use Rattle.cells.proofs.Plain.{SameBytes, Plainly, PlainWrites, PlainEffects, bytes_same, zero-untainted, untainted-mark}
-use Rattle.plan.specs.declared.Plan.{Plan}
+use Rattle.plan.specs.Plan.{Plan}
 use Rattle.staging.proofs.Plain.{both-plain, either-plain}
 use Rattle.gather_effect.specs.Gather.{gather_address, is_read, gathered_byte, gathered_mark, gather_writes, gather_lane, gather_effect}
 

@@ -7,7 +7,7 @@ use lib.ListN.{get_or}
 use Rattle.cells.specs.Buffer.{Buffer, is_tainted}
 use Rattle.cells.proofs.Related.{none, more, each-alike}
 use Rattle.cells.proofs.Untainted.{SameUntainted, Agreeing, AlikeWrites, AlikeEffects, under-mark, byte-same}
-use Rattle.plan.specs.declared.Plan.{Plan}
+use Rattle.plan.specs.Plan.{Plan}
 use Rattle.staging.proofs.Untainted.{both-same, either_same}
 use Rattle.gather_effect.specs.Gather.{gather_address, is_read, gathered_byte, gathered_mark, gather_writes, gather_lane, gather_effect}
 

@@ -4,7 +4,7 @@ use Rattle.cells.specs.Buffer.{Buffer, is_tainted, mark_of}
 use Rattle.cells.specs.Writes.{Write}
 use Rattle.cells.specs.Over.{each}
 use Rattle.cells.specs.Effect.{Effect, writing}
-use Rattle.plan.specs.declared.Plan.{Plan}
+use Rattle.plan.specs.Plan.{Plan}
 use Rattle.staging.specs.Sources.{element_value, either_tainted}
 
 -- "Address is their sum modulo 2^32"

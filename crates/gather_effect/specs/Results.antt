@@ -3,7 +3,7 @@
 use Rattle.std.specs.Prelude.{ℕ, ◌+◌, ◌<◌, Bool}
 use Rattle.cells.specs.Buffer.{Buffer}
 use Rattle.cells.specs.Results.{Kept, Holds, Outside}
-use Rattle.plan.specs.declared.Plan.{Plan}
+use Rattle.plan.specs.Plan.{Plan}
 use Rattle.staging.specs.Sources.{element_value, either_tainted}
 use Rattle.staging.specs.Results.{Enabled, destination}
 use Rattle.gather_effect.specs.Gather.{gather_address, gathered_byte, gathered_mark}

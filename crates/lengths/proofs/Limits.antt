@@ -24,8 +24,8 @@ size-either P p q register_size h =
     either_true (eqb register_size 32) (eqb register_size 64) h (P register_size)
     (λ e. rw (eqb-true register_size 32 e) p) (λ e. rw (eqb-true register_size 64 e) q)
 
-pub size-some : (register_size : ℕ) → register_size_good register_size ≡ true → 0 < register_size
-size-some = size-either (λ size. 0 < size) (omega arith) (omega arith)
+pub size_some : (register_size : ℕ) → register_size_good register_size ≡ true → 0 < register_size
+size_some = size-either (λ size. 0 < size) (omega arith) (omega arith)
 
 pub chosen-good : (register_size : ℕ) → register_size_good register_size ≡ true → chosen_size register_size ≡ register_size
 unfolding chosen_size
@@ -72,3 +72,7 @@ lengths-limited l h =
       surfaces-taint = eqb-true _ _ t.second;
       memory-taint = eqb-true _ _ t.third;
     }
+
+-- as a call learns it that asks for a size
+pub lengths_size : (l : Lengths) → lengths_good l ≡ true → 0 < l.register_size
+lengths_size l h = size_some l.register_size (lengths-limited l h).size-good

@@ -10,7 +10,7 @@ ghost use Rattle.line_blocks.specs.Mirror.Rows.{row};
 ghost use Rattle.listing.specs.Listing.{refusal_line, step_text, step_next, listed_from};
 ghost use Rattle.listing.specs.Mirror.Parts.{is_kernel_in, kernel_in, row_listed, Goes, Passes};
 
-use decoder::{Decoded, Instruction};
+use decoder::Instruction;
 use formats::Base;
 use line_blocks::Begun;
 use std::io::{Read, Write};
@@ -47,12 +47,12 @@ fn list_instruction(kernel: &[u8], at: usize, out: &mut [u8], used: usize) -> St
     ensures { (wrote result.used out.new ≡ written out.old used (step_text kernel.now at)) × ((result.next ≡ step_next kernel.now at) × (length (step_text kernel.now at) ≤ 256)) }
 {
     match decoder::decode(kernel, at) {
-        Decoded::Accepted(instruction, cursor) => Step {
+        Ok((instruction, cursor)) => Step {
             used: put_instruction(out, used, instruction),
             next: cursor.at,
         },
-        Decoded::Refused(number) => Step {
-            used: put_refusal(out, used, number as u64, at as u64),
+        Err(refusal) => Step {
+            used: put_refusal(out, used, u64::from(refusal.number()), at as u64),
             next: kernel.len(),
         },
     }

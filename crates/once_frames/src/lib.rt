@@ -4,98 +4,82 @@
 
 ghost use Rattle.std.specs.Prelude.{◌≡◌, drop};
 ghost use Rattle.hex_text.specs.Bytes.{hex_bytes};
-ghost use Rattle.tally.specs.Mirror.Lent.{lent_contents};
+ghost use Rattle.tally.specs.Mirror.Kinds.{code_of};
+ghost use Rattle.tally.specs.Mirror.Lent.{contents_of, SameContents};
 ghost use Rattle.once_frames.specs.Mirror.Once.{kept, content_read, memory_read, mask_read, register_size_read, once, once_read};
 
-use tally::Case;
+use tally::{Case, ContentBuffers, Kind};
 
 // The line's bytes from byte `from` on, to the buffer's start.
-fn put_content(line: &[u8], from: usize, kind: usize, buffer: &mut [u8], case: Case) -> Case
-    ensures { kept result buffer.new ≡ content_read kind (drop from (hex_bytes line.now)) (kept case buffer.old) }
+#[tactic(auto, unfolding(crate::specs::Mirror::Once::content_read))]
+fn put_content(line: &[u8], from: usize, kind: Kind, buffer: &mut [u8], case: Case) -> Case
+    ensures { kept result buffer.new ≡ content_read (code_of kind) (drop from (hex_bytes line.now)) (kept case buffer.old) }
 {
-    let n = hex_text::content_length(line, from);
     let fits = hex_text::store(line, from, buffer, 0);
-    tally::size(kind, n, tally::count(kind, 1, tally::good_line(fits, case)))
+    case.good_line(fits)
+        .with_met(kind, 1)
+        .with_length(kind, hex_text::content_length(line, from))
 }
 
+#[tactic(auto, unfolding(crate::specs::Mirror::Once::memory_read))]
 fn put_memory(line: &[u8], memory: &mut [u8], case: Case) -> Case
     ensures { kept result memory.new ≡ memory_read (hex_bytes line.now) (kept case memory.old) }
 {
     if hex_text::content_length(line, 1) < 8 {
-        tally::bad_line(case)
-    } else {
-        let c = put_content(line, 9, 5, memory, case);
-        tally::set_base(hex_text::qword(line, 1), c)
+        return case.bad_line();
     }
+    put_content(line, 9, Kind::Memory, memory, case).with_base(hex_text::qword(line, 1))
 }
 
+#[tactic(auto, unfolding(crate::specs::Mirror::Once::mask_read))]
 fn put_mask(line: &[u8], case: Case) -> Case
     ensures { result ≡ mask_read (hex_bytes line.now) case }
 {
-    if hex_text::content_length(line, 1) == 4 {
-        tally::set_mask(
-            hex_text::dword(line, 1),
-            tally::count(6, 1, tally::good_line(true, case)),
-        )
-    } else {
-        tally::bad_line(case)
+    if hex_text::content_length(line, 1) != 4 {
+        return case.bad_line();
     }
+    case.good_line(true)
+        .with_met(Kind::Mask, 1)
+        .with_mask(hex_text::dword(line, 1))
 }
 
 // The byte is stored as it stands: a run refuses the sizes that no card has.
+#[tactic(auto, unfolding(crate::specs::Mirror::Once::register_size_read))]
 fn put_register_size(line: &[u8], case: Case) -> Case
     ensures { result ≡ register_size_read (hex_bytes line.now) case }
 {
-    if hex_text::content_length(line, 1) == 1 {
-        tally::set_register_size(
-            hex_text::byte(line, 1),
-            tally::count(11, 1, tally::good_line(true, case)),
-        )
-    } else {
-        tally::bad_line(case)
+    if hex_text::content_length(line, 1) != 1 {
+        return case.bad_line();
     }
+    case.good_line(true)
+        .with_met(Kind::RegisterSize, 1)
+        .with_register_size(hex_text::byte(line, 1))
 }
 
-// A frame of a kind that may come once.
-pub fn take_once(
-    line: &[u8],
-    kind: u8,
-    registers: &mut [u8],
-    memory: &mut [u8],
-    kernel: &mut [u8],
-    register_taint: &mut [u8],
-    surface_taint: &mut [u8],
-    memory_taint: &mut [u8],
-    case: Case,
-) -> Case
-    ensures { let b = lent_contents registers memory kernel register_taint surface_taint memory_taint in once result b.exit ≡ once_read kind (hex_bytes line.now) (once case b.entry) }
+// A frame that begins with a byte, of a kind that may come once.
+#[tactic(auto, unfolding(crate::specs::Mirror::Once::once_read))]
+pub fn take_once(line: &[u8], code: u8, contents: &mut ContentBuffers<'_>, case: Case) -> Case
+    ensures frame { once result (contents_of contents.new) ≡ once_read code (hex_bytes line.now) (once case (contents_of contents.old)) }
+    ensures loans { SameContents contents.old contents.new }
 {
-    if 0 < tally::met_of(kind, case) {
-        return tally::bad_line(case);
+    if 0 < case.met_at(code) {
+        return case.bad_line();
     }
-    if kind == 1 {
-        return put_content(line, 1, 1, registers, case);
+    match Kind::try_from(code) {
+        Ok(Kind::Registers) => put_content(line, 1, Kind::Registers, contents.registers, case),
+        Ok(Kind::Memory) => put_memory(line, contents.memory, case),
+        Ok(Kind::Mask) => put_mask(line, case),
+        Ok(Kind::Kernel) => put_content(line, 1, Kind::Kernel, contents.kernel, case),
+        Ok(Kind::RegisterTaint) => {
+            put_content(line, 1, Kind::RegisterTaint, contents.register_taint, case)
+        }
+        Ok(Kind::SurfaceTaint) => {
+            put_content(line, 1, Kind::SurfaceTaint, contents.surface_taint, case)
+        }
+        Ok(Kind::MemoryTaint) => {
+            put_content(line, 1, Kind::MemoryTaint, contents.memory_taint, case)
+        }
+        Ok(Kind::RegisterSize) => put_register_size(line, case),
+        _ => case.bad_line(),
     }
-    if kind == 5 {
-        return put_memory(line, memory, case);
-    }
-    if kind == 6 {
-        return put_mask(line, case);
-    }
-    if kind == 7 {
-        return put_content(line, 1, 7, kernel, case);
-    }
-    if kind == 8 {
-        return put_content(line, 1, 8, register_taint, case);
-    }
-    if kind == 9 {
-        return put_content(line, 1, 9, surface_taint, case);
-    }
-    if kind == 10 {
-        return put_content(line, 1, 10, memory_taint, case);
-    }
-    if kind == 11 {
-        return put_register_size(line, case);
-    }
-    tally::bad_line(case)
 }

@@ -19,7 +19,8 @@ use Rattle.fields.specs.declared.Field.TheVariants.{Byte, Dword, Lacking}
 use Rattle.fields.specs.Tags.{tag_of, GENERAL, IMMEDIATE}
 use Rattle.fields.proofs.TagLaws.{tag_is}
 use Rattle.fields.proofs.Laws.{Parsed, parsed-then, parsed-lacking, Given, given-then, byte-given, word-given, dword-given}
-use Rattle.operand_fields.specs.Reading.{general_at, high_word_at, immediate_at, operand_at, raw_at, ScalarAndRaws, scalar_and_raws_at}
+use Rattle.operand_fields.specs.declared.ScalarAndRaws.{ScalarAndRaws}
+use Rattle.operand_fields.specs.Reading.{general_at, high_word_at, immediate_at, operand_at, raw_at, scalar_and_raws_at}
 use Rattle.operand_fields.specs.Layout.{high_field, operand_fields, raw_fields}
 
 abbrev pub scalar_and_raws_fields : ScalarAndRaws → List Field

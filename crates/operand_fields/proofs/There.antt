@@ -12,7 +12,8 @@ use Rattle.fields.proofs.ReadBack.{Stands, There, there-then, there-last, lackin
 use Rattle.operand_fields.specs.declared.Operand.{Operand}
 use Rattle.operand_fields.specs.declared.Operand.TheVariants.{General, Immediate}
 use Rattle.operand_fields.specs.declared.Raw.{Raw}
-use Rattle.operand_fields.specs.Reading.{general_at, high_word_at, immediate_at, operand_at, raw_at, ScalarAndRaws, scalar_and_raws_at}
+use Rattle.operand_fields.specs.declared.ScalarAndRaws.{ScalarAndRaws}
+use Rattle.operand_fields.specs.Reading.{general_at, high_word_at, immediate_at, operand_at, raw_at, scalar_and_raws_at}
 use Rattle.operand_fields.specs.Layout.{high_field, operand_fields, raw_fields}
 use Rattle.operand_fields.proofs.Parsed.{scalar_and_raws_fields}
 

@@ -11,13 +11,8 @@ use Rattle.fields.specs.Tags.{tag_of, GENERAL, IMMEDIATE}
 use Rattle.fields.specs.Reading.{byte_field_at, word_field_at, dword_field_at}
 use Rattle.operand_fields.specs.declared.Operand.{Operand}
 use Rattle.operand_fields.specs.declared.Operand.TheVariants.{General, Immediate}
-use Rattle.operand_fields.specs.declared.OperandField.{OperandField}
-use Rattle.operand_fields.specs.declared.OperandField.TheVariants as operand
 use Rattle.operand_fields.specs.declared.Raw.{Raw}
-use Rattle.operand_fields.specs.declared.RawField.{RawField}
-use Rattle.operand_fields.specs.declared.RawField.TheVariants as raw
-use Rattle.operand_fields.specs.declared.ScalarAndRawsField.{ScalarAndRawsField}
-use Rattle.operand_fields.specs.declared.ScalarAndRawsField.TheVariants as scalar-and-raws
+use Rattle.operand_fields.specs.declared.ScalarAndRaws.{ScalarAndRaws}
 
 -- "General, class 0: index uw, row ub, column ub, region uw"
 unfoldable pub general_at : List ℕ → ℕ → Reply (Read Operand)
@@ -55,12 +50,6 @@ raw_at s at =
     and_then (word_field_at word.Free s index.next) (λ offset.
     got (record { index = index.value; offset = offset.value }) offset.next))
 
--- a scalar and the two raw operands after it
-pub record ScalarAndRaws : Type 0 where
-  pub scalar : Operand
-  pub first : Raw
-  pub second : Raw
-
 -- the last three operands of pages 000 (Address, Element_offset, Src), 001 (Offset, Element_offset, Dst) and 002 (Desc, Src, Dst)
 unfoldable pub scalar_and_raws_at : List ℕ → ℕ → Reply (Read ScalarAndRaws)
 scalar_and_raws_at s at =
@@ -68,16 +57,3 @@ scalar_and_raws_at s at =
     and_then (raw_at s scalar.next) (λ first.
     and_then (raw_at s first.next) (λ second.
     got (record { scalar = scalar.value; first = first.value; second = second.value }) second.next)))
-
--- number and values of each case
-abbrev pub operand_field_reply : OperandField → Reply (Read Operand)
-operand_field_reply (operand.Refused n) = refused n
-operand_field_reply (operand.Got v c) = got v c.at
-
-abbrev pub raw_field_reply : RawField → Reply (Read Raw)
-raw_field_reply (raw.Refused n) = refused n
-raw_field_reply (raw.Got v c) = got v c.at
-
-abbrev pub scalar_and_raws_field_reply : ScalarAndRawsField → Reply (Read ScalarAndRaws)
-scalar_and_raws_field_reply (scalar-and-raws.Refused n) = refused n
-scalar_and_raws_field_reply (scalar-and-raws.Got v first second c) = got (record { scalar = v; first = first; second = second }) c.at

@@ -1,10 +1,10 @@
 -- What is known of the size of a type that is allowed somewhere.
-use mathlib.Core.Path.{◌≡◌, refl, sym, ◌∙◌}
-use mathlib.Core.Bool.{Bool, true, false, not, ◌||◌}
+use mathlib.Core.Path.{◌≡◌, refl}
+use mathlib.Core.Bool.{Bool, true, false, ◌||◌}
 use Prim.Native.Nat.{ℕ, suc, ◌≤◌, ◌<◌}
 use native.Mathlib.Omega.{arith}
 use lib.Dec.{eqb}
-use borrow.Author.Tests.{eqb-true, not-false}
+use borrow.Author.Tests.{eqb-true}
 use Rattle.element_types.specs.Types.{UD, D, UW, W, UB, B, F, UQ, size_of}
 use Rattle.element_types.proofs.Sizes.{sizes, size_small, listed-size}
 use Rattle.operands.specs.declared.TypeRule.{TypeRule}
@@ -58,5 +58,5 @@ module _ (code : ℕ) where
   rule-size rule.Any h = (listed-size code h, size_small code)
 
 -- as the code learns it
-pub size-some : (r : TypeRule) (code size : ℕ) (allowed : Bool) → allowed ≡ type_allowed r code → not allowed ≡ false → size ≡ size_of code → 0 < size
-size-some r code size allowed e h s = rw s (rule-size-some r (size_of code) (rule-size code r (sym e ∙ not-false allowed h)))
+pub allowed_some : (r : TypeRule) (code : ℕ) → type_allowed r code ≡ true → 0 < size_of code
+allowed_some r code h = rule-size-some r (size_of code) (rule-size code r h)

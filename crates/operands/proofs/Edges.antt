@@ -11,7 +11,7 @@ use Rattle.regions.specs.declared.Variable.{Variable}
 use Rattle.regions.proofs.Edges.{region_number, words, Edges, regions-at-edges}
 use Rattle.operands.specs.declared.TypeRule.{TypeRule}
 use Rattle.operands.specs.declared.TypeRule.TheVariants as rule
-use Rattle.operands.specs.declared.Located.{Located}
+use Rattle.operands.specs.Located.{Located}
 use Rattle.operands.specs.Allowed.{shift_type, dword_type, type_allowed}
 use Rattle.operands.specs.Elements.{register_elements, refused_operand}
 use Rattle.operands.specs.Operands.{general_of, raw_good, raw_of}

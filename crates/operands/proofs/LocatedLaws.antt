@@ -29,7 +29,7 @@ use Rattle.regions.proofs.RegionLaws as regions
 use Rattle.region_rules.proofs.SplitLaws.{unbroken-allowed}
 use Rattle.operands.specs.declared.TypeRule.{TypeRule}
 use Rattle.operands.specs.declared.Elements.{Elements}
-use Rattle.operands.specs.declared.Located.{Located}
+use Rattle.operands.specs.Located.{Located}
 use Rattle.operands.specs.Allowed.{type_allowed}
 use Rattle.tables.specs.Variables.{Variables}
 use Rattle.operands.specs.Variables.{in_table, variable_at}

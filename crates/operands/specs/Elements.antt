@@ -1,8 +1,11 @@
 -- Where the elements of an accepted operand are, and what stands for a refused one.
-use Rattle.std.specs.Prelude.{ℕ, ◌%◌, ◌^◌, true, false, replicate}
+use Rattle.std.specs.Prelude.{ℕ, ◌%◌, ◌^◌, true, false, replicate, Result, Ok, Err}
 use Rattle.element_types.specs.Types.{size_of, is_signed}
 use Rattle.regions.specs.Positions.{lane_positions}
-use Rattle.operands.specs.declared.Located.{Located}
+use Rattle.refusal.specs.declared.OperandRefusal.{OperandRefusal}
+use Rattle.refusal.specs.Numbers.{operand_number}
+use Rattle.operands.specs.declared.Elements.{Elements}
+use Rattle.operands.specs.Located.{Located}
 
 -- elements of this type in the register file, each at its byte
 unfoldable pub register_elements : ℕ → (ℕ → ℕ) → Located
@@ -30,3 +33,8 @@ refused_operand n =
       number = n;
       elements = record { size = 0; signed = false; immediate = false; value = 0; at = replicate 32 0 };
     }
+
+-- what the code gives back, as the definitions have it
+abbrev pub located_as : Result Elements OperandRefusal → Located
+located_as (Ok e) = record { number = 0; elements = e }
+located_as (Err r) = refused_operand (operand_number r)

@@ -1,3 +1,4 @@
+pub mod Located
 pub mod Allowed
 pub mod Variables
 pub mod Elements

@@ -16,7 +16,7 @@ use Rattle.region_rules.specs.RegionRules.{region_refusal}
 use Rattle.regions.specs.Reach.{elements_good}
 use Rattle.regions.specs.Positions.{element_byte}
 use Rattle.operands.specs.declared.TypeRule.{TypeRule}
-use Rattle.operands.specs.declared.Located.{Located}
+use Rattle.operands.specs.Located.{Located}
 use Rattle.operands.specs.Allowed.{type_allowed}
 use Rattle.tables.specs.Variables.{Variables}
 use Rattle.operands.specs.Variables.{in_table, variable_at}

@@ -2,17 +2,19 @@
 
 #![tactic(auto)]
 
-ghost use Rattle.std.specs.Prelude.{◌≡◌, ◌<◌, get_or};
+ghost use Rattle.std.specs.Prelude.{◌≡◌, ◌<◌};
 ghost use Rattle.element_types.specs.Types.{size_of};
-ghost use Rattle.operands.specs.Allowed.{shift_type, dword_type, type_allowed};
-ghost use Rattle.tables.specs.Borrowed.{variable_table};
-ghost use Rattle.operands.specs.Variables.{variable_at};
-ghost use Rattle.operands.specs.Elements.{low_bytes, refused_operand};
+ghost use Rattle.tables.specs.Borrowed.{variables_of};
+ghost use Rattle.operands.specs.Allowed.{type_allowed};
+ghost use Rattle.operands.specs.Variables.{variable_found};
+ghost use Rattle.operands.specs.Elements.{low_bytes, located_as};
 ghost use Rattle.operands.specs.Operands.{general_of, located_general, immediate_of, located_immediate, located_vector, raw_good, raw_of, located_raw};
 
 use operand_fields::{General, Immediate, Operand, Raw};
+use refusal::OperandRefusal;
 use region_rules::Role;
 use regions::Variable;
+use tables::Variables;
 
 // Which element types an operand may have.
 #[derive(Clone, Copy)]
@@ -25,6 +27,8 @@ pub enum TypeRule {
 }
 
 // Where an operand's elements are: the byte of each lane's element in the register file, or the immediate's number.
+// A struct and no enum of the two: a destination and a raw operand have positions alone, and each loop over their lanes would match on a number that
+// can't be there.
 #[derive(Clone, Copy)]
 pub struct Elements {
     pub size: u8,
@@ -34,85 +38,48 @@ pub struct Elements {
     pub at: [u32; 32],
 }
 
-// Number 0 and the elements, or a refusal's number and no elements.
-#[derive(Clone, Copy)]
-pub struct Located {
-    pub number: u8,
-    pub elements: Elements,
-}
-
-fn shift_type(code: u8) -> bool
-    ensures { result ≡ shift_type code }
-{
-    (code == element_types::UD)
-        | (code == element_types::D)
-        | (code == element_types::UW)
-        | (code == element_types::W)
-        | (code == element_types::UB)
-        | (code == element_types::B)
-}
-
-fn dword_type(code: u8) -> bool
-    ensures { result ≡ dword_type code }
-{
-    (code == element_types::UD) | (code == element_types::D) | (code == element_types::F)
-}
-
+#[tactic(auto, unfolding(crate::specs::Allowed::type_allowed, crate::specs::Allowed::shift_type, crate::specs::Allowed::dword_type))]
 fn type_allowed(rule: TypeRule, code: u8) -> bool
     ensures { result ≡ type_allowed rule code }
 {
     match rule {
-        TypeRule::Shift => shift_type(code),
+        TypeRule::Shift => matches!(
+            code,
+            element_types::UD
+                | element_types::D
+                | element_types::UW
+                | element_types::W
+                | element_types::UB
+                | element_types::B
+        ),
         TypeRule::Offset => code == element_types::UD,
-        TypeRule::Dword => dword_type(code),
+        TypeRule::Dword => matches!(
+            code,
+            element_types::UD | element_types::D | element_types::F
+        ),
         TypeRule::Address => code == element_types::UQ,
         TypeRule::Any => element_types::is_listed(code),
     }
 }
 
-fn refused(number: u8) -> Located
-    ensures { result ≡ refused_operand number }
+// A variable of the table; where another slice than that of the types ends before it, its part is 0.
+#[tactic(auto, unfolding(crate::specs::Variables::in_table, crate::specs::Variables::variable_at))]
+fn variable_at(variables: Variables<'_>, index: u16) -> Result<Variable, OperandRefusal>
+    ensures { result ≡ variable_found (variables_of variables.entry) index }
 {
-    let elements = Elements {
-        size: 0,
-        signed: false,
-        immediate: false,
-        value: 0,
-        at: [0; 32],
-    };
-    Located { number, elements }
-}
-
-// 0 past the end.
-fn entry(table: &[u16], index: u16) -> u16
-    ensures { result ≡ get_or table.now index 0 }
-{
-    let i = index as usize;
-    if i < table.len() { table[i] } else { 0 }
-}
-
-// Past the end of a slice its part is 0.
-fn variable_at(types: &[u8], starts: &[u16], counts: &[u16], index: u16) -> Variable
-    ensures { result ≡ variable_at (variable_table types starts counts) index }
-{
-    let i = index as usize;
-    let start = entry(starts, index);
-    let count = entry(counts, index);
-    if i < types.len() {
-        return Variable {
-            code: types[i],
-            start,
-            count,
-        };
-    }
-    Variable {
-        code: 0,
-        start,
-        count,
-    }
+    let i = usize::from(index);
+    let code = variables
+        .types
+        .get(i)
+        .copied()
+        .ok_or(OperandRefusal::Missing)?;
+    let start = variables.starts.get(i).copied().unwrap_or(0);
+    let count = variables.counts.get(i).copied().unwrap_or(0);
+    Ok(Variable { code, start, count })
 }
 
 // 4, 20 to 25, 7 of a General operand, or its elements.
+#[tactic(auto, unfolding(crate::specs::Operands::general_of, crate::specs::Elements::register_elements))]
 fn locate_general(
     register_size: u8,
     role: Role,
@@ -120,173 +87,128 @@ fn locate_general(
     lanes: u8,
     general: General,
     variable: Variable,
-) -> Located
-    ensures { result ≡ general_of register_size role rule lanes general variable }
+) -> Result<Elements, OperandRefusal>
+    ensures { located_as result ≡ general_of register_size role rule lanes general variable }
 {
     let code = variable.code;
     if !type_allowed(rule, code) {
-        return refused(4);
+        return Err(OperandRefusal::Unfit);
     }
-    let broken = region_rules::region_refusal(role, general.region, lanes);
-    if 0 < broken {
-        return refused(broken);
-    }
+    region_rules::region_refusal(role, general.region, lanes)?;
     if !regions::elements_good(register_size, role, general, variable, lanes) {
-        return refused(7);
+        return Err(OperandRefusal::Outside);
     }
-    let elements = Elements {
+    Ok(Elements {
         size: element_types::size_of(code),
         signed: element_types::is_signed(code),
         immediate: false,
         value: 0,
         at: regions::element_positions(register_size, role, general, variable),
-    };
-    Located {
-        number: 0,
-        elements,
-    }
+    })
 }
 
+#[tactic(auto, using(crate::proofs::Bounds::shifted_one, crate::proofs::Bounds::whole_value), unfolding(crate::specs::Elements::low_bytes))]
 fn low_bytes(value: u64, size: u8) -> u64
     ensures { result ≡ low_bytes value size }
 {
     if size < 8 {
-        value % (1u64 << (8 * size))
+        value % (1 << (8 * size))
     } else {
         value
     }
 }
 
 // 4 of an Immediate source, or its number.
-fn locate_immediate(rule: TypeRule, immediate: Immediate) -> Located
-    ensures { result ≡ immediate_of rule immediate }
+#[tactic(auto, unfolding(crate::specs::Operands::immediate_of, crate::specs::Elements::immediate_element))]
+fn locate_immediate(rule: TypeRule, immediate: Immediate) -> Result<Elements, OperandRefusal>
+    ensures { located_as result ≡ immediate_of rule immediate }
 {
     let code = immediate.code;
     if !type_allowed(rule, code) {
-        return refused(4);
+        return Err(OperandRefusal::Unfit);
     }
     let size = element_types::size_of(code);
-    let elements = Elements {
+    let value = u64::from(immediate.low) + 4294967296 * u64::from(immediate.high);
+    Ok(Elements {
         size,
         signed: element_types::is_signed(code),
         immediate: true,
-        value: low_bytes(
-            (immediate.low as u64) + 4294967296 * (immediate.high as u64),
-            size,
-        ),
+        value: low_bytes(value, size),
         at: [0; 32],
-    };
-    Located {
-        number: 0,
-        elements,
-    }
+    })
 }
 
-fn immediate_in(role: Role, rule: TypeRule, immediate: Immediate) -> Located
-    ensures { result ≡ located_immediate role rule immediate }
-{
-    match role {
-        Role::Source => locate_immediate(rule, immediate),
-        Role::Scalar => locate_immediate(rule, immediate),
-        Role::Destination => refused(4),
-    }
-}
-
-fn general_in(
-    register_size: u8,
-    types: &[u8],
-    starts: &[u16],
-    counts: &[u16],
-    role: Role,
-    rule: TypeRule,
-    exec: u8,
-    general: General,
-) -> Located
-    ensures { result ≡ located_general register_size (variable_table types starts counts) role rule exec general }
-{
-    if !((general.index as usize) < types.len()) {
-        return refused(5);
-    }
-    let lanes = exec_byte::split(exec).size;
-    let variable = variable_at(types, starts, counts, general.index);
-    locate_general(register_size, role, rule, lanes, general, variable)
-}
-
-// A vector operand or a scalar of an instruction with this exec byte.
+// A vector operand or a scalar of an instruction with this exec byte; no destination is immediate.
+#[tactic(auto, unfolding(crate::specs::Operands::located_vector, crate::specs::Operands::located_general, crate::specs::Operands::located_immediate))]
 pub fn locate_vector(
     register_size: u8,
-    types: &[u8],
-    starts: &[u16],
-    counts: &[u16],
+    variables: Variables<'_>,
     role: Role,
     rule: TypeRule,
     exec: u8,
     operand: Operand,
-) -> Located
-    ensures { result ≡ located_vector register_size (variable_table types starts counts) role rule exec operand }
+) -> Result<Elements, OperandRefusal>
+    ensures { located_as result ≡ located_vector register_size (variables_of variables.entry) role rule exec operand }
 {
-    match operand {
-        Operand::General(general) => general_in(
-            register_size,
-            types,
-            starts,
-            counts,
-            role,
-            rule,
-            exec,
-            general,
-        ),
-        Operand::Immediate(immediate) => immediate_in(role, rule, immediate),
+    match (operand, role) {
+        (Operand::General(general), _) => {
+            let variable = variable_at(variables, general.index)?;
+            let lanes = exec_byte::split(exec).size;
+            locate_general(register_size, role, rule, lanes, general, variable)
+        }
+        (Operand::Immediate(_), Role::Destination) => Err(OperandRefusal::Unfit),
+        (Operand::Immediate(immediate), Role::Source | Role::Scalar) => {
+            locate_immediate(rule, immediate)
+        }
     }
 }
 
+#[tactic(auto, unfolding(crate::specs::Operands::raw_good))]
 fn raw_good(variable: Variable, size: u8, offset: u16, bytes: u32) -> bool
     requires { (0 < size) × (size ≡ size_of variable.code) }
     ensures { result ≡ raw_good variable offset bytes }
 {
-    (offset % (size as u16) == 0)
-        & ((offset as u64) + (bytes as u64) <= (variable.count as u64) * (size as u64))
+    offset % u16::from(size) == 0
+        && u64::from(offset) + u64::from(bytes) <= u64::from(variable.count) * u64::from(size)
 }
 
 // 4, 7 of a raw operand, or its elements.
-fn raw_of(rule: TypeRule, bytes: u32, offset: u16, variable: Variable) -> Located
-    ensures { result ≡ raw_of rule bytes offset variable }
+#[tactic(auto, using(crate::proofs::AllowedLaws::allowed_some), unfolding(crate::specs::Operands::raw_of, crate::specs::Elements::register_elements))]
+fn raw_of(
+    rule: TypeRule,
+    bytes: u32,
+    offset: u16,
+    variable: Variable,
+) -> Result<Elements, OperandRefusal>
+    ensures { located_as result ≡ raw_of rule bytes offset variable }
 {
     let code = variable.code;
     if !type_allowed(rule, code) {
-        return refused(4);
+        return Err(OperandRefusal::Unfit);
     }
     let size = element_types::size_of(code);
     if !raw_good(variable, size, offset, bytes) {
-        return refused(7);
+        return Err(OperandRefusal::Outside);
     }
-    let elements = Elements {
+    Ok(Elements {
         size,
         signed: element_types::is_signed(code),
         immediate: false,
         value: 0,
         at: regions::raw_positions(variable, offset),
-    };
-    Located {
-        number: 0,
-        elements,
-    }
+    })
 }
 
 // A raw operand of which so many bytes are needed.
+#[tactic(auto, unfolding(crate::specs::Operands::located_raw))]
 pub fn locate_raw(
-    types: &[u8],
-    starts: &[u16],
-    counts: &[u16],
+    variables: Variables<'_>,
     rule: TypeRule,
     bytes: u32,
     raw: Raw,
-) -> Located
-    ensures { result ≡ located_raw (variable_table types starts counts) rule bytes raw }
+) -> Result<Elements, OperandRefusal>
+    ensures { located_as result ≡ located_raw (variables_of variables.entry) rule bytes raw }
 {
-    if !((raw.index as usize) < types.len()) {
-        return refused(5);
-    }
-    let variable = variable_at(types, starts, counts, raw.index);
+    let variable = variable_at(variables, raw.index)?;
     raw_of(rule, bytes, raw.offset, variable)
 }

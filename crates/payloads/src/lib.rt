@@ -6,12 +6,14 @@ ghost use Rattle.std.specs.Prelude.{◌≡◌};
 ghost use Rattle.payloads.specs.Needed.{elements_needed, enabled_below, channel_stride, scatter_needed, registers_needed, block_bytes};
 
 // The bytes of all ExecSize elements, of the type with this code.
+#[tactic(auto, unfolding(crate::specs::Needed::elements_needed))]
 pub fn elements_needed(exec: u8, code: u8) -> u32
     ensures { result ≡ elements_needed exec code }
 {
-    (exec_byte::split(exec).size as u32) * (element_types::size_of(code) as u32)
+    u32::from(exec_byte::split(exec).size) * u32::from(element_types::size_of(code))
 }
 
+#[tactic(auto, unfolding(crate::specs::Needed::enabled_below))]
 fn enabled_channels(channels: u8) -> u8
     ensures { result ≡ enabled_below channels 4 }
 {
@@ -19,40 +21,41 @@ fn enabled_channels(channels: u8) -> u8
 }
 
 // The dwords from a channel's data to the next channel's.
+#[tactic(auto, unfolding(crate::specs::Needed::channel_stride))]
 pub fn channel_stride(register_size: u8, exec: u8) -> u8
     ensures { result ≡ channel_stride register_size exec }
 {
-    let lanes = exec_byte::split(exec).size;
     let dwords = register_size / 4;
-    if lanes < dwords { dwords } else { lanes }
+    exec_byte::split(exec).size.max(dwords)
 }
 
 // The bytes of Src that the enabled channels need, where their data are so many dwords apart.
+#[tactic(auto, unfolding(crate::specs::Needed::scatter_needed))]
 pub fn scatter_needed(stride: u8, exec: u8, channels: u8) -> u32
     ensures { result ≡ scatter_needed stride exec channels }
 {
-    let size = exec_byte::split(exec).size as u32;
-    let dword = element_types::size_of(element_types::UD) as u32;
-    let enabled = enabled_channels(channels) as u32;
-    if 0 < enabled {
-        return ((enabled - 1) * (stride as u32) + size) * dword;
-    }
-    size * dword
+    let size = u32::from(exec_byte::split(exec).size);
+    let dword = u32::from(element_types::size_of(element_types::UD));
+    let enabled = u32::from(enabled_channels(channels));
+    (enabled.saturating_sub(1) * u32::from(stride) + size) * dword
 }
 
 // The bytes of so many registers of this size.
+#[tactic(auto, unfolding(crate::specs::Needed::registers_needed))]
 pub fn registers_needed(register_size: u8, count: u8) -> u32
     ensures { result ≡ registers_needed register_size count }
 {
-    (register_size as u32) * (count as u32)
+    u32::from(register_size) * u32::from(count)
 }
 
 // The bytes of a block, by the code Num_blocks.
+#[tactic(auto, unfolding(crate::specs::Needed::block_bytes))]
 pub fn block_bytes(code: u8) -> u8
     ensures { result ≡ block_bytes code }
 {
-    if code == 0 {
-        return 1;
+    match code {
+        0 => 1,
+        1 => 2,
+        _ => 4,
     }
-    if code == 1 { 2 } else { 4 }
 }

@@ -13,7 +13,7 @@ use Rattle.lengths.specs.declared.Lengths.{Lengths}
 use Rattle.tables.specs.Tables.{Tables, tables_good}
 use Rattle.tables.proofs.Laws.{limited, surfaces-small}
 use Rattle.step.specs.State.{Setup, State, state, lengths_of}
-use Rattle.run.specs.declared.Answer.{Answer}
+use Rattle.run.specs.Answer.{Answer}
 use Rattle.run.specs.Run.{outcome, run}
 use Rattle.plain_run.specs.PlainRun.{unmarked, plain_run, plain_outcome, without_marks}
 use Rattle.plain_run.specs.Mirror.TooLong.{too_long}

@@ -2,7 +2,7 @@
 use Rattle.std.specs.Prelude.{ℕ, List, length, replicate}
 use Rattle.cells.specs.Buffer.{Buffer}
 use Rattle.step.specs.State.{Setup}
-use Rattle.run.specs.declared.Answer.{Answer}
+use Rattle.run.specs.Answer.{Answer}
 use Rattle.run.specs.Run.{Outcome, run}
 
 abbrev pub unmarked : List ℕ → Buffer

@@ -7,18 +7,61 @@ ghost use Rattle.tables.specs.Tables.{tables};
 ghost use Rattle.tables.specs.Borrowed.{variable_table};
 ghost use Rattle.predicate_table.specs.Borrowed.{predicate_table};
 ghost use Rattle.surface_table.specs.Borrowed.{surface_table};
-ghost use Rattle.step.specs.State.{setup};
+ghost use Rattle.step.specs.State.{setup, state};
+ghost use Rattle.run.specs.Answer.{answer_of};
+ghost use Rattle.run.specs.Run.{outcome, run};
 ghost use Rattle.plain_run.specs.PlainRun.{plain_run, plain_outcome, without_marks};
 ghost use Rattle.plain_run.specs.Mirror.TooLong.{too_long};
 
 use refusal::Detail;
 use run::Answer;
-use step::Constants;
+use step::{Constants, Room};
 
 fn too_long(registers: usize, surfaces: usize, memory: usize) -> bool
     ensures { result ≡ too_long registers surfaces memory }
 {
     (4096 < registers) | ((8192 < surfaces) | (4096 < memory))
+}
+
+// The run over slices that make a room.
+fn run_slices<'a>(
+    kernel: &[u8],
+    types: &[u8],
+    starts: &[u16],
+    counts: &[u16],
+    predicate_bits: &[u32],
+    predicate_counts: &[u8],
+    surface_lengths: &[u16],
+    constants: Constants,
+    surfaces: &'a [u8],
+    surface_taint: &'a [u8],
+    registers: &'a mut [u8],
+    register_taint: &'a mut [u8],
+    memory: &'a mut [u8],
+    memory_taint: &'a mut [u8],
+) -> Answer
+    ensures { let x = setup kernel.now (tables (variable_table types starts counts) (predicate_table predicate_bits predicate_counts) (surface_table surface_lengths)) constants in
+        outcome (answer_of result) (state registers.new register_taint.new surfaces.now surface_taint.now memory.new memory_taint.new) ≡ run x (state registers.old register_taint.old surfaces.now surface_taint.now memory.old memory_taint.old) }
+{
+    let mut room = Room {
+        registers,
+        register_taint,
+        memory,
+        memory_taint,
+        surfaces,
+        surface_taint,
+    };
+    run::run(
+        kernel,
+        types,
+        starts,
+        counts,
+        predicate_bits,
+        predicate_counts,
+        surface_lengths,
+        constants,
+        &mut room,
+    )
 }
 
 // A run without taint: the run over taint that is all zero.
@@ -36,7 +79,7 @@ pub fn plain_run(
     memory: &mut [u8],
 ) -> Answer
     ensures { let x = setup kernel.now (tables (variable_table types starts counts) (predicate_table predicate_bits predicate_counts) (surface_table surface_lengths)) constants in
-        plain_outcome result registers.new memory.new ≡ without_marks (plain_run x registers.old surfaces.now memory.old) }
+        plain_outcome (answer_of result) registers.new memory.new ≡ without_marks (plain_run x registers.old surfaces.now memory.old) }
 {
     let register_count = registers.len();
     let surface_count = surfaces.len();
@@ -52,7 +95,7 @@ pub fn plain_run(
     let mut register_taint = [0u8; 4096];
     let surface_taint = [0u8; 8192];
     let mut memory_taint = [0u8; 4096];
-    run::run(
+    run_slices(
         kernel,
         types,
         starts,

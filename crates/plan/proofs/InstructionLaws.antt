@@ -25,10 +25,10 @@ use Rattle.operands.specs.declared.TypeRule.TheVariants as rule
 use Rattle.tables.specs.Variables.{Variables}
 use Rattle.operands.proofs.AllowedLaws.{RuleSize}
 use Rattle.operands.proofs.SizeLaws.{vector-sized, raw-sized}
-use Rattle.plan.specs.declared.Operation.{Operation}
-use Rattle.plan.specs.declared.Operation.TheVariants as operation
-use Rattle.plan.specs.declared.Part.{Part}
-use Rattle.plan.specs.declared.Plan.{Plan}
+use Rattle.plan.specs.Operation.{Operation}
+use Rattle.plan.specs.Operation as operation
+use Rattle.plan.specs.Part.{Part}
+use Rattle.plan.specs.Plan.{Plan}
 use Rattle.controls.specs.Control.{predicate_for, control_refusal}
 use Rattle.plan.specs.Control.{control_of}
 use Rattle.payloads.specs.Needed.{elements_needed, channel_stride, scatter_needed}

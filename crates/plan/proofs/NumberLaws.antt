@@ -18,7 +18,7 @@ use Rattle.regions.specs.Regions.{element_of}
 use Rattle.region_rules.specs.RegionRules.{width_zero_or_32, stride_over_four, width_over_exec_size, destination_stride_zero, null_out_of_place, scalar_region_wrong, first_broken, region_refusal}
 use Rattle.regions.specs.Reach.{elements_good}
 use Rattle.operands.specs.declared.TypeRule.{TypeRule}
-use Rattle.operands.specs.declared.Located.{Located}
+use Rattle.operands.specs.Located.{Located}
 use Rattle.operands.specs.Allowed.{type_allowed}
 use Rattle.operands.specs.Variables.{in_table, variable_at}
 use Rattle.operands.specs.Elements.{register_elements, immediate_element, refused_operand}

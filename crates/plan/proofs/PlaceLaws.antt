@@ -11,13 +11,13 @@ use Rattle.refusal.specs.declared.Detail.TheVariants as detail
 use Rattle.refusal.specs.Details.{names_operand, operand_detail}
 use Rattle.tables.specs.Tables.{Tables}
 use Rattle.tables.specs.Variables.{Variables}
-use Rattle.predicate_table.specs.declared.PredicateRecord.{PredicateRecord}
+use Rattle.predicate_table.specs.PredicateRecord.{PredicateRecord}
 use Rattle.predicate_field.specs.Predicate.{has_predicate}
 use Rattle.field_groups.specs.declared.Control.{Control}
 use Rattle.decoder.specs.declared.Instruction.{Instruction}
 use Rattle.decoder.specs.declared.Instruction.TheVariants as instruction
 use Rattle.regions.proofs.ReachLaws.{cond_either}
-use Rattle.plan.specs.declared.Plan.{Plan}
+use Rattle.plan.specs.Plan.{Plan}
 use Rattle.controls.specs.Control.{lanes_end, predicate_for, predicate_refusal, control_refusal, bits_named}
 use Rattle.plan.specs.Control.{control_of}
 use Rattle.plan.specs.Plans.{refused_plan, tested, tested_from, shl_plan, gather_plan, scatter_plan}

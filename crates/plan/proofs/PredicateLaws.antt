@@ -9,7 +9,7 @@ use Rattle.predicate_table.specs.Predicates.{Predicates, predicate_at}
 use Rattle.tables.specs.Tables.{Tables}
 use Rattle.field_groups.specs.declared.Control.{Control}
 use Rattle.decoder.specs.declared.Instruction.{Instruction}
-use Rattle.plan.specs.declared.Plan.{Plan}
+use Rattle.plan.specs.Plan.{Plan}
 use Rattle.controls.specs.Control.{lanes_end, predicate_for, control_refusal}
 use Rattle.plan.specs.Control.{control_of}
 use Rattle.plan.specs.Checked.{checked}

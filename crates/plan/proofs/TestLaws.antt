@@ -6,7 +6,7 @@ use lib.Dec.{ltb}
 use borrow.Author.Tests.{ltb-true, ltb-false}
 use Rattle.refusal.specs.declared.Detail.{Detail}
 use Rattle.regions.proofs.ReachLaws.{cond_either}
-use Rattle.plan.specs.declared.Plan.{Plan}
+use Rattle.plan.specs.Plan.{Plan}
 use Rattle.plan.specs.Plans.{refused_plan, tested}
 
 pub refusal-number : (n : ℕ) (d : Detail) → (refused_plan n d).number ≡ n

@@ -14,13 +14,13 @@ use Rattle.decoder.specs.declared.Scatter.{Scatter}
 use Rattle.decoder.specs.declared.RawSend.{RawSend}
 use Rattle.decoder.specs.declared.Instruction.{Instruction}
 use Rattle.decoder.specs.declared.Instruction.TheVariants as instruction
-use Rattle.operands.specs.declared.Located.{Located}
+use Rattle.operands.specs.Located.{Located}
 use Rattle.region_rules.specs.declared.Role.TheVariants as role
 use Rattle.operands.specs.declared.TypeRule.TheVariants as rule
 use Rattle.tables.specs.Variables.{Variables}
 use Rattle.operands.specs.Operands.{located_vector, located_raw}
-use Rattle.plan.specs.declared.Part.{Part}
-use Rattle.plan.specs.declared.Plan.{Plan}
+use Rattle.plan.specs.Part.{Part}
+use Rattle.plan.specs.Plan.{Plan}
 use Rattle.controls.specs.Control.{predicate_for, control_refusal, bits_named}
 use Rattle.plan.specs.Control.{control_of}
 use Rattle.payloads.specs.Needed.{elements_needed, channel_stride, scatter_needed, registers_needed, block_bytes}

@@ -18,11 +18,11 @@ use Rattle.region_rules.specs.declared.Role.TheVariants as role
 use Rattle.region_rules.specs.RegionRules.{region_refusal}
 use Rattle.operands.specs.declared.TypeRule.{TypeRule}
 use Rattle.operands.specs.declared.TypeRule.TheVariants as rule
-use Rattle.operands.specs.declared.Located.{Located}
+use Rattle.operands.specs.Located.{Located}
 use Rattle.operands.specs.Allowed.{type_allowed}
 use Rattle.operands.specs.Variables.{in_table, variable_at}
 use Rattle.operands.specs.Operands.{located_vector, located_raw}
-use Rattle.plan.specs.declared.Plan.{Plan}
+use Rattle.plan.specs.Plan.{Plan}
 use Rattle.plan.specs.Control.{control_of}
 use Rattle.payloads.specs.Needed.{elements_needed, channel_stride, scatter_needed, registers_needed}
 

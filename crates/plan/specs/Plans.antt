@@ -6,10 +6,11 @@ use Rattle.refusal.specs.declared.Detail.TheVariants as detail
 use Rattle.refusal.specs.Details.{operand_detail}
 use Rattle.field_groups.specs.declared.Control.{Control}
 use Rattle.operands.specs.declared.Elements.{Elements}
-use Rattle.operands.specs.declared.Located.{Located}
-use Rattle.plan.specs.declared.Part.{Part}
-use Rattle.plan.specs.declared.Plan.{Plan}
-use Rattle.plan.specs.declared.Operation.TheVariants as operation
+use Rattle.operands.specs.Located.{Located}
+use Rattle.plan.specs.Part.{Part}
+use Rattle.plan.specs.Plan.{Plan}
+use Rattle.plan.specs.Operation as operation
+use Rattle.plan.specs.Operation.{Operation}
 
 abbrev pub no_elements : Elements
 no_elements = record { size = 0; signed = false; immediate = false; value = 0; at = replicate 32 0 }
@@ -94,6 +95,25 @@ scatter_plan control bits left right payload channels stride =
       bytes = 0;
       channels = channels;
       stride = stride;
+      start = 0;
+      length = 0;
+    }
+
+-- what all of them have, with nothing that only one operation has
+abbrev pub plain_plan : Operation → Control → ℕ → Elements → Elements → Elements → Plan
+plain_plan operation control bits left right payload =
+    record {
+      number = 0;
+      detail = detail.None;
+      operation = operation;
+      control = control;
+      bits = bits;
+      left = left;
+      right = right;
+      payload = payload;
+      bytes = 0;
+      channels = 0;
+      stride = 0;
       start = 0;
       length = 0;
     }

@@ -3,44 +3,36 @@
 #![tactic(auto)]
 
 ghost use Rattle.std.specs.Prelude.{◌≡◌};
-ghost use Rattle.refusal.specs.Details.{operand_detail};
-ghost use Rattle.tables.specs.Tables.{tables};
-ghost use Rattle.tables.specs.Borrowed.{variable_table};
-ghost use Rattle.predicate_table.specs.Borrowed.{predicate_table};
-ghost use Rattle.surface_table.specs.Borrowed.{surface_table};
+ghost use Rattle.tables.specs.Borrowed.{variables_of, tables_of};
+ghost use Rattle.surface_table.specs.Surfaces.{surfaces};
+ghost use Rattle.operands.specs.Elements.{located_as};
+ghost use Rattle.operands.specs.Operands.{located_vector, located_raw};
 ghost use Rattle.plan.specs.Control.{control_of};
-ghost use Rattle.plan.specs.Plans.{refused_plan, shl_plan, gather_plan, scatter_plan};
-ghost use Rattle.plan.specs.Checked.{checked_shl, checked_gather_operands, surface_part, checked_gather, checked_scatter, checked_send, checked};
+ghost use Rattle.plan.specs.Planned.{planned, plan_of, operation_of, Gives};
+ghost use Rattle.plan.specs.Plans.{plain_plan};
+ghost use Rattle.plan.specs.Checked.{checked_shl, checked_gather, checked_scatter, checked_send, checked};
 
 use decoder::{Gather, Instruction, RawSend, Scatter, Shl};
-use refusal::Detail;
 use field_groups::Control;
+use operand_fields::{Operand, Raw};
 use operands::{Elements, TypeRule};
+use refusal::{OperandRefusal, Refusal};
 use region_rules::Role;
+use tables::{Tables, Variables};
 
-// What is left to run; nothing, of a refused instruction.
+// What is left to run.
 #[derive(Clone, Copy)]
 pub enum Operation {
     Shl,
     Gather,
     Scatter,
-    Refused,
 }
 
-// The bytes of the surface buffer from start on that are one surface.
-#[derive(Clone, Copy)]
-struct Part {
-    start: u32,
-    length: u32,
-}
-
-// What a run needs of an accepted instruction. `number` is 0, or the refusal's with everything else empty.
+// What a run needs of an accepted instruction.
 // SHL: left is Src0, right Src1, payload Dst. Gather: Offset, Element_offset, Dst. Scatter: Address, Element_offset, Src.
+// One struct for the three, as the definitions of the effects have one record for them (`Rattle.plan.specs.Plan`); what only another operation has is 0.
 #[derive(Clone, Copy)]
 pub struct Plan {
-    pub number: u8,
-    // what the refusal tells
-    pub detail: Detail,
     pub operation: Operation,
     pub control: Control,
     // the predicate's, 0 without one
@@ -58,41 +50,7 @@ pub struct Plan {
     pub length: u32,
 }
 
-fn refused(number: u8, detail: Detail) -> Plan
-    ensures { result ≡ refused_plan number detail }
-{
-    let none = Elements {
-        size: 0,
-        signed: false,
-        immediate: false,
-        value: 0,
-        at: [0; 32],
-    };
-    let control = Control { exec: 0, pred: 0 };
-    Plan {
-        number,
-        detail,
-        operation: Operation::Refused,
-        control,
-        bits: 0,
-        left: none,
-        right: none,
-        payload: none,
-        bytes: 0,
-        channels: 0,
-        stride: 0,
-        start: 0,
-        length: 0,
-    }
-}
-
-// The refusal of the operand at a place.
-fn refused_at(number: u8, place: u8) -> Plan
-    ensures { result ≡ refused_plan number (operand_detail number place) }
-{
-    refused(number, refusal::of_operand(number, place))
-}
-
+#[tactic(auto, unfolding(crate::specs::Control::control_of))]
 fn control_of(instruction: Instruction) -> Control
     ensures { result ≡ control_of instruction }
 {
@@ -104,386 +62,177 @@ fn control_of(instruction: Instruction) -> Control
     }
 }
 
-fn surface_part(surfaces: &[u16], index: u8) -> Part
-    ensures { result ≡ surface_part (surface_table surfaces) index }
+// A refusal names the operand by its place.
+#[tactic(auto, using(refusal::proofs::RuleLaws::operand_some), unfolding(operands::specs::Elements::refused_operand))]
+fn at_place(place: u8, found: Result<Elements, OperandRefusal>) -> Result<Elements, Refusal>
+    ensures { Gives place (located_as found) result }
 {
-    Part {
-        start: surface_table::surface_start(surfaces, index) as u32,
-        length: surface_table::surface_length(surfaces, index) as u32,
-    }
+    found.map_err(|refusal| refusal.at(place))
 }
 
-fn shl_plan(control: Control, bits: u32, left: Elements, right: Elements, payload: Elements) -> Plan
-    ensures { result ≡ shl_plan control bits left right payload }
-{
-    Plan {
-        number: 0,
-        detail: Detail::None,
-        operation: Operation::Shl,
-        control,
-        bits,
-        left,
-        right,
-        payload,
-        bytes: 0,
-        channels: 0,
-        stride: 0,
-        start: 0,
-        length: 0,
-    }
-}
-
-fn gather_plan(
-    control: Control,
-    bits: u32,
-    left: Elements,
-    right: Elements,
-    payload: Elements,
-    bytes: u8,
-    part: Part,
-) -> Plan
-    ensures { result ≡ gather_plan control bits left right payload bytes part }
-{
-    Plan {
-        number: 0,
-        detail: Detail::None,
-        operation: Operation::Gather,
-        control,
-        bits,
-        left,
-        right,
-        payload,
-        bytes,
-        channels: 0,
-        stride: 0,
-        start: part.start,
-        length: part.length,
-    }
-}
-
-fn scatter_plan(
-    control: Control,
-    bits: u32,
-    left: Elements,
-    right: Elements,
-    payload: Elements,
-    channels: u8,
-    stride: u8,
-) -> Plan
-    ensures { result ≡ scatter_plan control bits left right payload channels stride }
-{
-    Plan {
-        number: 0,
-        detail: Detail::None,
-        operation: Operation::Scatter,
-        control,
-        bits,
-        left,
-        right,
-        payload,
-        bytes: 0,
-        channels,
-        stride,
-        start: 0,
-        length: 0,
-    }
-}
-
-fn check_shl(
+// How an instruction's operands are tested: by registers of this size, in this table, for its exec byte.
+#[derive(Clone, Copy)]
+struct Tests<'a> {
     register_size: u8,
-    types: &[u8],
-    starts: &[u16],
-    counts: &[u16],
+    variables: Variables<'a>,
+    control: Control,
+    // the predicate's, 0 without one
     bits: u32,
-    instruction: Shl,
-) -> Plan
-    ensures { result ≡ checked_shl register_size (variable_table types starts counts) bits instruction }
+}
+
+impl Tests<'_> {
+    // The vector operand or scalar at a place.
+    fn vector(
+        self,
+        place: u8,
+        role: Role,
+        rule: TypeRule,
+        operand: Operand,
+    ) -> Result<Elements, Refusal>
+        ensures { Gives place (located_vector self.entry.register_size (variables_of self.entry.variables) role rule self.entry.control.exec operand) result }
+    {
+        let found = operands::locate_vector(
+            self.register_size,
+            self.variables,
+            role,
+            rule,
+            self.control.exec,
+            operand,
+        );
+        at_place(place, found)
+    }
+
+    // The raw operand at a place, of which so many bytes are needed.
+    fn raw(self, place: u8, rule: TypeRule, bytes: u32, raw: Raw) -> Result<Elements, Refusal>
+        ensures { Gives place (located_raw (variables_of self.entry.variables) rule bytes raw) result }
+    {
+        at_place(
+            place,
+            operands::locate_raw(self.variables, rule, bytes, raw),
+        )
+    }
+
+    // What all plans have.
+    fn plan(self, operation: Operation, left: Elements, right: Elements, payload: Elements) -> Plan
+        ensures { plan_of result ≡ plain_plan (operation_of operation) self.entry.control self.entry.bits left right payload }
+    {
+        Plan {
+            operation,
+            control: self.control,
+            bits: self.bits,
+            left,
+            right,
+            payload,
+            bytes: 0,
+            channels: 0,
+            stride: 0,
+            start: 0,
+            length: 0,
+        }
+    }
+}
+
+#[tactic(auto, unfolding(crate::specs::Checked::checked_shl, crate::specs::Checked::shl_dst, crate::specs::Checked::shl_src0, crate::specs::Checked::shl_src1, crate::specs::Plans::tested, crate::specs::Plans::shl_plan))]
+fn check_shl(tests: Tests<'_>, instruction: Shl) -> Result<Plan, Refusal>
+    requires { tests.control ≡ instruction.control }
+    ensures { planned result ≡ checked_shl tests.entry.register_size (variables_of tests.entry.variables) tests.entry.bits instruction }
 {
-    let control = instruction.control;
-    let exec = control.exec;
-    let destination = instruction.destination;
-    let source = instruction.source;
-    let count = instruction.count;
-    let dst = operands::locate_vector(
-        register_size,
-        types,
-        starts,
-        counts,
+    let payload = tests.vector(
+        1,
         Role::Destination,
         TypeRule::Shift,
-        exec,
-        destination,
-    );
-    if 0 < dst.number {
-        return refused_at(dst.number, 1);
-    }
-    let src0 = operands::locate_vector(
-        register_size,
-        types,
-        starts,
-        counts,
-        Role::Source,
-        TypeRule::Shift,
-        exec,
-        source,
-    );
-    if 0 < src0.number {
-        return refused_at(src0.number, 2);
-    }
-    let src1 = operands::locate_vector(
-        register_size,
-        types,
-        starts,
-        counts,
-        Role::Source,
-        TypeRule::Shift,
-        exec,
-        count,
-    );
-    if 0 < src1.number {
-        return refused_at(src1.number, 3);
-    }
-    let left = src0.elements;
-    let right = src1.elements;
-    let payload = dst.elements;
-    shl_plan(control, bits, left, right, payload)
-}
-
-fn check_gather_operands(
-    register_size: u8,
-    types: &[u8],
-    starts: &[u16],
-    counts: &[u16],
-    bits: u32,
-    part: Part,
-    instruction: Gather,
-) -> Plan
-    ensures { result ≡ checked_gather_operands register_size (variable_table types starts counts) bits part instruction }
-{
-    let control = instruction.control;
-    let exec = control.exec;
-    let address = instruction.offset;
-    let needed = payloads::elements_needed(exec, element_types::UD);
-    let offset = operands::locate_vector(
-        register_size,
-        types,
-        starts,
-        counts,
-        Role::Scalar,
-        TypeRule::Offset,
-        exec,
-        address,
-    );
-    if 0 < offset.number {
-        return refused_at(offset.number, 1);
-    }
-    let element = operands::locate_raw(
-        types,
-        starts,
-        counts,
-        TypeRule::Offset,
-        needed,
-        instruction.element_offset,
-    );
-    if 0 < element.number {
-        return refused_at(element.number, 2);
-    }
-    let dst = operands::locate_raw(
-        types,
-        starts,
-        counts,
-        TypeRule::Dword,
-        needed,
         instruction.destination,
-    );
-    if 0 < dst.number {
-        return refused_at(dst.number, 3);
-    }
-    let left = offset.elements;
-    let right = element.elements;
-    let payload = dst.elements;
-    let bytes = payloads::block_bytes(instruction.access.num_blocks);
-    gather_plan(control, bits, left, right, payload, bytes, part)
+    )?;
+    let left = tests.vector(2, Role::Source, TypeRule::Shift, instruction.source)?;
+    let right = tests.vector(3, Role::Source, TypeRule::Shift, instruction.count)?;
+    Ok(tests.plan(Operation::Shl, left, right, payload))
 }
 
-// A gather: the surface's 5, then the operands.
+// The surface's 5, then the operands.
+#[tactic(auto, using(surface_table::proofs::SurfacePlaces::start_small), unfolding(crate::specs::Checked::checked_gather, crate::specs::Checked::checked_gather_operands, crate::specs::Checked::surface_part, crate::specs::Checked::gather_offset, crate::specs::Checked::gather_element_offset, crate::specs::Checked::gather_dst, crate::specs::Plans::tested, crate::specs::Plans::gather_plan))]
 fn check_gather(
-    register_size: u8,
-    types: &[u8],
-    starts: &[u16],
-    counts: &[u16],
-    surfaces: &[u16],
-    bits: u32,
+    tests: Tests<'_>,
+    surface_lengths: &[u16],
     instruction: Gather,
-) -> Plan
-    ensures { result ≡ checked_gather register_size (variable_table types starts counts) (surface_table surfaces) bits instruction }
+) -> Result<Plan, Refusal>
+    requires { tests.control ≡ instruction.control }
+    ensures { planned result ≡ checked_gather tests.entry.register_size (variables_of tests.entry.variables) (surfaces surface_lengths.now) tests.entry.bits instruction }
 {
     let surface = instruction.access.surface;
-    if !((surface as usize) < surfaces.len()) {
-        return refused(5, Detail::None);
+    if usize::from(surface) >= surface_lengths.len() {
+        return Err(Refusal::Missing);
     }
-    let part = surface_part(surfaces, surface);
-    check_gather_operands(
-        register_size,
-        types,
-        starts,
-        counts,
-        bits,
-        part,
-        instruction,
-    )
+    let needed = payloads::elements_needed(instruction.control.exec, element_types::UD);
+    let left = tests.vector(1, Role::Scalar, TypeRule::Offset, instruction.offset)?;
+    let right = tests.raw(2, TypeRule::Offset, needed, instruction.element_offset)?;
+    let payload = tests.raw(3, TypeRule::Dword, needed, instruction.destination)?;
+    Ok(Plan {
+        bytes: payloads::block_bytes(instruction.access.num_blocks),
+        start: surface_table::surface_start(surface_lengths, surface) as u32,
+        length: u32::from(surface_table::surface_length(surface_lengths, surface)),
+        ..tests.plan(Operation::Gather, left, right, payload)
+    })
 }
 
-fn check_scatter(
-    register_size: u8,
-    types: &[u8],
-    starts: &[u16],
-    counts: &[u16],
-    bits: u32,
-    instruction: Scatter,
-) -> Plan
-    ensures { result ≡ checked_scatter register_size (variable_table types starts counts) bits instruction }
+#[tactic(auto, unfolding(crate::specs::Checked::checked_scatter, crate::specs::Checked::scatter_address, crate::specs::Checked::scatter_element_offset, crate::specs::Checked::scatter_src, crate::specs::Plans::tested, crate::specs::Plans::scatter_plan))]
+fn check_scatter(tests: Tests<'_>, instruction: Scatter) -> Result<Plan, Refusal>
+    requires { tests.control ≡ instruction.control }
+    ensures { planned result ≡ checked_scatter tests.entry.register_size (variables_of tests.entry.variables) tests.entry.bits instruction }
 {
-    let control = instruction.control;
-    let exec = control.exec;
-    let base = instruction.address;
-    let address = operands::locate_vector(
-        register_size,
-        types,
-        starts,
-        counts,
-        Role::Scalar,
-        TypeRule::Address,
-        exec,
-        base,
-    );
-    if 0 < address.number {
-        return refused_at(address.number, 1);
-    }
+    let exec = instruction.control.exec;
+    let channels = instruction.channels;
     let offsets = payloads::elements_needed(exec, element_types::UQ);
-    let element = operands::locate_raw(
-        types,
-        starts,
-        counts,
-        TypeRule::Address,
-        offsets,
-        instruction.element_offset,
-    );
-    if 0 < element.number {
-        return refused_at(element.number, 2);
-    }
-    let stride = payloads::channel_stride(register_size, exec);
-    let needed = payloads::scatter_needed(stride, exec, instruction.channels);
-    let src = operands::locate_raw(
-        types,
-        starts,
-        counts,
-        TypeRule::Dword,
-        needed,
-        instruction.source,
-    );
-    if 0 < src.number {
-        return refused_at(src.number, 3);
-    }
-    let left = address.elements;
-    let right = element.elements;
-    let payload = src.elements;
-    scatter_plan(
-        control,
-        bits,
-        left,
-        right,
-        payload,
-        instruction.channels,
+    let stride = payloads::channel_stride(tests.register_size, exec);
+    let needed = payloads::scatter_needed(stride, exec, channels);
+    let left = tests.vector(1, Role::Scalar, TypeRule::Address, instruction.address)?;
+    let right = tests.raw(2, TypeRule::Address, offsets, instruction.element_offset)?;
+    let payload = tests.raw(3, TypeRule::Dword, needed, instruction.source)?;
+    Ok(Plan {
+        channels,
         stride,
-    )
+        ..tests.plan(Operation::Scatter, left, right, payload)
+    })
 }
 
 // The operands of a RAW_SEND, then 9.
-fn check_send(
-    register_size: u8,
-    types: &[u8],
-    starts: &[u16],
-    counts: &[u16],
-    instruction: RawSend,
-) -> Plan
-    ensures { result ≡ checked_send register_size (variable_table types starts counts) instruction }
+#[tactic(auto, unfolding(crate::specs::Checked::checked_send, crate::specs::Checked::send_desc, crate::specs::Checked::send_src, crate::specs::Checked::send_dst, crate::specs::Plans::tested))]
+fn check_send(tests: Tests<'_>, instruction: RawSend) -> Result<Plan, Refusal>
+    requires { tests.control ≡ instruction.control }
+    ensures { planned result ≡ checked_send tests.entry.register_size (variables_of tests.entry.variables) instruction }
 {
-    let exec = instruction.control.exec;
-    let descriptor = instruction.descriptor;
-    let desc = operands::locate_vector(
-        register_size,
-        types,
-        starts,
-        counts,
-        Role::Scalar,
-        TypeRule::Offset,
-        exec,
-        descriptor,
-    );
-    if 0 < desc.number {
-        return refused_at(desc.number, 1);
-    }
-    let sent = payloads::registers_needed(register_size, instruction.message.num_src);
-    let src = operands::locate_raw(
-        types,
-        starts,
-        counts,
-        TypeRule::Any,
-        sent,
-        instruction.source,
-    );
-    if 0 < src.number {
-        return refused_at(src.number, 2);
-    }
-    let received = payloads::registers_needed(register_size, instruction.message.num_dst);
-    let dst = operands::locate_raw(
-        types,
-        starts,
-        counts,
-        TypeRule::Any,
-        received,
-        instruction.destination,
-    );
-    if 0 < dst.number {
-        return refused_at(dst.number, 3);
-    }
-    refused(9, Detail::None)
+    let message = instruction.message;
+    let sent = payloads::registers_needed(tests.register_size, message.num_src);
+    let received = payloads::registers_needed(tests.register_size, message.num_dst);
+    tests.vector(1, Role::Scalar, TypeRule::Offset, instruction.descriptor)?;
+    tests.raw(2, TypeRule::Any, sent, instruction.source)?;
+    tests.raw(3, TypeRule::Any, received, instruction.destination)?;
+    Err(Refusal::Send)
 }
 
-// The number of an instruction's refusal, or its plan, by registers of this size.
+// What is left to run of an instruction, by registers of this size, or its refusal.
+#[tactic(auto, using(refusal::proofs::RuleLaws::number_some, controls::proofs::PassedLaws::found_refusal, controls::proofs::PassedLaws::found_bits), unfolding(crate::specs::Checked::checked, crate::specs::Checked::checked_operands, crate::specs::Plans::tested, crate::specs::Control::control_of))]
 pub fn check(
     register_size: u8,
-    types: &[u8],
-    starts: &[u16],
-    counts: &[u16],
-    predicate_bits: &[u32],
-    predicate_counts: &[u8],
-    surfaces: &[u16],
+    tables: Tables<'_>,
     instruction: Instruction,
-) -> Plan
-    ensures { result ≡ checked register_size (tables (variable_table types starts counts) (predicate_table predicate_bits predicate_counts) (surface_table surfaces)) instruction }
+) -> Result<Plan, Refusal>
+    ensures { planned result ≡ checked register_size (tables_of tables.entry) instruction }
 {
     let control = control_of(instruction);
-    let id = predicate_field::predicate_id(control.pred);
-    let predicate = predicate_table::predicate_at(predicate_bits, predicate_counts, id);
-    let number = controls::control_refusal(predicate, control);
-    if 0 < number {
-        return refused(number, Detail::None);
-    }
-    let bits = controls::bits_named(predicate, control.pred);
+    let predicate = tables
+        .predicates
+        .at(predicate_field::predicate_id(control.pred));
+    controls::control_refusal(predicate, control)?;
+    let tests = Tests {
+        register_size,
+        variables: tables.variables,
+        control,
+        bits: controls::bits_named(predicate, control.pred),
+    };
     match instruction {
-        Instruction::Shl(i) => check_shl(register_size, types, starts, counts, bits, i),
-        Instruction::Gather(i) => check_gather(
-            register_size,
-            types,
-            starts,
-            counts,
-            surfaces,
-            bits,
-            i,
-        ),
-        Instruction::Scatter(i) => check_scatter(register_size, types, starts, counts, bits, i),
-        Instruction::RawSend(i) => check_send(register_size, types, starts, counts, i),
+        Instruction::Shl(i) => check_shl(tests, i),
+        Instruction::Gather(i) => check_gather(tests, tables.surface_lengths, i),
+        Instruction::Scatter(i) => check_scatter(tests, i),
+        Instruction::RawSend(i) => check_send(tests, i),
     }
 }

@@ -3,12 +3,14 @@ ghost use Rattle.std.specs.Prelude.{◌≤◌};
 
 use crate::{numbers, output};
 use channels::Lanes;
-use decoder::{Decoded, Instruction};
-use refusal::Detail;
+use decoder::Instruction;
 use lengths::{Lengths, TaintLengths};
 use operands::Elements;
 use plan::Plan;
+use predicate_table::Predicates;
+use refusal::{Detail, Refusal};
 use std::io;
+use tables::{Tables, Variables};
 
 fn top_bit(on: bool) -> u32
     ensures { result ≤ 2147483648 }
@@ -18,11 +20,9 @@ fn top_bit(on: bool) -> u32
 
 // The lanes that are on, lane 0 in the lowest bit.
 fn mask_of(lanes: Lanes) -> u32 {
-    let mut mask: u32 = 0;
-    let mut lane: usize = 0;
-    while lane < 32 {
+    let mut mask = 0;
+    for lane in 0..32 {
         mask = mask / 2 + top_bit(lanes.on(lane));
-        lane += 1;
     }
     mask
 }
@@ -33,8 +33,8 @@ pub(crate) fn lanes(rt: &impl Print, line: &[u8]) -> io::Result<()> {
     let mask = numbers::dword(line, 3);
     let bits = numbers::dword(line, 7);
     let lanes = channels::lanes_of(exec, numbers::word(line, 1), mask, bits);
-    output::number(rt, lanes.exec.size as u64)?;
-    output::number(rt, lanes.exec.offset as u64)?;
+    output::number(rt, u64::from(lanes.exec.size))?;
+    output::number(rt, u64::from(lanes.exec.offset))?;
     output::flag(rt, lanes.exec.unmasked)?;
     output::word(rt, mask_of(lanes))?;
     output::text(rt, b"\n")
@@ -70,15 +70,19 @@ fn tables_good(
     let predicate_bits = [0u32; 257];
     let predicate_counts = numbers::bytes_of(predicates, 6, 32);
     let lengths = numbers::words_of(surfaces, 2, 2, 0);
-    tables::tables_good(
-        lengths_of(register_size, line),
-        &types[..numbers::entries(line, 22)],
-        &starts[..numbers::entries(line, 24)],
-        &counts[..numbers::entries(line, 26)],
-        &predicate_bits[..numbers::entries(line, 28)],
-        &predicate_counts[..numbers::entries(line, 30)],
-        &lengths[..numbers::entries(line, 32)],
-    )
+    let tables = Tables {
+        variables: Variables {
+            types: &types[..numbers::entries(line, 22)],
+            starts: &starts[..numbers::entries(line, 24)],
+            counts: &counts[..numbers::entries(line, 26)],
+        },
+        predicates: Predicates {
+            bits: &predicate_bits[..numbers::entries(line, 28)],
+            counts: &predicate_counts[..numbers::entries(line, 30)],
+        },
+        surface_lengths: &lengths[..numbers::entries(line, 32)],
+    };
+    tables.good(lengths_of(register_size, line))
 }
 
 // A line of the lengths lent and of the tables' numbers of entries.
@@ -98,10 +102,8 @@ pub(crate) fn tables(
 }
 
 fn positions(rt: &impl Print, at: [u32; 32], lanes: usize) -> io::Result<()> {
-    let mut i = 0;
-    while i < 32 && i < lanes {
-        output::number(rt, at[i] as u64)?;
-        i += 1;
+    for position in at.iter().take(lanes) {
+        output::number(rt, u64::from(*position))?;
     }
     Ok(())
 }
@@ -109,7 +111,7 @@ fn positions(rt: &impl Print, at: [u32; 32], lanes: usize) -> io::Result<()> {
 // Size, whether signed, and the number of an immediate or the position of every lane's element.
 fn elements(rt: &impl Print, elements: Elements, lanes: usize) -> io::Result<()> {
     output::text(rt, b" |")?;
-    output::number(rt, elements.size as u64)?;
+    output::number(rt, u64::from(elements.size))?;
     output::flag(rt, elements.signed)?;
     if elements.immediate {
         output::text(rt, b" =")?;
@@ -133,15 +135,15 @@ fn others(
 ) -> io::Result<()> {
     output::text(rt, b" |")?;
     output::word(rt, bits)?;
-    output::number(rt, bytes as u64)?;
-    output::number(rt, channels as u64)?;
-    output::number(rt, stride as u64)?;
-    output::number(rt, start as u64)?;
-    output::number(rt, length as u64)
+    output::number(rt, u64::from(bytes))?;
+    output::number(rt, u64::from(channels))?;
+    output::number(rt, u64::from(stride))?;
+    output::number(rt, u64::from(start))?;
+    output::number(rt, u64::from(length))
 }
 
 fn accepted(rt: &impl Print, plan: Plan) -> io::Result<()> {
-    let lanes = exec_byte::split(plan.control.exec).size as usize;
+    let lanes = usize::from(exec_byte::split(plan.control.exec).size);
     elements(rt, plan.left, lanes)?;
     elements(rt, plan.right, lanes)?;
     elements(rt, plan.payload, lanes)?;
@@ -162,24 +164,27 @@ fn told(rt: &impl Print, detail: Detail) -> io::Result<()> {
         Detail::None => Ok(()),
         Detail::Operand(place) => {
             output::text(rt, b" operand")?;
-            output::number(rt, place as u64)
+            output::number(rt, u64::from(place))
         }
         Detail::Pair(channel, lane) => {
             output::text(rt, b" pair")?;
-            output::number(rt, channel as u64)?;
-            output::number(rt, lane as u64)
+            output::number(rt, u64::from(channel))?;
+            output::number(rt, u64::from(lane))
         }
     }
 }
 
-fn planned(rt: &impl Print, plan: Plan) -> io::Result<()> {
-    output::number(rt, plan.number as u64)?;
-    let detail = plan.detail;
-    told(rt, detail)?;
-    if plan.number == 0 {
-        accepted(rt, plan)?;
+fn planned(rt: &impl Print, plan: Result<Plan, Refusal>) -> io::Result<()> {
+    match plan {
+        Ok(plan) => {
+            output::number(rt, 0)?;
+            accepted(rt, plan)
+        }
+        Err(refusal) => {
+            output::number(rt, u64::from(refusal.number()))?;
+            told(rt, refusal.detail())
+        }
     }
-    Ok(())
 }
 
 fn plan_of(
@@ -188,23 +193,26 @@ fn plan_of(
     variables: &[u8],
     predicates: &[u8],
     surfaces: &[u8],
-) -> Plan {
+) -> Result<Plan, Refusal> {
     let types = numbers::bytes_of(variables, 2, 0);
     let starts = numbers::words_of(variables, 3, 5, 0);
     let counts = numbers::words_of(variables, 5, 5, 1);
     let predicate_bits = numbers::bits_of(predicates);
     let predicate_counts = numbers::bytes_of(predicates, 6, 32);
     let lengths = numbers::words_of(surfaces, 2, 2, 0);
-    plan::check(
-        register_size,
-        &types[..numbers::entries(variables, 0)],
-        &starts[..numbers::entries(variables, 0)],
-        &counts[..numbers::entries(variables, 0)],
-        &predicate_bits[..numbers::entries(predicates, 0)],
-        &predicate_counts[..numbers::entries(predicates, 0)],
-        &lengths[..numbers::entries(surfaces, 0)],
-        instruction,
-    )
+    let tables = Tables {
+        variables: Variables {
+            types: &types[..numbers::entries(variables, 0)],
+            starts: &starts[..numbers::entries(variables, 0)],
+            counts: &counts[..numbers::entries(variables, 0)],
+        },
+        predicates: Predicates {
+            bits: &predicate_bits[..numbers::entries(predicates, 0)],
+            counts: &predicate_counts[..numbers::entries(predicates, 0)],
+        },
+        surface_lengths: &lengths[..numbers::entries(surfaces, 0)],
+    };
+    plan::check(register_size, tables, instruction)
 }
 
 // A kernel of one instruction.
@@ -218,13 +226,11 @@ pub(crate) fn instruction(
 ) -> io::Result<()> {
     let kernel = numbers::kernel_of(line);
     match decoder::decode(&kernel, 0) {
-        Decoded::Accepted(instruction, _) => {
+        Ok((instruction, _)) => {
             let plan = plan_of(register_size, instruction, variables, predicates, surfaces);
             planned(rt, plan)?;
         }
-        Decoded::Refused(number) => {
-            output::number(rt, number as u64)?;
-        }
+        Err(refusal) => output::number(rt, u64::from(refusal.number()))?,
     }
     output::text(rt, b"\n")
 }

@@ -5,18 +5,21 @@
 ghost use Rattle.std.specs.Prelude.{◌≡◌};
 ghost use Rattle.predicate_field.specs.Predicate.{has_predicate, predicate_id, predicate_combine, predicate_reserved, predicate_inverse};
 
+#[tactic(auto, unfolding(crate::specs::Predicate::has_predicate))]
 pub fn has_predicate(pred: u16) -> bool
     ensures { result ≡ has_predicate pred }
 {
     pred != 0
 }
 
+#[tactic(auto, unfolding(crate::specs::Predicate::predicate_id, bits::specs::Bits::bit_field))]
 pub fn predicate_id(pred: u16) -> u16
     ensures { result ≡ predicate_id pred }
 {
     pred % 4096
 }
 
+#[tactic(auto, unfolding(crate::specs::Predicate::predicate_combine, bits::specs::Bits::bit_field))]
 pub fn predicate_combine(pred: u16) -> u8
     ensures { result ≡ predicate_combine pred }
 {
@@ -24,12 +27,14 @@ pub fn predicate_combine(pred: u16) -> u8
 }
 
 // Bit 12 is zero, and code 3 of none, any and all is reserved.
+#[tactic(auto, unfolding(crate::specs::Predicate::predicate_reserved, bits::specs::Bits::bit))]
 pub fn predicate_reserved(pred: u16) -> bool
     ensures { result ≡ predicate_reserved pred }
 {
     pred / 4096 % 2 == 1 || predicate_combine(pred) == 3
 }
 
+#[tactic(auto, unfolding(crate::specs::Predicate::predicate_inverse, bits::specs::Bits::bit))]
 pub fn predicate_inverse(pred: u16) -> bool
     ensures { result ≡ predicate_inverse pred }
 {

@@ -1,2 +1,3 @@
+pub mod PredicateRecord
 pub mod Predicates
 pub mod Borrowed

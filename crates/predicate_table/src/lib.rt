@@ -2,46 +2,27 @@
 
 #![tactic(auto)]
 
-ghost use Rattle.std.specs.Prelude.{◌≡◌, length, get_or};
+ghost use Rattle.std.specs.Prelude.{◌≡◌, length};
 ghost use Rattle.bits.specs.Below.{every_below};
 ghost use Rattle.predicate_table.specs.Predicates.{predicate_at, count_good, count_good_at, predicates_good};
-ghost use Rattle.predicate_table.specs.Borrowed.{predicate_table};
+ghost use Rattle.predicate_table.specs.Borrowed.{predicates_of, found};
 
-// Whether a predicate is in the table, its bits, and how many of them are its elements.
+// The lent table: predicate k has the k-th bits and the k-th count. Two slices and not one of records, since a run whose slices differ in length
+// answers 13 (`predicates_good`).
 #[derive(Clone, Copy)]
-pub struct PredicateRecord {
-    pub present: bool,
+pub struct Predicates<'a> {
+    pub bits: &'a [u32],
+    pub counts: &'a [u8],
+}
+
+// A predicate's bits, and how many of them are its elements.
+#[derive(Clone, Copy)]
+pub struct Predicate {
     pub bits: u32,
     pub count: u8,
 }
 
-fn count_at(counts: &[u8], id: u16) -> u8
-    ensures { result ≡ get_or counts.now id 0 }
-{
-    let i = id as usize;
-    if i < counts.len() { counts[i] } else { 0 }
-}
-
-// Whoever needs a predicate asks here: beside the test of the tables nothing else reads the two slices.
-pub fn predicate_at(bits: &[u32], counts: &[u8], id: u16) -> PredicateRecord
-    ensures { result ≡ predicate_at (predicate_table bits counts) id }
-{
-    let i = id as usize;
-    let count = count_at(counts, id);
-    if i < bits.len() {
-        return PredicateRecord {
-            present: true,
-            bits: bits[i],
-            count,
-        };
-    }
-    PredicateRecord {
-        present: false,
-        bits: 0,
-        count,
-    }
-}
-
+#[tactic(auto, unfolding(crate::specs::Predicates::count_good))]
 fn count_good(count: u8) -> bool
     ensures { result ≡ count_good count }
 {
@@ -51,24 +32,36 @@ fn count_good(count: u8) -> bool
 fn every_count_good(counts: &[u8]) -> bool
     ensures { result ≡ every_below (length counts.now) (count_good_at counts.now) }
 {
-    let mut i = 0;
-    while i < counts.len() {
-        if !count_good(counts[i]) {
-            return false;
-        }
-        i += 1;
-    }
-    true
+    counts.iter().all(|count| count_good(*count))
 }
 
-pub fn predicates_good(bits: &[u32], counts: &[u8]) -> bool
-    ensures { result ≡ predicates_good (predicate_table bits counts) }
-{
-    if 64 < bits.len() {
-        return false;
+impl Predicates<'_> {
+    // The predicate of an id, if the table has it. Whoever needs one asks here: beside `count` and `good` nothing else reads the two slices.
+    #[tactic(auto, unfolding(crate::specs::Predicates::predicate_at))]
+    pub fn at(self, id: u16) -> Option<Predicate>
+        ensures { result ≡ found (predicate_at (predicates_of self.entry) id) }
+    {
+        let i = usize::from(id);
+        let bits = self.bits.get(i).copied()?;
+        let count = self.count(id);
+        Some(Predicate { bits, count })
     }
-    if counts.len() != bits.len() {
-        return false;
+
+    // The count of an id; where the table has no bits of it too, 0 past the end of the counts.
+    #[tactic(auto, unfolding(crate::specs::Predicates::predicate_at))]
+    pub fn count(self, id: u16) -> u8
+        ensures { result ≡ (predicate_at (predicates_of self.entry) id).count }
+    {
+        self.counts.get(usize::from(id)).copied().unwrap_or(0)
     }
-    every_count_good(counts)
+
+    // Whether the table keeps the sizes.
+    #[tactic(auto, unfolding(crate::specs::Predicates::predicates_good))]
+    pub fn good(self) -> bool
+        ensures { result ≡ predicates_good (predicates_of self.entry) }
+    {
+        self.bits.len() <= 64
+            && self.counts.len() == self.bits.len()
+            && every_count_good(self.counts)
+    }
 }

@@ -1,6 +1,9 @@
 -- What a function that may refuse gives back: document 01's number, and the values where nothing is refused.
 -- Document 01: "For an answer that is an enum, a definition gives this paper's number and values for each of its cases."
-use Rattle.std.specs.Prelude.{ℕ}
+use Rattle.std.specs.Prelude.{ℕ, Result, Ok, Err}
+use Rattle.refusal.specs.declared.Refusal.{Refusal}
+use Rattle.refusal.specs.Numbers as refusal
+use Rattle.reader.specs.declared.Cursor.{Cursor}
 
 pub data Reply (A : Type 0) : Type 0 where
   refused : ℕ → Reply A
@@ -22,6 +25,16 @@ pub record Read (A : Type 0) : Type 0 where
 
 abbrev pub got : {A : Type 0} → A → ℕ → Reply (Read A)
 got value next = done (record { value = value; next = next })
+
+-- what a reader of the code answers: the value with the cursor behind it, or why there is none
+abbrev pub reply : {A : Type 0} → Result (A × Cursor) Refusal → Reply (Read A)
+reply (Ok r) = got r.0 r.1.at
+reply (Err e) = refused (refusal.number_of e)
+
+-- what any other function of the code answers that may refuse
+abbrev pub outcome : {A : Type 0} → Result A Refusal → Reply A
+outcome (Ok v) = done v
+outcome (Err e) = refused (refusal.number_of e)
 
 -- what follows the values; a refusal stays
 abbrev pub and_then : {A B : Type 0} → Reply A → (A → Reply B) → Reply B

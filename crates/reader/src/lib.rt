@@ -2,9 +2,12 @@
 
 #![tactic(auto)]
 
-ghost use Rattle.std.specs.Prelude.{◌≡◌, ◌+◌, ◌≤◌, length};
+ghost use Rattle.std.specs.Prelude.{◌≡◌, ℕ, List, ◌+◌, ◌≤◌, length};
 ghost use Rattle.little_endian.specs.LittleEndian.{number_at};
-ghost use Rattle.reader.specs.Reading.{whole_at, read_at, read_byte_reply, read_word_reply, read_dword_reply};
+ghost use Rattle.reader.specs.Reply.{reply};
+ghost use Rattle.reader.specs.Reading.{whole_at, stored_at};
+
+use refusal::Refusal;
 
 // A position in the kernel; it may lie past the end.
 #[derive(Clone, Copy)]
@@ -12,90 +15,77 @@ pub struct Cursor {
     pub at: usize,
 }
 
-// A stored number of one byte (ub) with the cursor behind it, or that it is not whole.
-#[derive(Clone, Copy)]
-pub enum ReadByte {
-    Got(u8, Cursor),
-    Short,
+// A number that is stored in little-endian bytes: of one byte (ub), of two (uw) or of four (ud).
+pub trait Stored: Copy {
+    ghost WIDTH: { ℕ };
+
+    // The number that the bytes from a position on make.
+    ghost value_at: { List ℕ → ℕ → Self };
+
+    const WIDTH: usize;
+
+    fn stored_at(kernel: &[u8], at: usize) -> Self
+        requires { at + WIDTH ≤ length kernel.now }
+        ensures { result ≡ value_at kernel.now at };
 }
 
-// The same of two bytes (uw).
-#[derive(Clone, Copy)]
-pub enum ReadWord {
-    Got(u16, Cursor),
-    Short,
+impl Stored for u8 {
+    ghost WIDTH = { 1 };
+
+    ghost value_at = { number_at 1 };
+
+    const WIDTH: usize = 1;
+
+    #[tactic(auto, unfolding(little_endian::specs::LittleEndian::number_at))]
+    fn stored_at(kernel: &[u8], at: usize) -> u8 {
+        kernel[at]
+    }
 }
 
-// The same of four bytes (ud).
-#[derive(Clone, Copy)]
-pub enum ReadDword {
-    Got(u32, Cursor),
-    Short,
+impl Stored for u16 {
+    ghost WIDTH = { 2 };
+
+    ghost value_at = { number_at 2 };
+
+    const WIDTH: usize = 2;
+
+    #[tactic(auto, unfolding(little_endian::specs::LittleEndian::number_at))]
+    fn stored_at(kernel: &[u8], at: usize) -> u16 {
+        u16::from_le_bytes([kernel[at], kernel[at + 1]])
+    }
+}
+
+impl Stored for u32 {
+    ghost WIDTH = { 4 };
+
+    ghost value_at = { number_at 4 };
+
+    const WIDTH: usize = 4;
+
+    #[tactic(auto, unfolding(little_endian::specs::LittleEndian::number_at))]
+    fn stored_at(kernel: &[u8], at: usize) -> u32 {
+        u32::from_le_bytes([kernel[at], kernel[at + 1], kernel[at + 2], kernel[at + 3]])
+    }
 }
 
 // Whether `count` bytes stand from `at` on; the sum of the two may be too large for a usize.
+#[tactic(auto, unfolding(crate::specs::Reading::whole_at))]
 fn whole(kernel: &[u8], at: usize, count: usize) -> bool
     ensures { result ≡ whole_at count kernel.now at }
 {
-    if at <= kernel.len() {
-        count <= kernel.len() - at
-    } else {
-        false
-    }
-}
-
-fn word_of(byte: u8) -> u16
-    ensures { result ≡ byte }
-{
-    byte as u16
-}
-
-fn dword_of(word: u16) -> u32
-    ensures { result ≡ word }
-{
-    word as u32
-}
-
-fn word_at(kernel: &[u8], at: usize) -> u16
-    requires { at + 2 ≤ length kernel.now }
-    ensures { result ≡ number_at 2 kernel.now at }
-{
-    word_of(kernel[at]) + 256 * word_of(kernel[at + 1])
+    at <= kernel.len() && count <= kernel.len() - at
 }
 
 impl Cursor {
-    pub fn byte(self, kernel: &[u8]) -> ReadByte
-        ensures { read_byte_reply result ≡ read_at 1 kernel.now self.at }
+    // The stored number here, with the cursor behind it.
+    #[tactic(auto, unfolding(crate::specs::Reading::whole_at))]
+    pub fn read<T: Stored>(self, kernel: &[u8]) -> Result<(T, Cursor), Refusal>
+        ensures { reply result ≡ stored_at T.WIDTH T.value_at kernel.now self.at }
     {
-        let at = self.at;
-        if whole(kernel, at, 1) {
-            ReadByte::Got(kernel[at], Cursor { at: at + 1 })
-        } else {
-            ReadByte::Short
+        if !whole(kernel, self.at, T::WIDTH) {
+            return Err(Refusal::Ends);
         }
-    }
-
-    pub fn word(self, kernel: &[u8]) -> ReadWord
-        ensures { read_word_reply result ≡ read_at 2 kernel.now self.at }
-    {
-        let at = self.at;
-        if whole(kernel, at, 2) {
-            ReadWord::Got(word_at(kernel, at), Cursor { at: at + 2 })
-        } else {
-            ReadWord::Short
-        }
-    }
-
-    pub fn dword(self, kernel: &[u8]) -> ReadDword
-        ensures { read_dword_reply result ≡ read_at 4 kernel.now self.at }
-    {
-        let at = self.at;
-        if whole(kernel, at, 4) {
-            let low = dword_of(word_at(kernel, at));
-            let high = dword_of(word_at(kernel, at + 2));
-            ReadDword::Got(low + 65536 * high, Cursor { at: at + 4 })
-        } else {
-            ReadDword::Short
-        }
+        let at = self.at + T::WIDTH;
+        Ok((T::stored_at(kernel, self.at), Cursor { at }))
     }
 }

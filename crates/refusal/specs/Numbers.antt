@@ -1,5 +1,5 @@
 -- The number that is given back for a refusal, and what goes with it; the number of an answer is 0 where nothing is refused.
-use Rattle.std.specs.Prelude.{ℕ, Option, None, Some, Result, Ok, Err}
+use Rattle.std.specs.Prelude.{ℕ, Result, Ok, Err}
 use Rattle.refusal.specs.declared.Detail.{Detail}
 use Rattle.refusal.specs.declared.Detail.TheVariants as detail
 use Rattle.refusal.specs.declared.RegionRule.{RegionRule}
@@ -66,3 +66,8 @@ number_given (Err r) = number_of r
 abbrev pub detail_given : {A : Type 0} → Result A Refusal → Detail
 detail_given (Ok v) = detail.None
 detail_given (Err r) = detail_of r
+
+-- of what a function gives back that may refuse an operand's region
+abbrev pub rule_given : {A : Type 0} → Result A RegionRule → ℕ
+rule_given (Ok v) = 0
+rule_given (Err r) = rule_number r

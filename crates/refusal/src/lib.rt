@@ -4,7 +4,8 @@
 #![tactic(auto)]
 
 ghost use Rattle.std.specs.Prelude.{◌≡◌};
-ghost use Rattle.refusal.specs.Details.{is_some, operand_detail};
+ghost use Rattle.refusal.specs.declared.OperandRefusal.TheVariants as operand;
+ghost use Rattle.refusal.specs.Details.{operand_detail};
 ghost use Rattle.refusal.specs.Numbers.{rule_number, operand_number, number_of, detail_of};
 
 // An operand by its place in field order, from 1; a pair by channel and lane.
@@ -13,13 +14,6 @@ pub enum Detail {
     None,
     Operand(u8),
     Pair(u8, u8),
-}
-
-// A number, 0 where nothing is refused, and what it tells.
-#[derive(Clone, Copy)]
-pub struct Status {
-    pub number: u8,
-    pub detail: Detail,
 }
 
 // The rule that a region word breaks.
@@ -64,6 +58,14 @@ pub enum OperandRefusal {
     Outside,
 }
 
+impl From<RegionRule> for OperandRefusal {
+    ghost from_gives = { λ r e. e ≡ operand.Region r };
+
+    fn from(rule: RegionRule) -> OperandRefusal {
+        OperandRefusal::Region(rule)
+    }
+}
+
 // Why an instruction or a run is refused. An operand is named by its place in field order, from 1.
 #[derive(Clone, Copy)]
 pub enum Refusal {
@@ -101,6 +103,7 @@ pub enum Refusal {
 
 impl OperandRefusal {
     // The refusal of the operand at a place.
+    #[tactic(auto, using(crate::proofs::RuleLaws::region_named), unfolding(crate::specs::Details::operand_detail, crate::specs::Details::names_operand))]
     pub fn at(self, place: u8) -> Refusal
         ensures number { number_of result ≡ operand_number self }
         ensures detail { detail_of result ≡ operand_detail (operand_number self) place }
@@ -146,32 +149,11 @@ impl Refusal {
         ensures { result ≡ detail_of self }
     {
         match self {
-            Refusal::Misaligned { channel, lane } => Detail::Pair(channel, lane),
-            Refusal::OutsideWindow { channel, lane } => Detail::Pair(channel, lane),
+            Refusal::Misaligned { channel, lane } | Refusal::OutsideWindow { channel, lane } => {
+                Detail::Pair(channel, lane)
+            }
             Refusal::Region { operand, .. } => Detail::Operand(operand),
             _ => Detail::None,
         }
-    }
-}
-
-// Whether anything is told.
-pub fn is_some(detail: Detail) -> bool
-    ensures { result ≡ is_some detail }
-{
-    match detail {
-        Detail::None => false,
-        Detail::Operand(_) => true,
-        Detail::Pair(_, _) => true,
-    }
-}
-
-// What the refusal of the operand at a place tells.
-pub fn of_operand(number: u8, place: u8) -> Detail
-    ensures { result ≡ operand_detail number place }
-{
-    if (20 <= number) & (number <= 25) {
-        Detail::Operand(place)
-    } else {
-        Detail::None
     }
 }

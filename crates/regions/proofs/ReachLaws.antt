@@ -1,7 +1,7 @@
--- The lowest and the highest element: a lane more, a bound of every lane, and what the test of the highest says of all.
+-- The highest element: a bound of every lane, and what its test says of all.
 use mathlib.Core.Path.{◌≡◌, refl, sym, ◌∙◌}
 use mathlib.Core.Bool.{Bool, true, false, cond, ◌||◌}
-use Prim.Native.Nat.{ℕ, zero, suc, ◌+◌, ◌≤◌, ◌<◌, min, max}
+use Prim.Native.Nat.{ℕ, zero, suc, ◌≤◌, ◌<◌, max}
 use native.Mathlib.Omega.{arith, max_cases}
 use native.Mathlib.Numerals.{add-one}
 use native.Mathlib.Nat.{not-suc-le-zero, le-max_left, le-max_right}
@@ -12,20 +12,12 @@ use Rattle.bits.specs.Below.{every_below}
 use Rattle.bits.proofs.All.{left}
 use Rattle.bits.proofs.Every.{every-none, every-next, every-each, every-fails}
 use Rattle.regions.specs.declared.Variable.{Variable}
-use Rattle.regions.specs.Reach.{lowest, highest, inside_variable, elements_good}
+use Rattle.regions.specs.Reach.{highest, inside_variable, elements_good}
 
 -- what holds of both cases of a test holds of the choice
 pub cond_either : {X : Type 0} (P : X → Type 0) (b : Bool) {x y : X} → (b ≡ true → P x) → (b ≡ false → P y) → P (cond b x y)
 cond_either P true p q = p refl
 cond_either P false p q = q refl
-
-pub lowest-next : (f : ℕ → ℕ) (n low element result : ℕ) → low ≡ lowest f n → element ≡ f n → result ≡ min low element → result ≡ lowest f (n + 1)
-unfolding lowest
-lowest-next f n low element result e h r = rw (add-one n, ← e, ← h) r
-
-pub highest-next : (f : ℕ → ℕ) (n high element result : ℕ) → high ≡ highest f n → element ≡ f n → result ≡ max high element → result ≡ highest f (n + 1)
-unfolding highest
-highest-next f n high element result e h r = rw (add-one n, ← e, ← h) r
 
 -- no lane is above the highest
 pub highest-each : (f : ℕ → ℕ) (n k : ℕ) → k < n → f k ≤ highest f n

@@ -2,7 +2,7 @@
 
 #![tactic(auto)]
 
-ghost use Rattle.std.specs.Prelude.{◌≡◌, ◌+◌, ◌-◌, ◌/◌, ◌%◌, ◌≤◌, ◌<◌, min, max};
+ghost use Rattle.std.specs.Prelude.{◌≡◌, ◌+◌, ◌-◌, ◌≤◌, ◌<◌};
 ghost use Rattle.element_types.specs.Types.{size_of};
 ghost use Rattle.regions.specs.Regions.{row_elements, first_element, element_of};
 ghost use Rattle.regions.specs.Reach.{lowest, highest, two_registers, elements_good};
@@ -36,38 +36,23 @@ struct Reach {
     high: u32,
 }
 
-// 0 where the divisor is 0.
-fn quotient(number: u8, divisor: u8) -> u8
-    ensures { result ≡ number / divisor }
-{
-    if divisor == 0 { 0 } else { number / divisor }
-}
-
-// The number itself where the divisor is 0.
-fn remainder(number: u8, divisor: u8) -> u8
-    ensures { result ≡ number % divisor }
-{
-    if divisor == 0 {
-        number
-    } else {
-        number % divisor
-    }
-}
-
-// The elements of a row, which is a register.
+// The elements of a row, which is a register; 0 where they have no size.
+#[tactic(auto, unfolding(crate::specs::Regions::row_elements))]
 fn row_elements(register_size: u8, size: u8) -> u8
     ensures { result ≡ row_elements register_size size }
 {
-    quotient(register_size, size)
+    register_size.checked_div(size).unwrap_or(0)
 }
 
+#[tactic(auto, unfolding(crate::specs::Regions::first_element))]
 fn first_element(register_size: u8, general: General, size: u8) -> u16
     ensures { result ≡ first_element register_size general size }
 {
-    let in_row = row_elements(register_size, size) as u16;
-    (general.row as u16) * in_row + (general.column as u16)
+    let in_row = u16::from(row_elements(register_size, size));
+    u16::from(general.row) * in_row + u16::from(general.column)
 }
 
+#[tactic(auto, unfolding(crate::specs::Mirror::Grid::grid_of, region_rules::specs::RegionWord::vertical_code, region_rules::specs::RegionWord::width_code, region_rules::specs::RegionWord::horizontal_code))]
 fn grid_of(register_size: u8, role: Role, general: General, size: u8) -> Grid
     ensures { result ≡ grid_of register_size role general size }
 {
@@ -95,42 +80,32 @@ fn grid_of(register_size: u8, role: Role, general: General, size: u8) -> Grid
     }
 }
 
+// A region that has no width is one row.
+#[tactic(auto, using(crate::proofs::Bounds::row_part, crate::proofs::Bounds::place_part), unfolding(crate::specs::Mirror::Grid::grid_element))]
 fn element_of(grid: Grid, lane: u8) -> u32
     ensures { result ≡ grid_element grid lane }
 {
-    let row = quotient(lane, grid.width) as u32;
-    let place = remainder(lane, grid.width) as u32;
-    (grid.first as u32) + row * (grid.vertical as u32) + place * (grid.horizontal as u32)
+    let row = u32::from(lane.checked_div(grid.width).unwrap_or(0));
+    let place = u32::from(lane.checked_rem(grid.width).unwrap_or(lane));
+    u32::from(grid.first) + row * u32::from(grid.vertical) + place * u32::from(grid.horizontal)
 }
 
-fn smaller_of(a: u32, b: u32) -> u32
-    ensures { result ≡ min a b }
-{
-    if b < a { b } else { a }
-}
-
-fn larger_of(a: u32, b: u32) -> u32
-    ensures { result ≡ max a b }
-{
-    if a < b { b } else { a }
-}
-
+#[tactic(auto, unfolding(crate::specs::Reach::lowest, crate::specs::Reach::highest))]
 fn reach_of(grid: Grid, lanes: u8) -> Reach
     ensures { result ≡ record { low = lowest (grid_element grid) lanes; high = highest (grid_element grid) lanes } }
 {
     let mut low = element_of(grid, 0);
-    let mut high = element_of(grid, 0);
-    let mut lane: u8 = 0;
-    while lane < lanes {
+    let mut high = low;
+    for lane in 0..lanes {
         let element = element_of(grid, lane);
-        low = smaller_of(low, element);
-        high = larger_of(high, element);
-        lane += 1;
+        low = low.min(element);
+        high = high.max(element);
     }
     Reach { low, high }
 }
 
 // Whether the bytes from the first to the one before the end are in two adjacent registers.
+#[tactic(auto, unfolding(crate::specs::Reach::two_registers))]
 fn two_registers(register_size: u8, first: u64, end: u64) -> bool
     requires { first ≤ 1099511627776 }
     ensures { result ≡ two_registers register_size first (end - 1) }
@@ -142,7 +117,7 @@ fn two_registers(register_size: u8, first: u64, end: u64) -> bool
     if register_size == 0 {
         return true;
     }
-    let bytes = register_size as u64;
+    let bytes = u64::from(register_size);
     (end - 1) / bytes <= first / bytes + 1
 }
 
@@ -159,11 +134,11 @@ pub fn elements_good(
     let size = element_types::size_of(variable.code);
     let grid = grid_of(register_size, role, general, size);
     let reach = reach_of(grid, lanes);
-    let start = variable.start as u64;
-    let low = reach.low as u64;
-    let high = reach.high as u64;
-    let bytes = size as u64;
-    ((lanes == 0) | (high < (variable.count as u64)))
+    let start = u64::from(variable.start);
+    let low = u64::from(reach.low);
+    let high = u64::from(reach.high);
+    let bytes = u64::from(size);
+    ((lanes == 0) | (high < u64::from(variable.count)))
         & two_registers(
             register_size,
             start + low * bytes,
@@ -172,15 +147,14 @@ pub fn elements_good(
 }
 
 // The position of each lane's element, counted from a base.
+#[tactic(auto, using(crate::proofs::Bounds::position_small), unfolding(crate::specs::Positions::filled, crate::specs::Positions::lane_positions, crate::specs::Positions::element_byte))]
 fn lane_positions(base: u32, grid: Grid, size: u8) -> [u32; 32]
     requires { base < 131072 }
     ensures { result ≡ lane_positions (element_byte base size (grid_element grid)) }
 {
-    let mut at = [0u32; 32];
-    let mut lane: u8 = 0;
-    while lane < 32 {
-        at[lane as usize] = base + element_of(grid, lane) * (size as u32);
-        lane += 1;
+    let mut at = [0; 32];
+    for lane in 0..32 {
+        at[usize::from(lane)] = base + element_of(grid, lane) * u32::from(size);
     }
     at
 }
@@ -196,7 +170,7 @@ pub fn element_positions(
 {
     let size = element_types::size_of(variable.code);
     let grid = grid_of(register_size, role, general, size);
-    lane_positions(variable.start as u32, grid, size)
+    lane_positions(u32::from(variable.start), grid, size)
 }
 
 // The byte of each lane's element, where they follow one another from an offset on.
@@ -210,5 +184,9 @@ pub fn raw_positions(variable: Variable, offset: u16) -> [u32; 32]
         width: 1,
         horizontal: 0,
     };
-    lane_positions((variable.start as u32) + (offset as u32), consecutive, size)
+    lane_positions(
+        u32::from(variable.start) + u32::from(offset),
+        consecutive,
+        size,
+    )
 }

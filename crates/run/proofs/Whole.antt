@@ -7,7 +7,7 @@ use Prim.Native.Nat.{ℕ}
 use Rattle.tables.specs.Tables.{tables_good}
 use Rattle.step.specs.State.{Setup, State, lengths_of}
 use Rattle.refusal.proofs.OperandLaws.{values-tell}
-use Rattle.run.specs.declared.Answer.{Answer}
+use Rattle.run.specs.Answer.{Answer}
 use Rattle.run.specs.Run.{numbers_of, stopped, run_through, run}
 
 pub run_is : (x : Setup) (s : State) → run x s ≡ cond (tables_good (lengths_of x s) x.tables) (run_through x s) (stopped 13 0 0 s)

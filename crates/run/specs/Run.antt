@@ -7,7 +7,7 @@ use Rattle.refusal.specs.Details.{values_of}
 use Rattle.tables.specs.Tables.{tables_good}
 use Rattle.step.specs.State.{Setup, State, lengths_of}
 use Rattle.step.specs.Step.{Stepped, step_at, after}
-use Rattle.run.specs.declared.Answer.{Answer}
+use Rattle.run.specs.Answer.{Answer}
 
 -- "An answer is all the numbers that the run gives back": number, completed, position, and the values of what the number tells
 unfoldable pub numbers_of : Answer → List ℕ

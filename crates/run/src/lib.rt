@@ -1,4 +1,4 @@
-// The run: instruction by instruction through the kernel, over the caller's buffers.
+// The run: instruction by instruction through the kernel, over the room that the caller lent.
 
 #![tactic(auto)]
 
@@ -8,12 +8,13 @@ ghost use Rattle.tables.specs.Borrowed.{variable_table};
 ghost use Rattle.predicate_table.specs.Borrowed.{predicate_table};
 ghost use Rattle.surface_table.specs.Borrowed.{surface_table};
 ghost use Rattle.step.specs.State.{setup};
-ghost use Rattle.step.specs.Borrowed.{lent};
+ghost use Rattle.step.specs.Borrowed.{state_of, Goes};
+ghost use Rattle.run.specs.Answer.{answer_of};
 ghost use Rattle.run.specs.Run.{outcome, run_through, run};
 
 use refusal::Detail;
 use lengths::{Lengths, TaintLengths};
-use step::Constants;
+use step::{Constants, Room};
 
 // What a run gives back: the number, how many instructions were completed, the byte position of the refused one or of the end, and what the
 // number tells.
@@ -35,20 +36,19 @@ fn run_kernel(
     predicate_counts: &[u8],
     surface_lengths: &[u16],
     constants: Constants,
-    surfaces: &[u8],
-    surface_taint: &[u8],
-    registers: &mut [u8],
-    register_taint: &mut [u8],
-    memory: &mut [u8],
-    memory_taint: &mut [u8],
+    room: &mut Room<'_>,
 ) -> Answer
-    ensures { let x = setup kernel.now (tables (variable_table types starts counts) (predicate_table predicate_bits predicate_counts) (surface_table surface_lengths)) constants in
-        let s = lent registers register_taint surfaces surface_taint memory memory_taint in
-        outcome result s.exit ≡ run_through x s.entry }
+    ensures outcome { let x = setup kernel.now (tables (variable_table types starts counts) (predicate_table predicate_bits predicate_counts) (surface_table surface_lengths)) constants in
+        outcome (answer_of result) (state_of room.new) ≡ run_through x (state_of room.old) }
+    ensures room { Goes room.old room.new (state_of room.new) }
 {
-    let mut completed: usize = 0;
-    let mut at: usize = 0;
-    while at < kernel.len() {
+    let mut completed = 0;
+    let mut at = 0;
+    // Each instruction has a byte at least.
+    'turns: for _turn in 0..kernel.len() {
+        if at >= kernel.len() {
+            break;
+        }
         let progress = step::step(
             kernel,
             types,
@@ -59,12 +59,7 @@ fn run_kernel(
             surface_lengths,
             constants,
             at,
-            surfaces,
-            surface_taint,
-            registers,
-            register_taint,
-            memory,
-            memory_taint,
+            room,
         );
         if 0 < progress.number {
             let detail = progress.detail;
@@ -96,27 +91,22 @@ pub fn run(
     predicate_counts: &[u8],
     surface_lengths: &[u16],
     constants: Constants,
-    surfaces: &[u8],
-    surface_taint: &[u8],
-    registers: &mut [u8],
-    register_taint: &mut [u8],
-    memory: &mut [u8],
-    memory_taint: &mut [u8],
+    room: &mut Room<'_>,
 ) -> Answer
-    ensures { let x = setup kernel.now (tables (variable_table types starts counts) (predicate_table predicate_bits predicate_counts) (surface_table surface_lengths)) constants in
-        let s = lent registers register_taint surfaces surface_taint memory memory_taint in
-        outcome result s.exit ≡ run x s.entry }
+    ensures outcome { let x = setup kernel.now (tables (variable_table types starts counts) (predicate_table predicate_bits predicate_counts) (surface_table surface_lengths)) constants in
+        outcome (answer_of result) (state_of room.new) ≡ run x (state_of room.old) }
+    ensures room { Goes room.old room.new (state_of room.new) }
 {
     let taint = TaintLengths {
-        registers: register_taint.len(),
-        surfaces: surface_taint.len(),
-        memory: memory_taint.len(),
+        registers: room.register_taint.len(),
+        surfaces: room.surface_taint.len(),
+        memory: room.memory_taint.len(),
     };
     let lengths = Lengths {
         kernel: kernel.len(),
-        registers: registers.len(),
-        surfaces: surfaces.len(),
-        memory: memory.len(),
+        registers: room.registers.len(),
+        surfaces: room.surfaces.len(),
+        memory: room.memory.len(),
         base: constants.base,
         register_size: constants.register_size,
         taint,
@@ -139,12 +129,7 @@ pub fn run(
             predicate_counts,
             surface_lengths,
             constants,
-            surfaces,
-            surface_taint,
-            registers,
-            register_taint,
-            memory,
-            memory_taint,
+            room,
         )
     } else {
         Answer {

@@ -1,6 +1,5 @@
 pub mod PlanLaws
 pub mod TargetLaws
-pub mod FillLaws
 pub mod OrderLaws
 pub mod NeededLaws
 pub mod RoomLaws

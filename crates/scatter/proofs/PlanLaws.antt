@@ -2,15 +2,12 @@
 use Rattle.std.proofs.Common.{◌≡◌, ℕ, get_or}
 use Rattle.cells.specs.Buffer.{Buffer}
 use Rattle.exec_byte.specs.Exec.{exec_size}
-use Rattle.plan.specs.declared.Plan.{Plan}
+use Rattle.plan.specs.Plan.{Plan}
 use Rattle.payloads.specs.Needed.{scatter_needed}
 use Rattle.staging.specs.declared.Layout.{Layout}
 use Rattle.staging.specs.Mirror.Room.{layout_of, data_place, data_staged}
 use Rattle.scatter_pairs.specs.declared.Pairs.{Pairs}
 use Rattle.scatter.specs.Mirror.FromRoom.{layout_for, pairs_of, sources_staged}
-
-pub layout-told : (p : Plan) (lanes : ℕ) (l : Layout) → lanes ≡ exec_size p.control.exec → l ≡ layout_of p.left p.right lanes → l ≡ layout_for p
-layout-told p lanes l size made = rw (← size) made
 
 pub pairs-told : (p : Plan) (lanes first : ℕ) (l : Layout) → lanes ≡ exec_size p.control.exec → l ≡ layout_for p → first ≡ data_place l → ◌≡◌ {A = Pairs} (record { lanes = lanes; channels = p.channels; stride = p.stride; first = first }) (pairs_of p)
 pairs-told p lanes first l size layout begin = rw (size, begin, layout)

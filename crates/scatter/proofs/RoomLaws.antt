@@ -14,7 +14,7 @@ use Rattle.channels.specs.Lanes.{lane_on}
 use Rattle.channels.specs.Mirror.Prepared.{lanes_of}
 use Rattle.channels.specs.declared.Lanes.{Lanes}
 use Rattle.channels.proofs.LaneLaws.{lane-told}
-use Rattle.plan.specs.declared.Plan.{Plan}
+use Rattle.plan.specs.Plan.{Plan}
 use Rattle.payloads.specs.Needed.{enabled_below, scatter_needed}
 use Rattle.staging.specs.Lanes.{lanes_on}
 use Rattle.staging.specs.Sources.{element_value, either_tainted}

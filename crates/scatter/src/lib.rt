@@ -3,20 +3,23 @@
 #![tactic(auto)]
 
 ghost use Rattle.std.specs.Prelude.{◌≡◌, ◌≤◌, true, slice_index};
-ghost use Rattle.cells.specs.Buffer.{buffer};
+ghost use Rattle.cells.specs.Lent.{viewed};
+ghost use Rattle.staging.specs.Staged.{in_room};
 ghost use Rattle.cells.specs.Effect.{MemoryDone};
+ghost use Rattle.plan.specs.Planned.{plan_of};
 ghost use Rattle.scatter.specs.Mirror.Guarded.{scatter_fits, window, scatter_guarded};
 ghost use Rattle.scatter.specs.Mirror.FromRoom.{layout_for, pairs_of, sources_staged, lane_sum, WorkedOut, room_effect};
 
+use cells::{Buffer, View};
 use channels::Lanes;
-use refusal::{Detail, Status};
 use operands::Elements;
 use plan::Plan;
-use scatter_pairs::{Pairs, Rule};
+use refusal::Refusal;
+use scatter_pairs::{Pairs, Rule, Targets};
 use staging::{Layout, Room};
 
 fn layout_for(plan: Plan) -> Layout
-    ensures { result ≡ layout_for plan }
+    ensures { result ≡ layout_for (plan_of plan) }
 {
     let left = plan.left;
     let right = plan.right;
@@ -24,7 +27,7 @@ fn layout_for(plan: Plan) -> Layout
 }
 
 fn pairs_of(plan: Plan) -> Pairs
-    ensures { result ≡ pairs_of plan }
+    ensures { result ≡ pairs_of (plan_of plan) }
 {
     Pairs {
         lanes: exec_byte::split(plan.control.exec).size,
@@ -36,90 +39,70 @@ fn pairs_of(plan: Plan) -> Pairs
 
 // What is worked out once for each lane: whether it is on, and the sum of its address and its element offset.
 #[derive(Clone, Copy)]
-struct Targets {
+struct LaneSums {
     on: [bool; 16],
     sums: [u64; 16],
 }
 
 // The sum of a lane's address and its element offset, modulo 2^64.
-fn lane_sum(room: &[u8], layout: Layout, lane: u8) -> u64
-    ensures { result ≡ lane_sum room.now layout lane }
+fn lane_sum(room: View<'_>, layout: Layout, lane: u8) -> u64
+    ensures { result ≡ lane_sum room.entry.bytes.now layout lane }
 {
     let address = staging::first_number(room, layout, lane);
     let element = staging::second_number(room, layout, lane);
-    std::num::wrapping_add_u64(address, element)
+    address.wrapping_add(element)
 }
 
-fn targets_of(room: &[u8], layout: Layout, lanes: Lanes) -> Targets
+fn sums_of(room: View<'_>, layout: Layout, lanes: Lanes) -> LaneSums
     requires { layout.lanes ≤ 16 }
-    ensures { WorkedOut room.now layout lanes result.on result.sums }
+    ensures { WorkedOut room.entry.bytes.now layout lanes result.on result.sums }
 {
     let mut on = [false; 16];
     let mut sums = [0u64; 16];
-    let mut lane: u8 = 0;
-    while lane < layout.lanes {
-        let index = lane as usize;
+    for lane in 0..layout.lanes {
+        let index = usize::from(lane);
         on[index] = lanes.on(index);
         sums[index] = lane_sum(room, layout, lane);
-        lane += 1;
     }
-    Targets { on, sums }
+    LaneSums { on, sums }
 }
 
 // 10 over all lanes, 11 over all pairs, 12 over all pairs; then the writes.
 fn from_room(
-    room: &[u8],
-    room_taint: &[u8],
+    room: View<'_>,
     layout: Layout,
     pairs: Pairs,
-    on: &[bool],
-    sums: &[u64],
+    targets: Targets<'_>,
     base: u64,
-    memory: &mut [u8],
-    memory_taint: &mut [u8],
-) -> Status
-    ensures { MemoryDone (room_effect (window base memory.old) layout pairs on.now sums.now (buffer room.now room_taint.now)) result (buffer memory.old memory_taint.old) (buffer memory.new memory_taint.new) }
+    memory: &mut Buffer<'_>,
+) -> Result<(), Refusal>
+    ensures { MemoryDone (room_effect (window base memory.old.bytes.now) layout pairs targets.entry.on.now targets.entry.sums.now (viewed room.entry)) result memory.old memory.new }
 {
-    if scatter_pairs::some_tainted(room_taint, layout, on) {
-        return Status {
-            number: 10,
-            detail: Detail::None,
-        };
+    if scatter_pairs::some_tainted(room, layout, targets) {
+        return Err(Refusal::Doubtful);
     }
-    let misaligned = scatter_pairs::first_breaking(Rule::Aligned, pairs, on, sums);
-    if refusal::is_some(misaligned) {
-        return Status {
-            number: 11,
-            detail: misaligned,
-        };
+    let misaligned = scatter_pairs::first_breaking(Rule::Aligned, pairs, targets);
+    if let Some(pair) = misaligned {
+        return Err(Refusal::Misaligned {
+            channel: pair.channel,
+            lane: pair.lane,
+        });
     }
-    let inside = Rule::Inside(base, memory.len() as u64);
-    let outside = scatter_pairs::first_breaking(inside, pairs, on, sums);
-    if refusal::is_some(outside) {
-        return Status {
-            number: 12,
-            detail: outside,
-        };
+    let length = memory.bytes.len() as u64;
+    let outside = scatter_pairs::first_breaking(Rule::Inside { base, length }, pairs, targets);
+    if let Some(pair) = outside {
+        return Err(Refusal::OutsideWindow {
+            channel: pair.channel,
+            lane: pair.lane,
+        });
     }
-    scatter_writes::write_pairs(
-        room,
-        room_taint,
-        pairs,
-        on,
-        sums,
-        base,
-        memory,
-        memory_taint,
-    );
-    Status {
-        number: 0,
-        detail: Detail::None,
-    }
+    scatter_writes::write_pairs(room, pairs, targets, base, memory);
+    Ok(())
 }
 
 // Whether the lanes are no more than 16, nor the dwords from a channel's data to the next channel's, and the elements of both addresses have room.
 fn fits(plan: Plan) -> bool
-    ensures { result ≡ scatter_fits plan }
+    ensures { result ≡ scatter_fits (plan_of plan) }
 {
     let lanes = exec_byte::split(plan.control.exec).size;
     let left = plan.left;
@@ -137,8 +120,8 @@ fn first_byte(elements: Elements) -> u32
 }
 
 // All sources: the addresses' elements, and the dwords of Src that the enabled channels need.
-fn stage_sources(registers: &[u8], register_taint: &[u8], plan: Plan) -> Room
-    ensures { buffer result.bytes result.taint ≡ sources_staged (buffer registers.now register_taint.now) plan }
+fn stage_sources(registers: View<'_>, plan: Plan) -> Room
+    ensures { in_room result ≡ sources_staged (viewed registers.entry) (plan_of plan) }
 {
     let lanes = exec_byte::split(plan.control.exec).size;
     let left = plan.left;
@@ -146,7 +129,7 @@ fn stage_sources(registers: &[u8], register_taint: &[u8], plan: Plan) -> Room
     let source = plan.payload;
     let from = first_byte(source) as usize;
     let needed = payloads::scatter_needed(plan.stride, plan.control.exec, plan.channels) as usize;
-    staging::stage_with_data(registers, register_taint, left, right, lanes, from, needed)
+    staging::stage_with_data(registers, left, right, lanes, from, needed)
 }
 
 // A scatter of a plan that fits.
@@ -154,62 +137,38 @@ fn scatter_fitting(
     plan: Plan,
     mask: u32,
     base: u64,
-    registers: &[u8],
-    register_taint: &[u8],
-    memory: &mut [u8],
-    memory_taint: &mut [u8],
-) -> Status
-    requires { scatter_fits plan ≡ true }
-    ensures { MemoryDone (scatter_guarded (window base memory.old) mask plan (buffer registers.now register_taint.now)) result (buffer memory.old memory_taint.old) (buffer memory.new memory_taint.new) }
+    registers: View<'_>,
+    memory: &mut Buffer<'_>,
+) -> Result<(), Refusal>
+    requires { scatter_fits (plan_of plan) ≡ true }
+    ensures { MemoryDone (scatter_guarded (window base memory.old.bytes.now) mask (plan_of plan) (viewed registers.entry)) result memory.old memory.new }
 {
     let control = plan.control;
     let lanes = channels::lanes_of(control.exec, control.pred, mask, plan.bits);
     let layout = layout_for(plan);
-    let room = stage_sources(registers, register_taint, plan);
-    let bytes = room.bytes;
-    let taint = room.taint;
-    let targets = targets_of(&bytes, layout, lanes);
-    let on = targets.on;
-    let sums = targets.sums;
-    from_room(
-        &bytes,
-        &taint,
-        layout,
-        pairs_of(plan),
-        &on,
-        &sums,
-        base,
-        memory,
-        memory_taint,
-    )
+    let room = stage_sources(registers, plan);
+    let view = room.view();
+    let worked = sums_of(view, layout, lanes);
+    let targets = Targets {
+        on: &worked.on,
+        sums: &worked.sums,
+    };
+    from_room(view, layout, pairs_of(plan), targets, base, memory)
 }
 
-// The number of a refusal with what it tells, or 0 with the dwords written; 7 for a plan that no check makes.
+// A refusal, with nothing written, or the dwords written; outside is only a plan that no check makes.
 pub fn scatter(
     plan: Plan,
     mask: u32,
     base: u64,
-    registers: &[u8],
-    register_taint: &[u8],
-    memory: &mut [u8],
-    memory_taint: &mut [u8],
-) -> Status
-    ensures { MemoryDone (scatter_guarded (window base memory.old) mask plan (buffer registers.now register_taint.now)) result (buffer memory.old memory_taint.old) (buffer memory.new memory_taint.new) }
+    registers: View<'_>,
+    memory: &mut Buffer<'_>,
+) -> Result<(), Refusal>
+    ensures { MemoryDone (scatter_guarded (window base memory.old.bytes.now) mask (plan_of plan) (viewed registers.entry)) result memory.old memory.new }
 {
     if fits(plan) {
-        scatter_fitting(
-            plan,
-            mask,
-            base,
-            registers,
-            register_taint,
-            memory,
-            memory_taint,
-        )
+        scatter_fitting(plan, mask, base, registers, memory)
     } else {
-        Status {
-            number: 7,
-            detail: Detail::None,
-        }
+        Err(Refusal::Outside)
     }
 }

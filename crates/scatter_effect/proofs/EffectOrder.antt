@@ -9,7 +9,7 @@ use Rattle.cells.specs.Buffer.{Buffer}
 use Rattle.cells.specs.Writes.{Write}
 use Rattle.cells.specs.Over.{each, some}
 use Rattle.cells.specs.Effect.{Effect, unless, unless_found, writing}
-use Rattle.plan.specs.declared.Plan.{Plan}
+use Rattle.plan.specs.Plan.{Plan}
 use Rattle.staging.specs.Sources.{either_tainted}
 use Rattle.scatter_effect.specs.Scatter.{Window, channels_on, misaligned, outside, scatter_pair, first_offending, scatter_effect}
 

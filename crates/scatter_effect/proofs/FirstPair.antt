@@ -16,7 +16,7 @@ use Rattle.bits.specs.Bits.{bit}
 use Rattle.exec_byte.specs.Exec.{exec_size}
 use Rattle.channels.specs.Lanes.{lane_on}
 use Rattle.channels.proofs.LaneLaws.{on-below-size}
-use Rattle.plan.specs.declared.Plan.{Plan}
+use Rattle.plan.specs.Plan.{Plan}
 use Rattle.staging.specs.Lanes.{lanes_on}
 use Rattle.staging.specs.Results.{Enabled}
 use Rattle.staging.specs.Sources.{either_tainted}

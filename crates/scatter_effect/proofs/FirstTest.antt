@@ -10,7 +10,7 @@ use Rattle.cells.specs.Over.{some}
 use Rattle.cells.specs.Effect.{Effect, unless}
 use Rattle.cells.proofs.EffectLaws.{unless-refused, unless-passed}
 use Rattle.cells.proofs.FirstLaws.{found_some}
-use Rattle.plan.specs.declared.Plan.{Plan}
+use Rattle.plan.specs.Plan.{Plan}
 use Rattle.staging.specs.Sources.{either_tainted}
 use Rattle.scatter_effect.specs.Scatter.{Window, channels_on, target, misaligned, outside, first_offending, scatter_effect}
 

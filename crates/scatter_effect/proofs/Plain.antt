@@ -9,7 +9,7 @@ use Rattle.cells.specs.Buffer.{Buffer}
 use Rattle.cells.proofs.Related.{none, each-alike, effects-found}
 use Rattle.cells.proofs.FirstLaws.{pairs-same}
 use Rattle.cells.proofs.Plain.{SameBytes, Plainly, PlainWrites, PlainEffects, some-nowhere, copy-plain, unless-marked}
-use Rattle.plan.specs.declared.Plan.{Plan}
+use Rattle.plan.specs.Plan.{Plan}
 use Rattle.staging.proofs.Plain.{both-plain, either-plain}
 use Rattle.scatter_effect.specs.Scatter.{Window, channels_on, target_address, target, source_byte, misaligned, outside, scatter_pair, first_offending, scatter_effect}
 

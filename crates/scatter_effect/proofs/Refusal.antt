@@ -8,7 +8,7 @@ use Rattle.cells.specs.Buffer.{Buffer}
 use Rattle.cells.specs.Effect.{Effect, unless}
 use Rattle.cells.proofs.EffectLaws.{unless-refused, unless-passed}
 use Rattle.cells.proofs.RefusalLaws.{WritesOnlyWhenDone, done-writes, unless-writes}
-use Rattle.plan.specs.declared.Plan.{Plan}
+use Rattle.plan.specs.Plan.{Plan}
 use Rattle.scatter_effect.specs.Scatter.{Window, scatter_effect}
 
 pub scatter-writes : (w : Window) (p : Plan) (lanes : List ℕ) (b : Buffer) → WritesOnlyWhenDone (scatter_effect w p lanes b)

@@ -9,7 +9,7 @@ use Rattle.cells.specs.Over.{some}
 use Rattle.cells.proofs.Related.{none, each-alike, each-where}
 use Rattle.cells.proofs.Untainted.{SameUntainted, Agreeing, AlikeEffects, AlikeWrites, copy-alike, unless-alike, found_alike, some_same}
 use Rattle.cells.proofs.FirstLaws.{pairs-where}
-use Rattle.plan.specs.declared.Plan.{Plan}
+use Rattle.plan.specs.Plan.{Plan}
 use Rattle.staging.specs.Sources.{either_tainted}
 use Rattle.staging.proofs.Untainted.{both-same, either_same}
 use Rattle.scatter_effect.specs.Scatter.{Window, channels_on, target_address, target, source_byte, misaligned, outside, scatter_pair, first_offending, scatter_effect}

@@ -3,7 +3,7 @@
 use Rattle.std.specs.Prelude.{ℕ, ◌≡◌, Bool, true, false, List}
 use Rattle.refusal.specs.declared.Detail.{Detail}
 use Rattle.refusal.specs.declared.Detail.TheVariants as detail
-use Rattle.plan.specs.declared.Plan.{Plan}
+use Rattle.plan.specs.Plan.{Plan}
 use Rattle.scatter_effect.specs.Scatter.{Window, target, misaligned, outside}
 use Rattle.scatter_effect.specs.Results.{EnabledPair, Later}
 

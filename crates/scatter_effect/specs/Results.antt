@@ -4,7 +4,7 @@ use Rattle.std.specs.Prelude.{ℕ, ◌+◌, ◌-◌, ◌<◌, ◌≡◌, ◌⊎�
 use Rattle.cells.specs.Buffer.{Buffer, is_tainted, mark_of}
 use Rattle.cells.specs.Results.{Kept, Holds, Outside}
 use Rattle.bits.specs.Bits.{bit}
-use Rattle.plan.specs.declared.Plan.{Plan}
+use Rattle.plan.specs.Plan.{Plan}
 use Rattle.staging.specs.Results.{Enabled}
 use Rattle.scatter_effect.specs.Scatter.{Window, target, source_byte}
 

@@ -7,7 +7,7 @@ use Rattle.cells.specs.Writes.{Write, copy_writes}
 use Rattle.cells.specs.Over.{among, each, some, first_pair}
 use Rattle.cells.specs.Effect.{Effect, unless, unless_found, writing}
 use Rattle.bits.specs.Bits.{bit}
-use Rattle.plan.specs.declared.Plan.{Plan}
+use Rattle.plan.specs.Plan.{Plan}
 use Rattle.payloads.specs.Needed.{enabled_below}
 use Rattle.staging.specs.Sources.{element_value, either_tainted}
 

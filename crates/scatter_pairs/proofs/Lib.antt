@@ -1,2 +1,1 @@
-pub mod WindowLaws
 pub mod SearchLaws

@@ -3,32 +3,28 @@
 #![tactic(auto)]
 
 ghost use Rattle.std.specs.Prelude.{◌≡◌, false, ◌&&◌, slice_index, slice_index_or};
+ghost use Rattle.bits.specs.Bits.{bit};
 ghost use Rattle.staging.specs.Mirror.Room.{either_staged};
 ghost use Rattle.scatter_effect.specs.Scatter.{outside};
 ghost use Rattle.scatter_pairs.specs.Mirror.Rules.{breaks};
-ghost use Rattle.scatter_pairs.specs.Mirror.Search.{target_from, some_tainted, first_breaking};
+ghost use Rattle.scatter_pairs.specs.Mirror.Search.{target_from, some_tainted, detail_found, first_breaking};
 
-use refusal::Detail;
+use cells::View;
 use staging::Layout;
 
 // What every target address has to meet. The window is given by its base and its length.
 #[derive(Clone, Copy)]
 pub enum Rule {
     Aligned,
-    Inside(u64, u64),
+    Inside { base: u64, length: u64 },
 }
 
 // Whether the four bytes at an address are not all in the window. A sum that could wrap is never taken.
+#[tactic(auto, unfolding(scatter_effect::specs::Scatter::outside))]
 fn outside(base: u64, length: u64, address: u64) -> bool
     ensures { result ≡ outside (record { base = base; length = length }) address }
 {
-    if length < 4 {
-        return true;
-    }
-    if address < base {
-        return true;
-    }
-    length - 4 < address - base
+    length < 4 || address < base || length - 4 < address - base
 }
 
 fn breaks(rule: Rule, address: u64) -> bool
@@ -36,7 +32,7 @@ fn breaks(rule: Rule, address: u64) -> bool
 {
     match rule {
         Rule::Aligned => address % 4 != 0,
-        Rule::Inside(base, length) => outside(base, length, address),
+        Rule::Inside { base, length } => outside(base, length, address),
     }
 }
 
@@ -50,72 +46,90 @@ pub struct Pairs {
     pub first: u32,
 }
 
-// Whether a lane is on, of those that were worked out.
-pub fn on_at(on: &[bool], lane: u8) -> bool
-    ensures { result ≡ slice_index_or on.now lane false }
-{
-    let index = lane as usize;
-    if index < on.len() { on[index] } else { false }
+impl Pairs {
+    // Whether a channel is enabled.
+    pub fn has_channel(self, channel: u8) -> bool
+        ensures { result ≡ bit self.channels channel }
+    {
+        channels::bit_at(u32::from(self.channels), usize::from(channel))
+    }
 }
 
-// The sum of a lane's address and its element offset, of those that were worked out.
-pub fn sum_at(sums: &[u64], lane: u8) -> u64
-    ensures { result ≡ slice_index sums.now lane }
-{
-    let index = lane as usize;
-    if index < sums.len() { sums[index] } else { 0 }
+// A channel of a lane.
+#[derive(Clone, Copy)]
+pub struct Pair {
+    pub channel: u8,
+    pub lane: u8,
+}
+
+// What was worked out once for each lane: whether it is on, and the sum of its address and its element offset.
+#[derive(Clone, Copy)]
+pub struct Targets<'a> {
+    pub on: &'a [bool],
+    pub sums: &'a [u64],
+}
+
+impl Targets<'_> {
+    // Whether a lane is on; one that was not worked out is not.
+    pub fn on_at(self, lane: u8) -> bool
+        ensures { result ≡ slice_index_or self.entry.on.now lane false }
+    {
+        self.on.get(usize::from(lane)).copied().unwrap_or(false)
+    }
+
+    // The sum of a lane's address and its element offset; 0 where it was not worked out.
+    pub fn sum_at(self, lane: u8) -> u64
+        ensures { result ≡ slice_index self.entry.sums.now lane }
+    {
+        self.sums.get(usize::from(lane)).copied().unwrap_or(0)
+    }
 }
 
 // The address that a channel of a lane goes to, modulo 2^64.
+#[tactic(auto, unfolding(crate::specs::Mirror::Search::target_from))]
 pub fn target_from(sum: u64, channel: u8) -> u64
     ensures { result ≡ target_from sum channel }
 {
-    std::num::wrapping_add_u64(sum, 4 * (channel as u64))
+    sum.wrapping_add(4 * u64::from(channel))
 }
 
-fn lane_tainted(taint: &[u8], layout: Layout, on: &[bool], lane: u8) -> bool
-    ensures { result ≡ (slice_index_or on.now lane false && either_staged taint.now layout lane) }
+fn lane_tainted(room: View<'_>, layout: Layout, targets: Targets<'_>, lane: u8) -> bool
+    ensures { result ≡ (slice_index_or targets.entry.on.now lane false && either_staged room.entry.taint.now layout lane) }
 {
-    on_at(on, lane) & staging::either_taint(taint, layout, lane)
+    targets.on_at(lane) & staging::either_taint(room, layout, lane)
 }
 
 // Whether an address is doubtful, over all enabled lanes. No address is looked at.
-pub fn some_tainted(taint: &[u8], layout: Layout, on: &[bool]) -> bool
-    ensures { result ≡ some_tainted taint.now layout on.now }
+pub fn some_tainted(room: View<'_>, layout: Layout, targets: Targets<'_>) -> bool
+    ensures { result ≡ some_tainted room.entry.taint.now layout targets.entry.on.now }
 {
     let mut found = false;
-    let mut lane: u8 = 0;
-    while lane < layout.lanes {
-        found |= lane_tainted(taint, layout, on, lane);
-        lane += 1;
+    for lane in 0..layout.lanes {
+        found |= lane_tainted(room, layout, targets, lane);
     }
     found
 }
 
-fn lane_breaks(rule: Rule, on: &[bool], sums: &[u64], channel: u8, lane: u8) -> bool
-    ensures { result ≡ (slice_index_or on.now lane false && breaks rule (target_from (slice_index sums.now lane) channel)) }
+fn lane_breaks(rule: Rule, targets: Targets<'_>, channel: u8, lane: u8) -> bool
+    ensures { result ≡ (slice_index_or targets.entry.on.now lane false && breaks rule (target_from (slice_index targets.entry.sums.now lane) channel)) }
 {
-    on_at(on, lane) & breaks(rule, target_from(sum_at(sums, lane), channel))
+    targets.on_at(lane) & breaks(rule, target_from(targets.sum_at(lane), channel))
 }
 
 // The first enabled pair of a channel and a lane that breaks a rule: it ends the search.
-pub fn first_breaking(rule: Rule, pairs: Pairs, on: &[bool], sums: &[u64]) -> Detail
-    ensures { result ≡ first_breaking rule pairs on.now sums.now }
+pub fn first_breaking(rule: Rule, pairs: Pairs, targets: Targets<'_>) -> Option<Pair>
+    ensures { detail_found result ≡ first_breaking rule pairs targets.entry.on.now targets.entry.sums.now }
 {
-    let mut found = Detail::None;
-    let mut channel: u8 = 0;
-    'search: while channel < 4 {
-        if channels::bit_at(pairs.channels as u32, channel as usize) {
-            let mut lane: u8 = 0;
-            while lane < pairs.lanes {
-                if lane_breaks(rule, on, sums, channel, lane) {
-                    found = Detail::Pair(channel, lane);
+    let mut found = None;
+    'search: for channel in 0..4u8 {
+        if pairs.has_channel(channel) {
+            'lanes: for lane in 0..pairs.lanes {
+                if lane_breaks(rule, targets, channel, lane) {
+                    found = Some(Pair { channel, lane });
                     break 'search;
                 }
-                lane += 1;
             }
         }
-        channel += 1;
     }
     found
 }

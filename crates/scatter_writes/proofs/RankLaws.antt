@@ -7,8 +7,3 @@ use Rattle.payloads.proofs.ChannelLaws.{enabled-next}
 
 pub rank-turn : (channels k count : ℕ) → count ≡ enabled_below channels k → count + channels / 2 ^ k % 2 ≡ enabled_below channels (k + 1)
 rank-turn channels k count e = ap (λ (n : ℕ). n + channels / 2 ^ k % 2) e ∙ sym (enabled-next channels k)
-
-pub rank-over : (channels channel k count : ℕ) → k ≤ channel → channel ≤ k → count ≡ enabled_below channels k → count ≡ enabled_below channels channel
-rank-over channels channel k count h g e =
-    let same : k ≡ channel = omega arith in
-    e ∙ ap (enabled_below channels) same

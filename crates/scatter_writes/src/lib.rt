@@ -3,24 +3,23 @@
 #![tactic(auto)]
 
 ghost use Rattle.std.specs.Prelude.{◌≡◌, false, cond, [], ◌-◌, ◌≤◌, get_or};
-ghost use Rattle.cells.specs.Buffer.{buffer};
 ghost use Rattle.cells.specs.Writes.{written_all};
+ghost use Rattle.cells.specs.Lent.{viewed, held, Becomes};
 ghost use Rattle.bits.specs.Bits.{bit};
 ghost use Rattle.payloads.specs.Needed.{enabled_below};
 ghost use Rattle.scatter_writes.specs.Mirror.Writes.{row_place, pair_writes, row_writes, all_writes};
 
-use scatter_pairs::Pairs;
+use cells::{Buffer, View};
+use scatter_pairs::{Pairs, Targets};
 
 // The number of enabled channels below one.
 fn rank(channels: u8, channel: u8) -> u8
     requires { channel ≤ 4 }
     ensures { result ≡ enabled_below channels channel }
 {
-    let mut count: u8 = 0;
-    let mut k: u8 = 0;
-    while k < channel {
+    let mut count = 0;
+    for k in 0..channel {
         count += (channels >> k) % 2;
-        k += 1;
     }
     count
 }
@@ -38,126 +37,74 @@ fn row_place(pairs: Pairs, channel: u8) -> usize
 fn memory_place(base: u64, address: u64) -> usize
     ensures { result ≡ address - base }
 {
-    if base <= address {
-        (address - base) as usize
-    } else {
-        0
-    }
+    address.saturating_sub(base) as usize
 }
 
 fn write_lane(
-    room: &[u8],
-    room_taint: &[u8],
+    room: View<'_>,
     begin: usize,
-    on: &[bool],
-    sums: &[u64],
+    targets: Targets<'_>,
     base: u64,
     channel: u8,
     lane: u8,
-    memory: &mut [u8],
-    memory_taint: &mut [u8],
+    memory: &mut Buffer<'_>,
 )
     requires { begin ≤ 8589934592 }
-    ensures { buffer memory.new memory_taint.new ≡ written_all (cond (get_or on.now lane false) (pair_writes base (buffer room.now room_taint.now) begin (get_or sums.now lane 0) channel lane) []) (buffer memory.old memory_taint.old) }
+    ensures { Becomes memory.old memory.new (written_all (cond (get_or targets.entry.on.now lane false) (pair_writes base (viewed room.entry) begin (get_or targets.entry.sums.now lane 0) channel lane) []) (held memory.old)) }
 {
-    if scatter_pairs::on_at(on, lane) {
+    if targets.on_at(lane) {
         let from = begin + 4 * (lane as usize);
-        let sum = scatter_pairs::sum_at(sums, lane);
+        let sum = targets.sum_at(lane);
         let to = memory_place(base, scatter_pairs::target_from(sum, channel));
-        cell_writes::copy_dword(room, room_taint, from, memory, memory_taint, to);
+        cell_writes::copy_dword(room, from, memory, to);
     }
 }
 
 fn write_row(
-    room: &[u8],
-    room_taint: &[u8],
+    room: View<'_>,
     begin: usize,
-    on: &[bool],
-    sums: &[u64],
+    targets: Targets<'_>,
     lanes: u8,
     base: u64,
     channel: u8,
-    memory: &mut [u8],
-    memory_taint: &mut [u8],
+    memory: &mut Buffer<'_>,
 )
     requires { begin ≤ 8589934592 }
-    ensures { buffer memory.new memory_taint.new ≡ written_all (row_writes base (buffer room.now room_taint.now) begin on.now sums.now lanes channel) (buffer memory.old memory_taint.old) }
+    ensures { Becomes memory.old memory.new (written_all (row_writes base (viewed room.entry) begin targets.entry.on.now targets.entry.sums.now lanes channel) (held memory.old)) }
 {
-    let mut lane: u8 = 0;
-    while lane < lanes {
-        write_lane(
-            room,
-            room_taint,
-            begin,
-            on,
-            sums,
-            base,
-            channel,
-            lane,
-            memory,
-            memory_taint,
-        );
-        lane += 1;
+    for lane in 0..lanes {
+        write_lane(room, begin, targets, base, channel, lane, memory);
     }
 }
 
 fn write_channel(
-    room: &[u8],
-    room_taint: &[u8],
+    room: View<'_>,
     pairs: Pairs,
-    on: &[bool],
-    sums: &[u64],
+    targets: Targets<'_>,
     base: u64,
     channel: u8,
-    memory: &mut [u8],
-    memory_taint: &mut [u8],
+    memory: &mut Buffer<'_>,
 )
     requires { channel ≤ 4 }
-    ensures { buffer memory.new memory_taint.new ≡ written_all (cond (bit pairs.channels channel) (row_writes base (buffer room.now room_taint.now) (row_place pairs channel) on.now sums.now pairs.lanes channel) []) (buffer memory.old memory_taint.old) }
+    ensures { Becomes memory.old memory.new (written_all (cond (bit pairs.channels channel) (row_writes base (viewed room.entry) (row_place pairs channel) targets.entry.on.now targets.entry.sums.now pairs.lanes channel) []) (held memory.old)) }
 {
-    if channels::bit_at(pairs.channels as u32, channel as usize) {
+    if pairs.has_channel(channel) {
         let begin = row_place(pairs, channel);
-        write_row(
-            room,
-            room_taint,
-            begin,
-            on,
-            sums,
-            pairs.lanes,
-            base,
-            channel,
-            memory,
-            memory_taint,
-        );
+        write_row(room, begin, targets, pairs.lanes, base, channel, memory);
     }
 }
 
 // Channel outer, lane inner: the later write stays.
 pub fn write_pairs(
-    room: &[u8],
-    room_taint: &[u8],
+    room: View<'_>,
     pairs: Pairs,
-    on: &[bool],
-    sums: &[u64],
+    targets: Targets<'_>,
     base: u64,
-    memory: &mut [u8],
-    memory_taint: &mut [u8],
+    memory: &mut Buffer<'_>,
 )
-    ensures { buffer memory.new memory_taint.new ≡ written_all (all_writes base (buffer room.now room_taint.now) pairs on.now sums.now) (buffer memory.old memory_taint.old) }
+    ensures { Becomes memory.old memory.new (written_all (all_writes base (viewed room.entry) pairs targets.entry.on.now targets.entry.sums.now) (held memory.old)) }
 {
-    let mut channel: u8 = 0;
-    while channel < 4 {
-        write_channel(
-            room,
-            room_taint,
-            pairs,
-            on,
-            sums,
-            base,
-            channel,
-            memory,
-            memory_taint,
-        );
-        channel += 1;
+    for channel in 0..4 {
+        write_channel(room, pairs, targets, base, channel, memory);
     }
 }

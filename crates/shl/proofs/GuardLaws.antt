@@ -3,23 +3,28 @@ use Prim.Native.Nat.{ℕ}
 use mathlib.Core.Path.{◌≡◌, refl, sym, ap, ◌∙◌}
 use mathlib.Core.Bool.{Bool, true, false, not}
 use borrow.Author.Tests.{not-true, not-false}
+use Rattle.cells.specs.declared.Buffer as lent
 use Rattle.cells.specs.Buffer.{Buffer}
+use Rattle.cells.specs.Lent.{held, Becomes}
 use Rattle.cells.specs.Writes.{written_all}
 use Rattle.cells.specs.Over.{among, each}
+use Rattle.std.specs.Prelude.{Ok, Err}
 use Rattle.refusal.specs.declared.Detail.TheVariants as detail
+use Rattle.refusal.specs.declared.Refusal.TheVariants as refusal
 use Rattle.cells.specs.Effect.{refused, RegistersDone}
-use Rattle.cells.proofs.EffectLaws.{unless-refused, unless-passed, nothing_written}
+use Rattle.cells.proofs.EffectLaws.{unless-refused, unless-passed, registers-refused}
 use Rattle.cells.proofs.LaneLaws.{lanes-alike}
 use Rattle.exec_byte.specs.Exec.{exec_size}
 use Rattle.channels.specs.Lanes.{lane_on}
 use Rattle.channels.specs.declared.Lanes.{Lanes}
 use Rattle.channels.specs.Mirror.Prepared.{lanes_of, is_on}
-use Rattle.plan.specs.declared.Plan.{Plan}
+use Rattle.plan.specs.Plan.{Plan}
 use Rattle.staging.specs.Lanes.{lanes_on}
 use Rattle.staging.specs.Mirror.Room.{both_staged}
 use Rattle.staging.proofs.LanesOnLaws.{lanes-on-are, prepared-lanes-are}
 use Rattle.shl.specs.declared.Shape.{Shape}
 use Rattle.shl_effect.specs.Shl.{shl_lane, shl_effect}
+use Rattle.shl_effect.proofs.Refusal.{shl-number, shl-detail}
 use Rattle.shl.specs.Mirror.FromRoom.{shape_of, room_lane}
 use Rattle.shl.specs.Mirror.Guarded.{shl_fits, shl_guarded}
 use Rattle.shl.proofs.RoomLaws.{room-lane-is}
@@ -34,11 +39,6 @@ module _ (mask : ℕ) (p : Plan) (b : Buffer) where
   unfolding shl_guarded
   guard-passes e = unless-passed _ 7 _ _ (ap not e)
 
-  pub shl-refused : (fit : Bool) → fit ≡ shl_fits p → not fit ≡ true → RegistersDone (shl_guarded mask p b) 7 b b
-  shl-refused fit f e =
-      let g = guard-refuses (sym f ∙ not-true fit e) in
-      (rw g, rw g (sym (nothing_written b)))
-
   abbrev room : Buffer
   room = both_staged b p.left p.right (exec_size p.control.exec)
 
@@ -51,13 +51,15 @@ module _ (mask : ℕ) (p : Plan) (b : Buffer) where
   unfolding shl_effect
   effect_writes = refl
 
-  effect-number : (shl_effect p (lanes_on mask p) b).number ≡ 0
-  unfolding shl_effect
-  effect-number = refl
+
+-- what the code does with the registers that it is lent
+module _ (mask : ℕ) (p : Plan) (b : lent.Buffer) where
+  pub shl-refused : (fit : Bool) → fit ≡ shl_fits p → not fit ≡ true → RegistersDone (shl_guarded mask p (held b)) (Err refusal.Outside) b b
+  shl-refused fit f e = registers-refused _ refusal.Outside b (guard-refuses mask p (held b) (sym f ∙ not-true fit e))
 
   -- all lanes, as the code worked them out: with the plan's shape and lanes, from the room
-  pub shl-done : (fit : Bool) (s : Shape) (lanes : Lanes) (staged b' : Buffer) → fit ≡ shl_fits p → not fit ≡ false → s ≡ shape_of p → lanes ≡ lanes_of p.control.exec p.control.pred mask p.bits → staged ≡ both_staged b p.left p.right s.layout.lanes → b' ≡ written_all (each (room_lane staged s p.payload.at) (among (is_on lanes) s.layout.lanes)) b → RegistersDone (shl_guarded mask p b) 0 b b'
-  shl-done fit s lanes staged b' f e shaped prepared there made =
+  pub shl-done : (fit : Bool) (s : Shape) (lanes : Lanes) (seen staged : Buffer) (b' : lent.Buffer) → fit ≡ shl_fits p → not fit ≡ false → s ≡ shape_of p → lanes ≡ lanes_of p.control.exec p.control.pred mask p.bits → seen ≡ held b → staged ≡ both_staged seen p.left p.right s.layout.lanes → Becomes b b' (written_all (each (room_lane staged s p.payload.at) (among (is_on lanes) s.layout.lanes)) (held b)) → RegistersDone (shl_guarded mask p (held b)) (Ok tt) b b'
+  shl-done fit s lanes seen staged b' f e shaped prepared same there made =
       let fits = sym f ∙ not-false fit e in
-      let g = guard-passes fits in
-      (rw (g, effect-number), rw (g, effect_writes, ← same_writes fits, ← prepared-lanes-are mask p) (rw (there, shaped, prepared) at made))
+      let g = guard-passes mask p (held b) fits in
+      (rw (g, shl-number p (lanes_on mask p) (held b)), rw (g, shl-detail p (lanes_on mask p) (held b)), rw (g, effect_writes mask p (held b), ← same_writes mask p (held b) fits, ← prepared-lanes-are mask p) (rw (there, same, shaped, prepared) at made))

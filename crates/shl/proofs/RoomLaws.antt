@@ -11,7 +11,7 @@ use Rattle.cells.specs.Writes.{number_writes}
 use Rattle.exec_byte.specs.Exec.{exec_size, exec_of}
 use Rattle.exec_byte.specs.declared.Exec.{Exec}
 use Rattle.shift.proofs.ShiftLaws.{total-is}
-use Rattle.plan.specs.declared.Plan.{Plan}
+use Rattle.plan.specs.Plan.{Plan}
 use Rattle.staging.specs.Sources.{element_value}
 use Rattle.staging.specs.Mirror.Room.{layout_of, elements_fit, both_staged, either_staged}
 use Rattle.staging.proofs.FitLaws.{all_three, fit-lanes, fit-size}

@@ -6,8 +6,8 @@ use borrow.Author.Tests.{le-leb}
 use Rattle.exec_byte.specs.Exec.{exec_size}
 use Rattle.field_groups.specs.declared.Control.{Control}
 use Rattle.operands.specs.declared.TypeRule.TheVariants as rule
-use Rattle.plan.specs.declared.Plan.{Plan}
-use Rattle.plan.specs.declared.Operation.TheVariants as operation
+use Rattle.plan.specs.Plan.{Plan}
+use Rattle.plan.specs.Operation as operation
 use Rattle.plan.proofs.InstructionLaws.{Keeps}
 use Rattle.staging.proofs.FitLaws.{elements-fit}
 use Rattle.shl.specs.Mirror.Guarded.{shl_fits}

@@ -3,21 +3,24 @@
 #![tactic(auto)]
 
 ghost use Rattle.std.specs.Prelude.{◌≡◌, cond, [], ◌≤◌};
-ghost use Rattle.cells.specs.Buffer.{buffer};
 ghost use Rattle.cells.specs.Writes.{written_all};
+ghost use Rattle.cells.specs.Lent.{viewed, held, Becomes};
 ghost use Rattle.cells.specs.Over.{among, each};
 ghost use Rattle.cells.specs.Effect.{RegistersDone};
+ghost use Rattle.plan.specs.Planned.{plan_of};
 ghost use Rattle.channels.specs.Mirror.Prepared.{is_on};
 ghost use Rattle.shl.specs.Mirror.FromRoom.{shape_of, room_value, room_writes, room_lane};
 ghost use Rattle.shl.specs.Mirror.Guarded.{shl_fits, shl_guarded};
 
+use cells::{Buffer, View};
 use channels::Lanes;
 use plan::Plan;
+use refusal::Refusal;
 use staging::Layout;
 
 // Whether the sources have room, and are small enough to be shifted.
 fn fits(plan: Plan) -> bool
-    ensures { result ≡ shl_fits plan }
+    ensures { result ≡ shl_fits (plan_of plan) }
 {
     let lanes = exec_byte::split(plan.control.exec).size;
     let left = plan.left;
@@ -36,7 +39,7 @@ struct Shape {
 }
 
 fn shape_of(plan: Plan) -> Shape
-    ensures { result ≡ shape_of plan }
+    ensures { result ≡ shape_of (plan_of plan) }
 {
     let left = plan.left;
     let right = plan.right;
@@ -48,34 +51,24 @@ fn shape_of(plan: Plan) -> Shape
     }
 }
 
-fn lane_value(bytes: &[u8], shape: Shape, lane: u8) -> u64
-    ensures { result ≡ room_value bytes.now shape lane }
+fn lane_value(room: View<'_>, shape: Shape, lane: u8) -> u64
+    ensures { result ≡ room_value room.entry.bytes.now shape lane }
 {
     let layout = shape.layout;
-    let value = staging::first_number(bytes, layout, lane);
-    let count = staging::second_number(bytes, layout, lane);
+    let value = staging::first_number(room, layout, lane);
+    let count = staging::second_number(room, layout, lane);
     shift::shift(shape.signed, layout.first, value, count, shape.size)
 }
 
 // A lane that is off writes nothing.
-fn write_lane(
-    shape: Shape,
-    on: bool,
-    at: u32,
-    lane: u8,
-    bytes: &[u8],
-    taint: &[u8],
-    registers: &mut [u8],
-    register_taint: &mut [u8],
-)
-    ensures { buffer registers.new register_taint.new ≡ written_all (cond on (room_writes (buffer bytes.now taint.now) shape at lane) []) (buffer registers.old register_taint.old) }
+fn write_lane(shape: Shape, on: bool, at: u32, lane: u8, room: View<'_>, registers: &mut Buffer<'_>)
+    ensures { Becomes registers.old registers.new (written_all (cond on (room_writes (viewed room.entry) shape at lane) []) (held registers.old)) }
 {
     if on {
-        let value = lane_value(bytes, shape, lane);
-        let layout = shape.layout;
-        let tainted = staging::either_taint(taint, layout, lane);
+        let value = lane_value(room, shape, lane);
+        let tainted = staging::either_taint(room, shape.layout, lane);
         let place = at as usize;
-        cell_writes::set_number(registers, register_taint, place, shape.size, value, tainted);
+        cell_writes::set_number(registers, place, shape.size, value, tainted);
     }
 }
 
@@ -84,31 +77,26 @@ fn write_lanes(
     shape: Shape,
     lanes: Lanes,
     positions: &[u32; 32],
-    bytes: &[u8],
-    taint: &[u8],
-    registers: &mut [u8],
-    register_taint: &mut [u8],
+    room: View<'_>,
+    registers: &mut Buffer<'_>,
 )
     requires { shape.layout.lanes ≤ 32 }
-    ensures { buffer registers.new register_taint.new ≡ written_all (each (room_lane (buffer bytes.now taint.now) shape positions.now) (among (is_on lanes) shape.layout.lanes)) (buffer registers.old register_taint.old) }
+    ensures { Becomes registers.old registers.new (written_all (each (room_lane (viewed room.entry) shape positions.now) (among (is_on lanes) shape.layout.lanes)) (held registers.old)) }
 {
-    let size = shape.layout.lanes;
-    let mut lane: u8 = 0;
-    while lane < size {
-        let index = lane as usize;
+    for lane in 0..shape.layout.lanes {
+        let index = usize::from(lane);
         let on = lanes.on(index);
         let at = positions[index];
-        write_lane(shape, on, at, lane, bytes, taint, registers, register_taint);
-        lane += 1;
+        write_lane(shape, on, at, lane, room, registers);
     }
 }
 
-// Number 0, or 7 with nothing written for a plan that no check makes.
-pub fn shl(plan: Plan, mask: u32, registers: &mut [u8], register_taint: &mut [u8]) -> u8
-    ensures { RegistersDone (shl_guarded mask plan (buffer registers.old register_taint.old)) result (buffer registers.old register_taint.old) (buffer registers.new register_taint.new) }
+// Refused, with nothing written, is only a plan that no check makes.
+pub fn shl(plan: Plan, mask: u32, registers: &mut Buffer<'_>) -> Result<(), Refusal>
+    ensures { RegistersDone (shl_guarded mask (plan_of plan) (held registers.old)) result registers.old registers.new }
 {
     if !fits(plan) {
-        return 7;
+        return Err(Refusal::Outside);
     }
     let shape = shape_of(plan);
     let control = plan.control;
@@ -116,17 +104,7 @@ pub fn shl(plan: Plan, mask: u32, registers: &mut [u8], register_taint: &mut [u8
     let positions = plan.payload.at;
     let left = plan.left;
     let right = plan.right;
-    let room = staging::stage_both(registers, register_taint, left, right, shape.layout.lanes);
-    let bytes = room.bytes;
-    let taint = room.taint;
-    write_lanes(
-        shape,
-        lanes,
-        &positions,
-        &bytes,
-        &taint,
-        registers,
-        register_taint,
-    );
-    0
+    let room = staging::stage_both(registers.view(), left, right, shape.layout.lanes);
+    write_lanes(shape, lanes, &positions, room.view(), registers);
+    Ok(())
 }

@@ -17,7 +17,7 @@ use Rattle.cells.proofs.NumberWriteLaws.{number-held}
 use Rattle.exec_byte.specs.Exec.{exec_size}
 use Rattle.shift.proofs.SpanLaws.{span-bytes}
 use Rattle.shift.proofs.ShiftLaws.{shifted-small}
-use Rattle.plan.specs.declared.Plan.{Plan}
+use Rattle.plan.specs.Plan.{Plan}
 use Rattle.plan.proofs.PlanLaws.{ShlSound}
 use Rattle.staging.specs.Lanes.{lanes_on}
 use Rattle.staging.specs.Results.{Enabled, destination}

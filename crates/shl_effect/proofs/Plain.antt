@@ -7,7 +7,7 @@ use Rattle.cells.specs.Buffer.{Buffer}
 use Rattle.cells.proofs.Related.{none, each-alike}
 use Rattle.cells.proofs.Plain.{SameBytes, Plainly, PlainWrites, PlainEffects, untainted-mark, number-plain}
 use Rattle.shift.specs.Exact.{shifted}
-use Rattle.plan.specs.declared.Plan.{Plan}
+use Rattle.plan.specs.Plan.{Plan}
 use Rattle.staging.proofs.Plain.{both-plain, either-plain}
 use Rattle.shl_effect.specs.Shl.{shl_value, shl_mark, shl_lane, shl_effect}
 

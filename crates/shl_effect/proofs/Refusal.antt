@@ -5,7 +5,7 @@ use Prim.Native.Nat.{ℕ}
 use Rattle.refusal.specs.declared.Detail.TheVariants as detail
 use Rattle.cells.specs.Buffer.{Buffer}
 use Rattle.cells.proofs.RefusalLaws.{WritesOnlyWhenDone, done-writes}
-use Rattle.plan.specs.declared.Plan.{Plan}
+use Rattle.plan.specs.Plan.{Plan}
 use Rattle.shl_effect.specs.Shl.{shl_effect}
 
 pub shl-writes : (p : Plan) (lanes : List ℕ) (b : Buffer) → WritesOnlyWhenDone (shl_effect p lanes b)

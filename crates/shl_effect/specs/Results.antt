@@ -4,7 +4,7 @@ use Rattle.std.specs.Prelude.{ℕ, ◌+◌, ◌/◌, ◌%◌, ◌^◌, ◌<◌, 
 use Rattle.cells.specs.Buffer.{Buffer}
 use Rattle.cells.specs.Element.{element}
 use Rattle.cells.specs.Results.{Kept, Holds, Outside}
-use Rattle.plan.specs.declared.Plan.{Plan}
+use Rattle.plan.specs.Plan.{Plan}
 use Rattle.staging.specs.Results.{Enabled, destination}
 use Rattle.shl_effect.specs.Shl.{shl_value, shl_mark}
 

@@ -5,7 +5,7 @@ use Rattle.cells.specs.Writes.{Write, number_writes}
 use Rattle.cells.specs.Over.{each}
 use Rattle.cells.specs.Effect.{Effect, writing}
 use Rattle.shift.specs.Exact.{shifted}
-use Rattle.plan.specs.declared.Plan.{Plan}
+use Rattle.plan.specs.Plan.{Plan}
 use Rattle.staging.specs.Sources.{element_value, either_tainted}
 
 -- "Source read exactly (signed types signed), times 2^(count mod 32), taken modulo 2^(destination bits)."

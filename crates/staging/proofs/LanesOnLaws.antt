@@ -7,7 +7,7 @@ use Rattle.exec_byte.specs.Exec.{exec_size}
 use Rattle.channels.specs.Lanes.{lane_on}
 use Rattle.channels.specs.Mirror.Prepared.{lanes_of, is_on}
 use Rattle.channels.proofs.LaneLaws.{on-lanes}
-use Rattle.plan.specs.declared.Plan.{Plan}
+use Rattle.plan.specs.Plan.{Plan}
 use Rattle.staging.specs.Lanes.{lanes_on}
 
 pub lanes-on-are : (mask : ℕ) (p : Plan) → lanes_on mask p ≡ among (lane_on p.control.exec p.control.pred mask p.bits) (exec_size p.control.exec)

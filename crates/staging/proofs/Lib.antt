@@ -1,5 +1,4 @@
 pub mod LanesOnLaws
-pub mod LaneTurnLaws
 pub mod Products
 pub mod StageLaws
 pub mod ReadLaws

@@ -18,7 +18,7 @@ use Rattle.cells.proofs.LaneStayLaws.{lanes-outside, lane-stays}
 use Rattle.exec_byte.specs.Exec.{exec_size}
 use Rattle.channels.specs.Lanes.{lane_on}
 use Rattle.channels.proofs.LaneLaws.{on-below-size}
-use Rattle.plan.specs.declared.Plan.{Plan}
+use Rattle.plan.specs.Plan.{Plan}
 use Rattle.staging.specs.Lanes.{lanes_on}
 use Rattle.staging.proofs.LanesOnLaws.{lanes-on-are}
 

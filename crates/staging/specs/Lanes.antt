@@ -3,7 +3,7 @@ use Rattle.std.specs.Prelude.{ℕ, List}
 use Rattle.cells.specs.Over.{among}
 use Rattle.exec_byte.specs.Exec.{exec_size}
 use Rattle.channels.specs.Lanes.{lane_on}
-use Rattle.plan.specs.declared.Plan.{Plan}
+use Rattle.plan.specs.Plan.{Plan}
 
 -- the mask is the paper's EM
 unfoldable pub lanes_on : ℕ → Plan → List ℕ

@@ -2,3 +2,4 @@ pub mod Lanes
 pub mod Sources
 pub mod Results
 pub mod Mirror
+pub mod Staged

@@ -1,7 +1,7 @@
 -- The words in which the results of lanes are told.
 use Rattle.std.specs.Prelude.{ℕ, ◌≡◌, true, get_or}
 use Rattle.channels.specs.Lanes.{lane_on}
-use Rattle.plan.specs.declared.Plan.{Plan}
+use Rattle.plan.specs.Plan.{Plan}
 
 -- "Channel n is on"
 abbrev pub Enabled : ℕ → Plan → ℕ → Type 0

@@ -3,10 +3,12 @@
 #![tactic(auto)]
 
 ghost use Rattle.std.specs.Prelude.{◌≡◌, ◌+◌, ◌*◌, get_or};
-ghost use Rattle.cells.specs.Buffer.{buffer};
 ghost use Rattle.cells.specs.Writes.{written_all};
-ghost use Rattle.staging.specs.Mirror.Room.{layout_of, first_place, second_place, data_place, stage_lane, staged, both_staged, data_staged, first_number, second_number, either_staged, elements_fit};
+ghost use Rattle.cells.specs.Lent.{viewed, held, Becomes};
+ghost use Rattle.staging.specs.Staged.{in_room};
+ghost use Rattle.staging.specs.Mirror.Room.{layout_of, first_place, second_place, data_place, stage_lane, staged, sources_staged, both_staged, data_staged, first_number, second_number, either_staged, elements_fit};
 
+use cells::{Buffer, View};
 use operands::Elements;
 
 // Bytes of sources, and their taint.
@@ -77,138 +79,120 @@ fn place_of(elements: Elements, base: u32, lane: u8) -> usize
 }
 
 fn stage_lane(
-    registers: &[u8],
-    register_taint: &[u8],
+    registers: View<'_>,
     elements: Elements,
     lane: u8,
     base: u32,
-    bytes: &mut [u8],
-    taint: &mut [u8],
+    room: &mut Buffer<'_>,
 )
-    ensures { buffer bytes.new taint.new ≡ written_all (stage_lane (buffer registers.now register_taint.now) elements base lane) (buffer bytes.old taint.old) }
+    ensures { Becomes room.old room.new (written_all (stage_lane (viewed registers.entry) elements base lane) (held room.old)) }
 {
     let place = place_of(elements, base, lane);
     if elements.immediate {
-        cell_writes::set_number(bytes, taint, place, elements.size, elements.value, false);
+        cell_writes::set_number(room, place, elements.size, elements.value, false);
     } else {
         let from = position_of(elements, lane);
         let size = elements.size as usize;
-        cell_writes::copy(registers, register_taint, from, bytes, taint, place, size);
+        cell_writes::copy(registers, from, room, place, size);
     }
 }
 
 // The elements of so many lanes, on or off, from a base on.
-fn stage(
-    registers: &[u8],
-    register_taint: &[u8],
-    elements: Elements,
-    lanes: u8,
-    base: u32,
-    bytes: &mut [u8],
-    taint: &mut [u8],
-)
-    ensures { buffer bytes.new taint.new ≡ staged (buffer registers.now register_taint.now) elements lanes base (buffer bytes.old taint.old) }
+fn stage(registers: View<'_>, elements: Elements, lanes: u8, base: u32, room: &mut Buffer<'_>)
+    ensures { Becomes room.old room.new (staged (viewed registers.entry) elements lanes base (held room.old)) }
 {
-    let mut lane: u8 = 0;
-    while lane < lanes {
-        stage_lane(
-            registers,
-            register_taint,
-            elements,
-            lane,
-            base,
-            bytes,
-            taint,
-        );
-        lane += 1;
+    for lane in 0..lanes {
+        stage_lane(registers, elements, lane, base, room);
     }
 }
 
-// Both sources of an instruction, in a room of zeros.
-pub fn stage_both(
-    registers: &[u8],
-    register_taint: &[u8],
+// Both sources of an instruction, one after the other.
+fn stage_sources(
+    registers: View<'_>,
     first: Elements,
     second: Elements,
     lanes: u8,
-) -> Room
-    ensures { buffer result.bytes result.taint ≡ both_staged (buffer registers.now register_taint.now) first second lanes }
+    room: &mut Buffer<'_>,
+)
+    ensures { Becomes room.old room.new (sources_staged (viewed registers.entry) first second lanes (held room.old)) }
 {
-    let mut bytes = [0; 512];
-    let mut taint = [0; 512];
     let layout = layout_of(first, second, lanes);
     let begin = first_place(layout, 0);
     let next = second_place(layout, 0);
-    stage(
-        registers,
-        register_taint,
-        first,
-        lanes,
-        begin,
-        &mut bytes,
-        &mut taint,
-    );
-    stage(
-        registers,
-        register_taint,
-        second,
-        lanes,
-        next,
-        &mut bytes,
-        &mut taint,
-    );
-    Room { bytes, taint }
+    stage(registers, first, lanes, begin, room);
+    stage(registers, second, lanes, next, room);
+}
+
+// Both sources of an instruction, in a room of zeros.
+pub fn stage_both(registers: View<'_>, first: Elements, second: Elements, lanes: u8) -> Room
+    ensures { in_room result ≡ both_staged (viewed registers.entry) first second lanes }
+{
+    let mut room = Room {
+        bytes: [0; 512],
+        taint: [0; 512],
+    };
+    let mut buffer = Buffer {
+        bytes: &mut room.bytes,
+        taint: &mut room.taint,
+    };
+    stage_sources(registers, first, second, lanes, &mut buffer);
+    room
 }
 
 // Both sources, and so many register bytes from a position on: a scatter's data.
 pub fn stage_with_data(
-    registers: &[u8],
-    register_taint: &[u8],
+    registers: View<'_>,
     first: Elements,
     second: Elements,
     lanes: u8,
     from: usize,
     count: usize,
 ) -> Room
-    ensures { buffer result.bytes result.taint ≡ data_staged (buffer registers.now register_taint.now) first second lanes from count }
+    ensures { in_room result ≡ data_staged (viewed registers.entry) first second lanes from count }
 {
     let layout = layout_of(first, second, lanes);
-    let room = stage_both(registers, register_taint, first, second, lanes);
-    let mut bytes = room.bytes;
-    let mut taint = room.taint;
+    let mut room = stage_both(registers, first, second, lanes);
     let to = data_place(layout) as usize;
-    cell_writes::copy(
-        registers,
-        register_taint,
-        from,
-        &mut bytes,
-        &mut taint,
-        to,
-        count,
-    );
-    Room { bytes, taint }
+    let mut buffer = Buffer {
+        bytes: &mut room.bytes,
+        taint: &mut room.taint,
+    };
+    cell_writes::copy(registers, from, &mut buffer, to, count);
+    room
+}
+
+impl Room {
+    // To be read.
+    pub fn view(&self) -> View<'_>
+        ensures { viewed result ≡ in_room self.now }
+    {
+        View {
+            bytes: &self.bytes,
+            taint: &self.taint,
+        }
+    }
 }
 
 // A lane's element of the first source, in the room.
-pub fn first_number(bytes: &[u8], layout: Layout, lane: u8) -> u64
-    ensures { result ≡ first_number bytes.now layout lane }
+pub fn first_number(room: View<'_>, layout: Layout, lane: u8) -> u64
+    ensures { result ≡ first_number room.entry.bytes.now layout lane }
 {
-    cell_reads::number_at(bytes, first_place(layout, lane) as usize, layout.first)
+    cell_reads::number_at(room.bytes, first_place(layout, lane) as usize, layout.first)
 }
 
 // A lane's element of the second.
-pub fn second_number(bytes: &[u8], layout: Layout, lane: u8) -> u64
-    ensures { result ≡ second_number bytes.now layout lane }
+pub fn second_number(room: View<'_>, layout: Layout, lane: u8) -> u64
+    ensures { result ≡ second_number room.entry.bytes.now layout lane }
 {
-    cell_reads::number_at(bytes, second_place(layout, lane) as usize, layout.second)
+    cell_reads::number_at(room.bytes, second_place(layout, lane) as usize, layout.second)
 }
 
 // Whether a byte of either is tainted.
-pub fn either_taint(taint: &[u8], layout: Layout, lane: u8) -> bool
-    ensures { result ≡ either_staged taint.now layout lane }
+pub fn either_taint(room: View<'_>, layout: Layout, lane: u8) -> bool
+    ensures { result ≡ either_staged room.entry.taint.now layout lane }
 {
     let first = first_place(layout, lane) as usize;
     let second = second_place(layout, lane) as usize;
-    cell_reads::any_tainted(taint, first, layout.first)
-        | cell_reads::any_tainted(taint, second, layout.second)
+    cell_reads::any_tainted(room.taint, first, layout.first)
+        | cell_reads::any_tainted(room.taint, second, layout.second)
 }

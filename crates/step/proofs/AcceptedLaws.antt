@@ -7,7 +7,7 @@ use lib.Dec.{eqb}
 use borrow.Author.Tests.{eq-eqb, ne_eqb}
 use Rattle.cells.specs.Effect.{Effect, refused, unless}
 use Rattle.cells.proofs.EffectLaws.{unless-refused, unless-passed}
-use Rattle.plan.specs.declared.Plan.{Plan}
+use Rattle.plan.specs.Plan.{Plan}
 
 module _ (p : Plan) (x : Effect) where
   pub plan-refuses : 0 < p.number → unless (not (eqb p.number 0)) p.number p.detail x ≡ refused p.number p.detail

@@ -8,8 +8,8 @@ use Rattle.reader.specs.Reply.{Reply, Read, on_reply}
 use Rattle.decoder.specs.declared.Instruction.{Instruction}
 use Rattle.decoder.specs.declared.Instruction.TheVariants as instruction
 use Rattle.decoder.specs.Decoding.{instruction_at}
-use Rattle.plan.specs.declared.Plan.{Plan}
-use Rattle.plan.specs.declared.Operation.{Operation}
+use Rattle.plan.specs.Plan.{Plan}
+use Rattle.plan.specs.Operation.{Operation}
 use Rattle.plan.specs.Checked.{checked}
 use Rattle.plan.proofs.InstructionLaws.{plan-keeps}
 use Rattle.shl_effect.proofs.Refusal.{shl-number}

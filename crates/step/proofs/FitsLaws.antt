@@ -6,22 +6,24 @@ use mathlib.Core.Logic.{⊎_elim}
 use mathlib.Core.Bool.{true}
 use mathlib.Core.List.{List}
 use native.Mathlib.Omega.{arith}
+use Rattle.std.specs.Prelude.{Result, Ok}
+use Rattle.refusal.specs.declared.Refusal.{Refusal}
 use Rattle.little_endian.specs.LittleEndian.{Bytes}
 use Rattle.reader.specs.declared.Cursor.{Cursor}
-use Rattle.reader.specs.Reply.{got}
+use Rattle.reader.specs.Reply.{got, reply}
 use Rattle.fields.proofs.ExecGood.{EightOrSixteen}
 use Rattle.decoder.specs.declared.Instruction.{Instruction}
 use Rattle.decoder.specs.declared.Instruction.TheVariants as instruction
-use Rattle.decoder.specs.declared.Decoded.{Decoded}
-use Rattle.decoder.specs.declared.Decoded.TheVariants as decoded
-use Rattle.decoder.specs.Decoding.{instruction_at, decoded_reply}
+use Rattle.decoder.specs.Decoding.{instruction_at}
 use Rattle.decoder.proofs.ScatterLaws.{decoded-scatter}
 use Rattle.exec_byte.specs.Exec.{exec_size}
 use Rattle.lengths.specs.Lengths.{chosen_size}
 use Rattle.tables.specs.Tables.{Tables}
 use Rattle.lengths.proofs.Limits.{chosen-either}
-use Rattle.plan.specs.declared.Plan.{Plan}
-use Rattle.plan.specs.declared.Operation.{Operation}
+use Rattle.plan.specs.declared.Plan as code
+use Rattle.plan.specs.Plan.{Plan}
+use Rattle.plan.specs.Planned.{plan_of, planned}
+use Rattle.plan.specs.Operation.{Operation}
 use Rattle.plan.specs.Checked.{checked}
 use Rattle.payloads.proofs.ChannelLaws.{stride-at-most}
 use Rattle.plan.proofs.InstructionLaws.{plan-keeps}
@@ -61,5 +63,6 @@ module _ (kernel : List ℕ) (number : ℕ) (t : Tables) (at : ℕ) (b : Bytes k
   planned-fits i next is = record { when-accepted = decoded-fits i next is }
 
   -- as the code learns it
-  pub told-fits : (d : Decoded) (i : Instruction) (c : Cursor) (p : Plan) → decoded_reply d ≡ instruction_at kernel at → d ≡ decoded.Accepted i c → p ≡ checked (chosen_size number) t i → Fits p
-  told-fits d i c p told is plan = subst Fits (sym plan) (planned-fits i c.at (sym told ∙ ap decoded_reply is))
+  pub told-fits : (d : Result (Instruction × Cursor) Refusal) (i : Instruction) (c : Cursor) (w : Result code.Plan Refusal) (p : code.Plan) → reply d ≡ instruction_at kernel at → d ≡ Ok (i, c) → planned w ≡ checked (chosen_size number) t i → w ≡ Ok p → Fits (plan_of p)
+  told-fits d i c w p told is plan accepted =
+      subst Fits (sym plan ∙ ap planned accepted) (planned-fits i c.at (sym told ∙ ap reply is))

@@ -9,7 +9,7 @@ use Rattle.decoder.specs.declared.Instruction.{Instruction}
 use Rattle.decoder.specs.Decoding.{instruction_at}
 use Rattle.decoder.proofs.DecodeEncode.{refusal-not-zero}
 use Rattle.decoder.proofs.Laws.{accepted-within}
-use Rattle.plan.specs.declared.Plan.{Plan}
+use Rattle.plan.specs.Plan.{Plan}
 use Rattle.step.specs.State.{Setup, State}
 use Rattle.step.specs.Step.{plan_effect, Stepped, step_at}
 use Rattle.step.proofs.StepOf.{step_of}

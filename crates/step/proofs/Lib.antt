@@ -1,8 +1,10 @@
 pub mod StepOf
+pub mod Rooms
 pub mod Unwritten
 pub mod AcceptedLaws
 pub mod FitsLaws
 pub mod PerformLaws
+pub mod SmallLaws
 pub mod StepLaws
 pub mod Forward
 pub mod Kept

@@ -17,9 +17,9 @@ use Rattle.decoder.proofs.DecodeEncode.{refusal-not-zero}
 use Rattle.tables.specs.Tables.{tables_good}
 use Rattle.tables.proofs.Laws.{limited}
 use Rattle.lengths.proofs.Limits.{chosen-good}
-use Rattle.plan.specs.declared.Plan.{Plan}
-use Rattle.plan.specs.declared.Operation.{Operation}
-use Rattle.plan.specs.declared.Operation.TheVariants as operation
+use Rattle.plan.specs.Plan.{Plan}
+use Rattle.plan.specs.Operation.{Operation}
+use Rattle.plan.specs.Operation as operation
 use Rattle.plan.specs.Checked.{checked}
 use Rattle.plan.proofs.PlanLaws.{SoundFor, Sound, plan-sound}
 use Rattle.shl_effect.proofs.LaneResults as shl

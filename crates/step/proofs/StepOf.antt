@@ -4,7 +4,7 @@ use Rattle.refusal.specs.declared.Detail.TheVariants as detail
 use Rattle.cells.specs.Effect.{Effect, refused}
 use Rattle.reader.specs.Reply.{Reply, Read, on_reply}
 use Rattle.decoder.specs.declared.Instruction.{Instruction}
-use Rattle.plan.specs.declared.Plan.{Plan}
+use Rattle.plan.specs.Plan.{Plan}
 use Rattle.plan.specs.Checked.{checked}
 use Rattle.step.specs.State.{Setup, register_bytes}
 use Rattle.step.specs.Step.{Stepped}

@@ -10,9 +10,9 @@ use Rattle.reader.specs.Reply as reply
 use Rattle.reader.specs.Reply.{Reply, Read}
 use Rattle.decoder.specs.declared.Instruction.{Instruction}
 use Rattle.decoder.specs.Decoding.{instruction_at}
-use Rattle.plan.specs.declared.Plan.{Plan}
-use Rattle.plan.specs.declared.Operation.{Operation}
-use Rattle.plan.specs.declared.Operation.TheVariants as operation
+use Rattle.plan.specs.Plan.{Plan}
+use Rattle.plan.specs.Operation.{Operation}
+use Rattle.plan.specs.Operation as operation
 use Rattle.plan.specs.Checked.{checked}
 use Rattle.staging.specs.Lanes.{lanes_on}
 use Rattle.shl_effect.proofs.Untainted.{shl-alike}

@@ -1,15 +1,40 @@
--- Words of contracts: the state in the slices that a function borrows.
-use Rattle.std.specs.Prelude.{ℕ, List}
+-- Words of contracts: the state behind the references that a function borrows, and what a step answers.
+use Rattle.std.specs.Prelude.{◌≡◌, ℕ, List, Result, IfOk}
 use Rattle.std.specs.Borrow.{MutBor}
 use denote.Triple.Both.{Both}
+use Rattle.refusal.specs.declared.Refusal.{Refusal}
+use Rattle.refusal.specs.Numbers.{number_given, detail_given}
 use Rattle.tables.specs.Borrowed.{Slice}
+use Rattle.step.specs.declared.Room.{Room}
 use Rattle.step.specs.State.{State, state}
+use Rattle.step.specs.Step.{Stepped}
+
+-- what a room holds
+abbrev pub state_of : Room → State
+state_of r =
+    state r.registers.now r.register_taint.now r.surfaces.now r.surface_taint.now r.memory.now r.memory_taint.now
+
+-- the same references, and behind them this state
+pub record Goes (old new : Room) (s : State) : Type 0 where
+  pub registers : new.registers.ghost_name ≡ old.registers.ghost_name
+  pub register_taint : new.register_taint.ghost_name ≡ old.register_taint.ghost_name
+  pub memory : new.memory.ghost_name ≡ old.memory.ghost_name
+  pub memory_taint : new.memory_taint.ghost_name ≡ old.memory_taint.ghost_name
+  pub surfaces : new.surfaces ≡ old.surfaces
+  pub surface_taint : new.surface_taint ≡ old.surface_taint
+  pub leaves : state_of new ≡ s
+
+-- the number with what it tells; and, of a step that is not refused, where the next one begins
+pub record Answers (result : Result ℕ Refusal) (t : Stepped) : Type 0 where
+  pub number : number_given result ≡ t.effect.number
+  pub detail : detail_given result ≡ t.effect.detail
+  pub next : IfOk result (λ next. next ≡ t.next)
 
 -- a slice that a function may write, as an `ensures` names it
 abbrev pub MutSlice : Type 0
 MutSlice = Both (MutBor (List ℕ)) (MutBor (List ℕ))
 
--- at the function's entry, and at its exit; the surfaces and their taint are lent to be read
+-- the state in slices, at the function's entry and at its exit; the surfaces and their taint are lent to be read
 abbrev pub lent : MutSlice → MutSlice → Slice → Slice → MutSlice → MutSlice → Both State State
 lent registers register_taint surfaces surface_taint memory memory_taint =
     record {

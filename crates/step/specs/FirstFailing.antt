@@ -8,7 +8,7 @@ use Rattle.reader.specs.Reply.{on_reply}
 use Rattle.decoder.specs.declared.Instruction.{Instruction}
 use Rattle.decoder.specs.declared.Instruction.TheVariants as instruction
 use Rattle.decoder.specs.Decoding.{instruction_at}
-use Rattle.plan.specs.declared.Plan.{Plan}
+use Rattle.plan.specs.Plan.{Plan}
 use Rattle.plan.specs.Checked.{checked}
 use Rattle.staging.specs.Lanes.{lanes_on}
 use Rattle.staging.specs.Sources.{either_tainted}

@@ -1,9 +1,9 @@
 -- What a completed instruction leaves: each enabled lane, or pair of channel and lane, has the defined result, and no other byte changes, of
 -- registers, surfaces or memory, nor any length.
 use Rattle.std.specs.Prelude.{◌≡◌, length}
-use Rattle.plan.specs.declared.Plan.{Plan}
-use Rattle.plan.specs.declared.Operation.{Operation}
-use Rattle.plan.specs.declared.Operation.TheVariants as operation
+use Rattle.plan.specs.Plan.{Plan}
+use Rattle.plan.specs.Operation.{Operation}
+use Rattle.plan.specs.Operation as operation
 use Rattle.shl_effect.specs.Results as shl
 use Rattle.gather_effect.specs.Results as gather
 use Rattle.scatter_effect.specs.Results as scatter

@@ -5,9 +5,9 @@ use Rattle.cells.specs.Writes.{written_all}
 use Rattle.cells.specs.Effect.{Effect, refused, unless}
 use Rattle.reader.specs.Reply.{on_reply}
 use Rattle.decoder.specs.Decoding.{instruction_at}
-use Rattle.plan.specs.declared.Plan.{Plan}
-use Rattle.plan.specs.declared.Operation.{Operation}
-use Rattle.plan.specs.declared.Operation.TheVariants as operation
+use Rattle.plan.specs.Plan.{Plan}
+use Rattle.plan.specs.Operation.{Operation}
+use Rattle.plan.specs.Operation as operation
 use Rattle.plan.specs.Checked.{checked}
 use Rattle.staging.specs.Lanes.{lanes_on}
 use Rattle.shl_effect.specs.Shl.{shl_effect}

@@ -1,16 +1,17 @@
 -- Where a surface of a good table lies in the surface buffer.
 use mathlib.Core.Path.{◌≡◌, refl}
-use mathlib.Core.Bool.{true}
+use mathlib.Core.Bool.{Bool, true, false}
+use mathlib.Core.List.{List}
 use Prim.Native.Nat.{ℕ, zero, suc, ◌+◌, ◌*◌, ◌≤◌, ◌<◌}
 use native.Mathlib.Omega.{arith}
 use native.Mathlib.Numerals.{add-one}
 use native.Mathlib.Nat.{not-suc-le-zero}
-use lib.Dec.{leb, eqb}
-use lib.ListN.{length, get_or}
-use borrow.Author.Tests.{leb-true, eqb-true}
+use lib.Dec.{ltb, leb, eqb}
+use lib.ListN.{length, get_or, get_or-eq_default}
+use borrow.Author.Tests.{ltb-true, ltb-false, leb-true, eqb-true}
 use borrow.Author.Count.{below_more}
 use Rattle.bits.specs.Below.{every_below}
-use Rattle.surface_table.specs.Surfaces.{Surfaces, surface_length, surface_start, surface_good_at, surfaces_good}
+use Rattle.surface_table.specs.Surfaces.{Surfaces, surfaces, surface_length, surface_start, surface_good_at, surfaces_good}
 use Rattle.bits.proofs.All.{All3, all3}
 use Rattle.bits.proofs.Every.{every-each}
 
@@ -31,6 +32,15 @@ start-at-most t most (suc n) h = omega (arith, start-at-most t most n (λ k l. h
 pub length-is : (t : Surfaces) (k : ℕ) → surface_length t k ≡ get_or t.lengths k 0
 unfolding surface_length
 length-is t k = refl
+
+-- as the code learns it: lengths of two bytes add up to no more than a start of four
+pub start_small : (lengths : List ℕ) (n : ℕ) → ((k : ℕ) → k < length lengths → get_or lengths k 0 < 65536) → surface_start (surfaces lengths) n ≤ 65535 * n
+unfolding surface_length
+start_small lengths n h = start-at-most (surfaces lengths) 65535 n (λ k _. told k (ltb k (length lengths)) refl)
+  where
+    told : (k : ℕ) (q : Bool) → ltb k (length lengths) ≡ q → get_or lengths k 0 ≤ 65535
+    told k true e = omega (arith, h k (ltb-true k (length lengths) e))
+    told k false e = omega (arith, get_or-eq_default {A = ℕ} lengths 0 (ltb-false k (length lengths) e))
 
 -- a good table of surfaces
 module _ (bytes : ℕ) (t : Surfaces) (good : surfaces_good bytes t ≡ true) where

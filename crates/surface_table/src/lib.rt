@@ -8,22 +8,21 @@ ghost use Rattle.surface_table.specs.Surfaces.{surface_length, surface_start, su
 ghost use Rattle.surface_table.specs.Borrowed.{surface_table};
 
 // The bytes of a surface, 0 for one that is not in the table.
+#[tactic(auto, unfolding(crate::specs::Surfaces::surface_length))]
 pub fn surface_length(surfaces: &[u16], index: u8) -> u16
     ensures { result ≡ surface_length (surface_table surfaces) index }
 {
-    let i = index as usize;
-    if i < surfaces.len() { surfaces[i] } else { 0 }
+    surfaces.get(usize::from(index)).copied().unwrap_or(0)
 }
 
 // Where a surface begins in the surface buffer: the lengths before it, added up.
+#[tactic(auto, unfolding(crate::specs::Surfaces::surface_start))]
 pub fn surface_start(surfaces: &[u16], index: u8) -> usize
     ensures { result ≡ surface_start (surface_table surfaces) index }
 {
-    let mut sum: usize = 0;
-    let mut i: u8 = 0;
-    while i < index {
-        sum += surface_length(surfaces, i) as usize;
-        i += 1;
+    let mut sum = 0;
+    for before in 0..index {
+        sum += usize::from(surface_length(surfaces, before));
     }
     sum
 }
@@ -31,24 +30,15 @@ pub fn surface_start(surfaces: &[u16], index: u8) -> usize
 fn every_surface_good(surfaces: &[u16]) -> bool
     ensures { result ≡ every_below (length surfaces.now) (surface_good_at (surface_table surfaces)) }
 {
-    let mut i = 0;
-    while i < surfaces.len() {
-        if 1024 < surfaces[i] {
-            return false;
-        }
-        i += 1;
-    }
-    true
+    surfaces.iter().all(|length| *length <= 1024)
 }
 
+// Whether the table and the length of the surface buffer keep the sizes.
+#[tactic(auto, unfolding(crate::specs::Surfaces::surfaces_good))]
 pub fn surfaces_good(bytes: usize, surfaces: &[u16]) -> bool
     ensures { result ≡ surfaces_good bytes (surface_table surfaces) }
 {
-    if 8 < surfaces.len() {
-        return false;
-    }
-    if !every_surface_good(surfaces) {
-        return false;
-    }
-    surface_start(surfaces, surfaces.len() as u8) == bytes
+    surfaces.len() <= 8
+        && every_surface_good(surfaces)
+        && surface_start(surfaces, surfaces.len() as u8) == bytes
 }

@@ -2,11 +2,12 @@
 use mathlib.Core.Path.{◌≡◌}
 use mathlib.Core.Bool.{true, ◌&&◌}
 use Prim.Native.Nat.{ℕ, ◌+◌, ◌*◌, ◌-◌, ◌/◌, ◌%◌, ◌≤◌, ◌<◌}
+use native.Mathlib.Nat.{mul-le-mul}
 use lib.Dec.{leb, eqb}
 use lib.ListN.{length, get_or}
 use borrow.Author.Tests.{leb-true, eqb-true, le-leb, lt-leb}
 use Rattle.element_types.specs.Types.{size_of, is_listed}
-use Rattle.element_types.proofs.Sizes.{listed-size}
+use Rattle.element_types.proofs.Sizes.{listed-size, size_small}
 use Rattle.bits.specs.Below.{every_below}
 use Rattle.tables.specs.Variables.{Variables, line_good, variable_good, variable_good_at, variables_good}
 use Rattle.bits.proofs.All.{All4, left, right, all4}
@@ -20,6 +21,16 @@ pub record Placed (register_size registers code start count : ℕ) : Type 0 wher
   pub aligned : start % size_of code ≡ 0
   pub long : register_size ≤ count * size_of code → start % register_size ≡ 0
   pub short : count * size_of code < register_size → start / register_size ≡ (start + count * size_of code - 1) / register_size
+
+-- as the code learns it: a listed type has bytes, some elements of it too, and not too many
+pub listed_some : (code : ℕ) → is_listed code ≡ true → 0 < size_of code
+listed_some code h = listed-size code h
+
+pub bytes_some : (code count : ℕ) → is_listed code ≡ true → 1 ≤ count → 0 < count * size_of code
+bytes_some code count h k = mul-le-mul k (listed-size code h)
+
+pub bytes_small : (code count : ℕ) → count ≤ 65535 → count * size_of code ≤ 524280
+bytes_small code count h = mul-le-mul h (size_small code)
 
 line-long : (register_size start bytes : ℕ) → line_good register_size start bytes ≡ true → register_size ≤ bytes → start % register_size ≡ 0
 unfolding line_good

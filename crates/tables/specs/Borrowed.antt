@@ -1,12 +1,20 @@
--- Words of contracts: a slice that a function borrows, and the table of variables in its slices.
+-- Words of contracts: the tables that a function borrows, as the definitions have them; and a slice that it borrows.
 use Rattle.std.specs.Prelude.{ℕ, List}
 use Rattle.std.specs.Borrow.{Bor}
 use denote.Triple.Both.{Both}
+use Rattle.predicate_table.specs.Borrowed.{predicates_of}
+use Rattle.surface_table.specs.Surfaces.{surfaces}
+use Rattle.tables.specs.declared.Variables as lent
+use Rattle.tables.specs.declared.Tables as all
 use Rattle.tables.specs.Variables.{Variables, variables}
+use Rattle.tables.specs.Tables.{Tables, tables}
 
 -- a slice as an `ensures` names it: at the function's entry, and at its exit
 abbrev pub Slice : Type 0
 Slice = Both (Bor (List ℕ)) (Bor (List ℕ))
 
-abbrev pub variable_table : Slice → Slice → Slice → Variables
-variable_table types starts counts = variables types.entry.now starts.entry.now counts.entry.now
+abbrev pub variables_of : lent.Variables → Variables
+variables_of t = variables t.types.now t.starts.now t.counts.now
+
+abbrev pub tables_of : all.Tables → Tables
+tables_of t = tables (variables_of t.variables) (predicates_of t.predicates) (surfaces t.surface_lengths.now)

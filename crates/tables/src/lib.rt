@@ -5,114 +5,92 @@
 ghost use Rattle.std.specs.Prelude.{◌≡◌, ◌+◌, ◌<◌, ◌≤◌, length};
 ghost use Rattle.bits.specs.Below.{every_below};
 ghost use Rattle.tables.specs.Variables.{line_good, variable_good, variable_good_at, variables_good};
-ghost use Rattle.tables.specs.Tables.{tables, tables_good};
-ghost use Rattle.tables.specs.Borrowed.{variable_table};
-ghost use Rattle.predicate_table.specs.Borrowed.{predicate_table};
-ghost use Rattle.surface_table.specs.Borrowed.{surface_table};
+ghost use Rattle.tables.specs.Tables.{tables_good};
+ghost use Rattle.tables.specs.Borrowed.{variables_of, tables_of};
 
 use lengths::Lengths;
+use predicate_table::Predicates;
+
+// The lent table of variables: variable k has the k-th type, start byte and element count. Three slices and not one of records, since a run whose
+// slices differ in length answers 13 (`variables_good`).
+#[derive(Clone, Copy)]
+pub struct Variables<'a> {
+    pub types: &'a [u8],
+    pub starts: &'a [u16],
+    pub counts: &'a [u16],
+}
+
+// All tables of a run; of the surfaces their lengths.
+#[derive(Clone, Copy)]
+pub struct Tables<'a> {
+    pub variables: Variables<'a>,
+    pub predicates: Predicates<'a>,
+    pub surface_lengths: &'a [u16],
+}
 
 // A long variable starts a register; the first and the last byte of a short one lie in the same register.
+#[tactic(auto, unfolding(crate::specs::Variables::line_good))]
 fn line_good(register_size: usize, start: usize, bytes: usize) -> bool
     requires { (0 < register_size) × (0 < bytes) × (start + bytes ≤ 4294967296) }
     ensures { result ≡ line_good register_size start bytes }
 {
     if register_size <= bytes {
-        return start % register_size == 0;
+        start % register_size == 0
+    } else {
+        start / register_size == (start + bytes - 1) / register_size
     }
-    start / register_size == (start + bytes - 1) / register_size
 }
 
+#[tactic(auto, using(crate::proofs::Placement::listed_some, crate::proofs::Placement::bytes_some, crate::proofs::Placement::bytes_small), unfolding(crate::specs::Variables::variable_good))]
 fn variable_good(register_size: usize, registers: usize, code: u8, start: u16, count: u16) -> bool
     requires { 0 < register_size }
     ensures { result ≡ variable_good register_size registers code start count }
 {
-    if !element_types::is_listed(code) {
+    if !element_types::is_listed(code) || count < 1 {
         return false;
     }
-    if count < 1 {
-        return false;
-    }
-    let first = start as usize;
-    let size = element_types::size_of(code) as usize;
-    let bytes = count as usize * size;
-    if registers < first + bytes {
-        return false;
-    }
-    if first % size != 0 {
-        return false;
-    }
-    line_good(register_size, first, bytes)
+    let first = usize::from(start);
+    let size = usize::from(element_types::size_of(code));
+    let bytes = usize::from(count) * size;
+    first + bytes <= registers && first % size == 0 && line_good(register_size, first, bytes)
 }
 
-fn every_variable_good(
-    register_size: usize,
-    registers: usize,
-    types: &[u8],
-    starts: &[u16],
-    counts: &[u16],
-) -> bool
-    requires { (0 < register_size) × (length starts.now ≡ length types.now) × (length counts.now ≡ length types.now) }
-    ensures { result ≡ every_below (length types.now) (variable_good_at register_size registers (variable_table types starts counts)) }
-{
-    let mut i = 0;
-    while i < types.len() {
-        if !variable_good(register_size, registers, types[i], starts[i], counts[i]) {
-            return false;
-        }
-        i += 1;
+impl Variables<'_> {
+    // Whether each variable lies where it may; the slices are of one length.
+    fn each_good(self, register_size: usize, registers: usize) -> bool
+        requires { (0 < register_size) × (length self.starts.now ≡ length self.types.now) × (length self.counts.now ≡ length self.types.now) }
+        ensures { result ≡ every_below (length self.entry.types.now) (variable_good_at register_size registers (variables_of self.entry)) }
+    {
+        self.types.iter().zip(self.starts).zip(self.counts).all(|(
+            (code, start),
+            count,
+        )| variable_good(register_size, registers, *code, *start, *count))
     }
-    true
+
+    // Whether the table keeps the sizes, in a register file of so many bytes.
+    #[tactic(auto, unfolding(crate::specs::Variables::variables_good))]
+    fn good(self, register_size: usize, registers: usize) -> bool
+        requires { 0 < register_size }
+        ensures { result ≡ variables_good register_size registers (variables_of self.entry) }
+    {
+        self.types.len() <= 256
+            && self.starts.len() == self.types.len()
+            && self.counts.len() == self.types.len()
+            && self.each_good(register_size, registers)
+    }
 }
 
-fn variables_good(
-    register_size: usize,
-    registers: usize,
-    types: &[u8],
-    starts: &[u16],
-    counts: &[u16],
-) -> bool
-    requires { 0 < register_size }
-    ensures { result ≡ variables_good register_size registers (variable_table types starts counts) }
-{
-    if 256 < types.len() {
-        return false;
+impl Tables<'_> {
+    // Whether all tables and lengths keep the sizes; a run answers 13 if not.
+    #[tactic(auto, using(lengths::proofs::Limits::lengths_size), unfolding(crate::specs::Tables::tables_good))]
+    pub fn good(self, lengths: Lengths) -> bool
+        ensures { result ≡ tables_good lengths (tables_of self.entry) }
+    {
+        lengths::lengths_good(lengths)
+            && self
+                .variables
+                .good(usize::from(lengths.register_size), lengths.registers)
+            && self.predicates.good()
+            && surface_table::surfaces_good(lengths.surfaces, self.surface_lengths)
     }
-    if starts.len() != types.len() {
-        return false;
-    }
-    if counts.len() != types.len() {
-        return false;
-    }
-    every_variable_good(register_size, registers, types, starts, counts)
-}
-
-// Whether all tables and lengths keep the sizes; a run answers 13 if not.
-pub fn tables_good(
-    lengths: Lengths,
-    types: &[u8],
-    starts: &[u16],
-    counts: &[u16],
-    predicate_bits: &[u32],
-    predicate_counts: &[u8],
-    surfaces: &[u16],
-) -> bool
-    ensures { result ≡ tables_good lengths (tables (variable_table types starts counts) (predicate_table predicate_bits predicate_counts) (surface_table surfaces)) }
-{
-    if !lengths::lengths_good(lengths) {
-        return false;
-    }
-    if !variables_good(
-        lengths.register_size as usize,
-        lengths.registers,
-        types,
-        starts,
-        counts,
-    ) {
-        return false;
-    }
-    if !predicate_table::predicates_good(predicate_bits, predicate_counts) {
-        return false;
-    }
-    surface_table::surfaces_good(lengths.surfaces, surfaces)
 }

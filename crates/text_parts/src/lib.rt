@@ -2,136 +2,91 @@
 
 #![tactic(auto)]
 
-ghost use Rattle.std.specs.Prelude.{◌≡◌, ◌/◌, ◌%◌, ◌≤◌, ◌<◌};
+ghost use Rattle.std.specs.Prelude.{◌≡◌, ◌<◌};
 ghost use Rattle.formats.specs.Told.{told};
 ghost use Rattle.text_parts.specs.Mirror.Fields.{decimal, hexadecimal};
 ghost use Rattle.text_parts.specs.Mirror.Raw.{raw};
 ghost use Rattle.text_parts.specs.Mirror.Immediate.{type_behind, code_at, immediate};
-ghost use Rattle.text_parts.specs.Told.{told_raw, told_immediate};
 
-use formats::{Base, Cursor, NumberRead};
+use formats::{Base, Cursor, Stop};
 use operand_fields::{Immediate, Raw};
 
-#[derive(Clone, Copy)]
-pub enum RawRead {
-    Got(Raw, Cursor),
-    Stop(usize),
-}
-
-#[derive(Clone, Copy)]
-pub enum ImmediateRead {
-    Got(Immediate, Cursor),
-    Stop(usize),
-}
-
 // A decimal number and the word that ends it.
-pub fn decimal_at(text: &[u8], c: Cursor, low: u64, high: u64, end: &[u8]) -> NumberRead
-    ensures { told result ≡ (decimal low high end.now).read text.now c.at }
+#[tactic(auto, using(formats::proofs::AroundLaws::after_read), unfolding(crate::specs::Mirror::Fields::decimal))]
+pub fn decimal_at(
+    text: &[u8],
+    cursor: Cursor,
+    low: u64,
+    high: u64,
+    end: &[u8],
+) -> Result<(u64, Cursor), Stop>
+    ensures { told result ≡ (decimal low high end.now).read text.now cursor.at }
 {
-    match c.number(text, Base::Decimal, low, high) {
-        NumberRead::Got(n, c1) => match c1.one_of(text, end) {
-            NumberRead::Got(word, c2) => NumberRead::Got(n, c2),
-            NumberRead::Stop(k) => NumberRead::Stop(k),
-        },
-        NumberRead::Stop(k) => NumberRead::Stop(k),
-    }
+    formats::ended(cursor.number(text, Base::Decimal, low, high), text, end)
 }
 
 // The same in hex, behind `0x`.
-pub fn hexadecimal_at(text: &[u8], c: Cursor, high: u64, end: &[u8]) -> NumberRead
-    ensures { told result ≡ (hexadecimal high end.now).read text.now c.at }
+#[tactic(auto, using(formats::proofs::AroundLaws::after_read), unfolding(crate::specs::Mirror::Fields::hexadecimal, formats::specs::Words::before, formats::specs::Format::pair, formats::specs::Format::through))]
+pub fn hexadecimal_at(
+    text: &[u8],
+    cursor: Cursor,
+    high: u64,
+    end: &[u8],
+) -> Result<(u64, Cursor), Stop>
+    ensures { told result ≡ (hexadecimal high end.now).read text.now cursor.at }
 {
-    match c.one_of(text, b"0x|") {
-        NumberRead::Got(opening, c1) => match c1.number(text, Base::Hexadecimal, 0, high) {
-            NumberRead::Got(n, c2) => match c2.one_of(text, end) {
-                NumberRead::Got(word, c3) => NumberRead::Got(n, c3),
-                NumberRead::Stop(k) => NumberRead::Stop(k),
-            },
-            NumberRead::Stop(k) => NumberRead::Stop(k),
-        },
-        NumberRead::Stop(k) => NumberRead::Stop(k),
-    }
+    let (_, cursor) = cursor.one_of(text, b"0x|")?;
+    formats::ended(cursor.number(text, Base::Hexadecimal, 0, high), text, end)
 }
 
-fn word_of(n: u64) -> u16
-    requires { n ≤ 65535 }
-    ensures { result ≡ n }
+#[tactic(auto, using(crate::proofs::BoundLaws::raw_bounds), unfolding(crate::specs::Mirror::Raw::raw, crate::specs::Mirror::Raw::raw_parts, formats::specs::Words::before, formats::specs::Format::pair, formats::specs::Format::through))]
+pub fn raw_at(text: &[u8], cursor: Cursor) -> Result<(Raw, Cursor), Stop>
+    ensures { told result ≡ raw.read text.now cursor.at }
 {
-    n as u16
+    let (_, cursor) = cursor.one_of(text, b"v|")?;
+    let (index, cursor) = decimal_at(text, cursor, 0, 65535, b".|")?;
+    let (offset, cursor) = cursor.number(text, Base::Decimal, 0, 65535)?;
+    let raw = Raw {
+        index: index as u16,
+        offset: offset as u16,
+    };
+    Ok((raw, cursor))
 }
 
-pub fn raw_at(text: &[u8], c: Cursor) -> RawRead
-    ensures { told_raw result ≡ raw.read text.now c.at }
-{
-    match c.one_of(text, b"v|") {
-        NumberRead::Got(opening, c1) => match decimal_at(text, c1, 0, 65535, b".|") {
-            NumberRead::Got(index, c2) => match c2.number(text, Base::Decimal, 0, 65535) {
-                NumberRead::Got(offset, c3) => RawRead::Got(
-                    Raw {
-                        index: word_of(index),
-                        offset: word_of(offset),
-                    },
-                    c3,
-                ),
-                NumberRead::Stop(k) => RawRead::Stop(k),
-            },
-            NumberRead::Stop(k) => RawRead::Stop(k),
-        },
-        NumberRead::Stop(k) => RawRead::Stop(k),
-    }
-}
-
-fn type_at(text: &[u8], c: Cursor, n: u64) -> NumberRead
-    ensures { told result ≡ (type_behind n).read text.now c.at }
+#[tactic(auto, unfolding(crate::specs::Mirror::Immediate::type_behind))]
+fn type_at(text: &[u8], cursor: Cursor, n: u64) -> Result<(u64, Cursor), Stop>
+    ensures { told result ≡ (type_behind n).read text.now cursor.at }
 {
     if n < 4294967296 {
-        c.one_of(text, b":uq|:ud|:d|:uw|:w|:ub|:b|:f|")
+        cursor.one_of(text, b":uq|:ud|:d|:uw|:w|:ub|:b|:f|")
     } else {
-        c.one_of(text, b":uq|")
+        cursor.one_of(text, b":uq|")
     }
 }
 
+#[tactic(auto, unfolding(crate::specs::Mirror::Immediate::code_at))]
 fn type_code(place: u64) -> u8
     requires { place < 8 }
     ensures { result ≡ code_at place }
 {
-    if place == 0 {
-        return element_types::UQ;
+    match place {
+        0 => element_types::UQ,
+        7 => element_types::F,
+        _ => (place - 1) as u8,
     }
-    if place == 7 {
-        return element_types::F;
-    }
-    (place - 1) as u8
-}
-
-fn low_word(n: u64) -> u32
-    ensures { result ≡ n % 4294967296 }
-{
-    (n % 4294967296) as u32
-}
-
-fn high_word(n: u64) -> u32
-    ensures { result ≡ n / 4294967296 }
-{
-    (n / 4294967296) as u32
 }
 
 // An immediate behind its `0x`.
-pub fn immediate_at(text: &[u8], c: Cursor) -> ImmediateRead
-    ensures { told_immediate result ≡ immediate.read text.now c.at }
+#[tactic(auto, using(crate::proofs::BoundLaws::type_bound), unfolding(crate::specs::Mirror::Immediate::immediate, crate::specs::Mirror::Immediate::immediate_parts, formats::specs::Format::pair, formats::specs::Format::through))]
+pub fn immediate_at(text: &[u8], cursor: Cursor) -> Result<(Immediate, Cursor), Stop>
+    ensures { told result ≡ immediate.read text.now cursor.at }
 {
-    match c.number(text, Base::Hexadecimal, 0, 18446744073709551615) {
-        NumberRead::Got(n, c1) => match type_at(text, c1, n) {
-            NumberRead::Got(place, c2) => ImmediateRead::Got(
-                Immediate {
-                    code: type_code(place),
-                    low: low_word(n),
-                    high: high_word(n),
-                },
-                c2,
-            ),
-            NumberRead::Stop(k) => ImmediateRead::Stop(k),
-        },
-        NumberRead::Stop(k) => ImmediateRead::Stop(k),
-    }
+    let (n, cursor) = cursor.number(text, Base::Hexadecimal, 0, u64::MAX)?;
+    let (place, cursor) = type_at(text, cursor, n)?;
+    let immediate = Immediate {
+        code: type_code(place),
+        low: (n % 4294967296) as u32,
+        high: (n / 4294967296) as u32,
+    };
+    Ok((immediate, cursor))
 }

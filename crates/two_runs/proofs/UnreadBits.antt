@@ -27,8 +27,8 @@ use Rattle.decoder.specs.declared.Instruction.{Instruction}
 use Rattle.decoder.specs.declared.Instruction.TheVariants as instruction
 use Rattle.decoder.specs.Decoding.{instruction_at}
 use Rattle.operands.specs.declared.Elements.{Elements}
-use Rattle.operands.specs.declared.Located.{Located}
-use Rattle.plan.specs.declared.Plan.{Plan}
+use Rattle.operands.specs.Located.{Located}
+use Rattle.plan.specs.Plan.{Plan}
 use Rattle.controls.specs.Control.{lanes_end, predicate_refusal, control_refusal, bits_named}
 use Rattle.plan.specs.Control.{control_of}
 use Rattle.plan.specs.Plans.{refused_plan, tested, tested_from, shl_plan, gather_plan, scatter_plan}

@@ -6,8 +6,8 @@ ghost use Rattle.std.specs.Prelude.{◌≡◌, ◌≤◌, length};
 ghost use Rattle.format_writers.specs.Writing.{wrote, written};
 ghost use Rattle.verdict_line.specs.VerdictLine.{detail_text, verdict_line};
 
-use refusal::Detail;
 use formats::Base;
+use refusal::Detail;
 
 // What the answer tells beside its number, at `at` and after, and the place past it.
 fn put_detail(out: &mut [u8], at: usize, detail: Detail) -> usize
@@ -17,13 +17,13 @@ fn put_detail(out: &mut [u8], at: usize, detail: Detail) -> usize
         Detail::None => format_writers::put_word(out, at, b"|", 0),
         Detail::Operand(place) => {
             let a = format_writers::put_word(out, at, b" operand |", 0);
-            format_writers::put_number(out, a, Base::Decimal, place as u64)
+            format_writers::put_number(out, a, Base::Decimal, u64::from(place))
         }
         Detail::Pair(channel, lane) => {
             let a = format_writers::put_word(out, at, b" channel |", 0);
-            let b = format_writers::put_number(out, a, Base::Decimal, channel as u64);
+            let b = format_writers::put_number(out, a, Base::Decimal, u64::from(channel));
             let c = format_writers::put_word(out, b, b" lane |", 0);
-            format_writers::put_number(out, c, Base::Decimal, lane as u64)
+            format_writers::put_number(out, c, Base::Decimal, u64::from(lane))
         }
     }
 }
@@ -38,7 +38,7 @@ pub fn put_verdict(
 ) -> usize
     ensures { (wrote result out.new ≡ written out.old 0 (verdict_line number completed position detail)) × (length (verdict_line number completed position detail) ≤ 67) }
 {
-    let a = format_writers::put_number(out, 0, Base::Decimal, number as u64);
+    let a = format_writers::put_number(out, 0, Base::Decimal, u64::from(number));
     let b = format_writers::put_word(out, a, b" |", 0);
     let c = format_writers::put_number(out, b, Base::Decimal, completed as u64);
     let d = format_writers::put_word(out, c, b" |", 0);

@@ -6,9 +6,10 @@ use Rattle.answering.proofs.run_case.Goals as goal
 pub returns : goal.returns
 returns c =
     let a = c.args in
+    let t = a.tables in
     run-cut a.case a.kernel.now _ _ _ _
-    (setup-cut a.case a.kernel.now a.types.now a.starts.now a.counts.now a.predicate_bits.now a.predicate_counts.now a.surfaces.now a.surface_lengths.now _ _ _ _ _ _ _ _ _ _ _
-    c.length_of.ensures c.met_of-variables.ensures c.met_of-predicates.ensures c.met_of.ensures
-    c.first_bytes.ensures c.first_bytes-2.ensures c.first_words.ensures c.first_words-2.ensures c.first_dwords.ensures c.first_bytes-3.ensures c.first_words-3.ensures)
+    (setup-cut a.case a.kernel.now t.types.now t.starts.now t.counts.now t.predicate_bits.now t.predicate_counts.now t.surface_bytes.now t.surface_lengths.now _ _ _ _ _ _ _ _ _ _ _
+    c.length.ensures c.met-variables.ensures c.met-predicates.ensures c.met.ensures
+    c.first.ensures c.first-2.ensures c.first-3.ensures c.first-4.ensures c.first-5.ensures c.first-6.ensures c.first-7.ensures)
     (λ k. omega (arith, c.type_inv.kernel k))
-    c.run.ensures
+    c.run.ensures.outcome

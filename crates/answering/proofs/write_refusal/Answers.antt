@@ -4,8 +4,8 @@ use Rattle.answering.proofs.write_refusal.Goals as goal
 
 pub returns-in-Lines : goal.returns-in-Lines
 returns-in-Lines c =
-    refusal-line _ _ _ _ _ _ c.in-Lines.is c.put_answer.ensures
+    rw (← c.number-number.ensures, ← c.position-position.ensures) (refusal-line _ _ _ _ _ _ c.in-Lines.is c.put_answer.ensures)
 
 pub returns-in-Verdict : goal.returns-in-Verdict
 returns-in-Verdict c =
-    refusal-verdict _ _ _ _ _ _ c.in-Verdict.is c.put_verdict.ensures
+    rw (← c.number-number.ensures, ← c.position-position.ensures) (refusal-verdict _ _ _ _ _ _ c.in-Verdict.is c.put_verdict.ensures)

@@ -1,9 +1,7 @@
-use Rattle.std.proofs.Common.{◌+◌, ◌-◌, ◌≤◌, ◌≡◌}
+use Rattle.std.proofs.Common.{◌+◌, ◌-◌, ◌≡◌}
 use Rattle.little_endian.specs.LittleEndian.{number_at}
 use Rattle.cell_reads.proofs.small_number_at.Given as goal
 
+-- the number so far is that of the bytes from k on
 abbrev pub invariant-loop-k : goal.invariant-loop-k
-invariant-loop-k l = (l.k ≤ l.size) × (l.number ≡ number_at (l.size - l.k) l.bytes (l.at + l.k))
-
-abbrev pub decreases-loop-k : goal.decreases-loop-k
-decreases-loop-k l = l.k
+invariant-loop-k l = l.number ≡ number_at (l.size - l.k) l.bytes (l.at + l.k)

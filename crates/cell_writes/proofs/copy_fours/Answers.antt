@@ -1,14 +1,17 @@
--- `cell_writes::copy_fours` meets its contract. The writes that are left, made now, give the whole.
-use Rattle.std.proofs.Common.{rules, arith}
-use Rattle.cells.proofs.WriteLaws.{writes-over, copy-writes-over}
-use Rattle.cell_writes.proofs.FourLaws.{four-left, fours-turn}
+-- `cell_writes::copy_fours` meets its contract.
+use Rattle.std.proofs.Common.{arith}
+use Rattle.cells.proofs.WriteLaws.{copy-writes-over}
+use Rattle.cells.proofs.LentLaws.{leads-several, leads-over}
+use Rattle.cell_writes.proofs.FourLaws.{fours-next, four-room}
 use Rattle.cell_writes.proofs.copy_fours.Goals as goal
 
-pub loop-k-preserved : goal.loop-k-preserved
-loop-k-preserved c =
-    let m = four-left c.loop-k.k _ c.loop-k-test.true c.loop-k.invariant.1 c.requires.1 in
-    (omega arith, omega (arith, c.loop-k.invariant.1), fours-turn _ _ _ c.loop-k.k _ _ _ _ m c.copy_four.ensures c.loop-k.invariant.2, search rules, search rules)
+pub loop-four-preserved : goal.loop-four-preserved
+loop-four-preserved c =
+    leads-several _ _ _ _ _ _ _ (fours-next _ _ _ c.loop-four.four _ c.loop-four-test.true) c.copy_four.ensures c.loop-four.invariant
 
 pub returns : goal.returns
 returns c =
-    writes-over _ _ _ (copy-writes-over _ _ _ c.loop-k.k _ c.loop-k-test.false) c.loop-k.invariant.2
+    leads-over _ _ _ _ (copy-writes-over _ _ _ _ _ (omega (arith, c.requires.1))) c.loop-four.invariant
+
+pub copy_four-requires : goal.copy_four-requires
+copy_four-requires c = four-room _ _ _ _ _ c.loop-four.four _ _ _ c.loop-four-test.true c.requires.0 c.loop-four.invariant

@@ -1,24 +1,7 @@
--- `control_texts::exec_at` meets its contract: at each return, what the calls and tests on the way say picks the case of `Exec`.
-use Rattle.formats.specs.Format.{pair, through}
-use Rattle.control_texts.specs.Mirror.Exec.{exec, exec_from}
+-- `control_texts::exec_at`: the bounds of the mask and of the word, whose table is too long for the check to find them itself.
 use Rattle.control_texts.proofs.BoundLaws.{mask_bound, size-bound}
 use Rattle.control_texts.proofs.exec_at.Goals as goal
 
 pub exec_byte-requires : goal.exec_byte-requires
 exec_byte-requires c =
-    (mask_bound _ _ _ _ _ c.mask_at.ensures c.in-Got.is, size-bound _ _ _ _ _ c.one_of.ensures c.in-Got-one_of.is)
-
-pub returns-in-Got-one_of : goal.returns-in-Got-one_of
-unfolding exec exec_from pair through
-returns-in-Got-one_of c =
-    rw (← c.mask_at.ensures, c.in-Got.is, ← c.one_of.ensures, c.in-Got-one_of.is, ← c.exec_byte.ensures)
-
-pub returns-in-Stop-one_of : goal.returns-in-Stop-one_of
-unfolding exec exec_from pair through
-returns-in-Stop-one_of c =
-    rw (← c.mask_at.ensures, c.in-Got.is, ← c.one_of.ensures, c.in-Stop-one_of.is)
-
-pub returns-in-Stop : goal.returns-in-Stop
-unfolding exec exec_from pair through
-returns-in-Stop c =
-    rw (← c.mask_at.ensures, c.in-Stop.is)
+    (mask_bound _ _ _ _ c.mask_at.ensures c.in_ok-mask.was, size-bound _ _ _ _ c.one_of.ensures c.in_ok-size.was)

@@ -1,5 +1,5 @@
 -- What a case file says, byte by byte, with a line buffer of some length.
-use Rattle.std.specs.Prelude.{ℕ, Bool, true, false, cond, List, [], ◌∷◌, take, ltb, eqb}
+use Rattle.std.specs.Prelude.{ℕ, Bool, false, cond, List, [], ◌∷◌, take, ltb, eqb}
 use Rattle.tally.specs.declared.Case.{Case}
 use Rattle.tally.specs.Mirror.Reading.{Contents, Tables, Reading, reading, only}
 use Rattle.tally.specs.Mirror.Lines.{nothing, long_line}
@@ -12,13 +12,13 @@ pub record Machine : Type 0 where
   pub reading : Reading
 
 abbrev pub state : ℕ → Bool → Case → State
-state used long case = record { used = used; long = long; case = case }
+state used long case = record { begun = record { used = used; long = long }; case = case }
 
 abbrev pub machine : List ℕ → State → Contents → Tables → Machine
-machine line s contents tables = record { row = row line s.used s.long; reading = reading s.case contents tables }
+machine line s contents tables = record { row = row line s.begun.used s.begun.long; reading = reading s.case contents tables }
 
 unfoldable pub fresh : State
-fresh = record { used = 0; long = false; case = nothing }
+fresh = state 0 false nothing
 
 unfoldable pub ended : Machine → Machine
 ended m =

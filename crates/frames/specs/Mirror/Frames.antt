@@ -2,7 +2,7 @@
 -- byte the kind"; "Anything else, an empty line or one over 16,386 characters included, is 14, at the first such line and before any 13".
 use Rattle.std.specs.Prelude.{ℕ, cond, List, ltb, eqb, get_or}
 use Rattle.hex_text.specs.Bytes.{is_hex, hex_bytes}
-use Rattle.tally.specs.Mirror.Reading.{Reading, reading, contents, tables, only}
+use Rattle.tally.specs.Mirror.Reading.{Reading, reading, tables, only}
 use Rattle.tally.specs.Mirror.Lines.{bad_line}
 use Rattle.table_frames.specs.Mirror.Repeated.{Variables, variables, variable_read, Predicates, predicates, predicate_read, Surfaces, surfaces, surface_read}
 use Rattle.once_frames.specs.Mirror.Once.{Once, once, once_read}

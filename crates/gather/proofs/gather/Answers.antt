@@ -14,4 +14,4 @@ gather_lanes-requires c =
 
 pub returns : goal.returns
 returns c =
-    gather-done _ _ _ _ (λ k. omega (arith, c.type_inv.surfaces k)) _ _ _ _ _ c.fits.ensures c.if-not-fits.false-raw c.shape_of-shape.ensures c.lanes_of-lanes.ensures c.stage_both-room.ensures c.gather_lanes.ensures
+    gather-done _ _ _ _ c.holds_bytes.ensures _ _ _ _ _ _ c.fits.ensures c.if-not-fits.false-raw c.shape_of-shape.ensures c.lanes_of-lanes.ensures c.view.ensures (c.view-2.ensures ∙ c.stage_both-room.ensures) c.gather_lanes.ensures

@@ -1,6 +1,7 @@
 -- `gather::gather_lane` meets its contract: the lane is on, or it is off.
 use Rattle.std.proofs.Common.{arith}
-use Rattle.staging.proofs.LaneTurnLaws.{lane-skipped}
+use Rattle.cells.proofs.LentLaws.{lane-stays}
+use Rattle.cells.specs.Lent.{viewed}
 use Rattle.gather.proofs.CountLaws.{count_small}
 use Rattle.gather.proofs.RoomLaws.{lane-gathered}
 use Rattle.gather.proofs.gather_lane.Goals as goal
@@ -12,7 +13,7 @@ write_dword-requires c =
 
 pub returns-then-on : goal.returns-then-on
 returns-then-on c =
-    lane-gathered _ _ _ _ _ _ _ _ _ _ _ c.write_dword.ensures c.if-on.true c.either_taint-doubtful.ensures c.address_of-address.ensures c.bytes_read-count.ensures
+    lane-gathered (viewed c.args.room) _ _ _ _ _ _ _ _ _ _ c.write_dword.ensures c.if-on.true c.either_taint-doubtful.ensures c.address_of-address.ensures c.bytes_read-count.ensures
 
 pub returns-else-on : goal.returns-else-on
-returns-else-on c = lane-skipped _ _ _ c.if-on.false
+returns-else-on c = lane-stays _ _ _ c.if-on.false

@@ -9,4 +9,4 @@ returns-then-doubtful c =
 
 pub returns-else-doubtful : goal.returns-else-doubtful
 returns-else-doubtful c =
-    read-written _ _ _ _ _ _ _ _ _ c.set_number-else-doubtful.ensures refl c.copy.ensures c.if-doubtful.false
+    read-written _ _ _ _ _ _ _ _ _ (rw c.from-length.ensures at c.set_number-else-doubtful.ensures) refl (rw c.from-length.ensures at c.copy.ensures) c.if-doubtful.false

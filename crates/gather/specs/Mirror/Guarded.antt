@@ -5,7 +5,7 @@ use Rattle.cells.specs.Buffer.{Buffer}
 use Rattle.refusal.specs.declared.Detail.TheVariants as detail
 use Rattle.cells.specs.Effect.{Effect, unless}
 use Rattle.exec_byte.specs.Exec.{exec_size}
-use Rattle.plan.specs.declared.Plan.{Plan}
+use Rattle.plan.specs.Plan.{Plan}
 use Rattle.staging.specs.Lanes.{lanes_on}
 use Rattle.staging.specs.Mirror.Room.{elements_fit}
 use Rattle.gather_effect.specs.Gather.{gather_effect}

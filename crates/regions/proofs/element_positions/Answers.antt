@@ -4,4 +4,4 @@ use Rattle.regions.proofs.element_positions.Goals as goal
 
 pub returns : goal.returns
 returns c =
-    rw (← c.size_of-size.ensures, ← grid-elements, ← c.grid_of-grid.ensures) c.lane_positions.ensures
+    rw (← c.size_of-size.ensures, ← grid-elements, ← c.grid_of-grid.ensures, ← c.from.ensures) c.lane_positions.ensures

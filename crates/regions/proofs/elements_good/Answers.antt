@@ -15,5 +15,6 @@ both register_size v f g lanes size low high two e s l h t = rw (t, l, h, s, e, 
 
 pub returns : goal.returns
 returns c =
-    both _ _ _ _ _ _ _ _ _ (grid-known _ _ _ _ _ _ c.size_of-size.ensures c.grid_of-grid.ensures) c.size_of-size.ensures
-    (ap (λ (r : Reach). r.low) c.reach_of-reach.ensures) (ap (λ (r : Reach). r.high) c.reach_of-reach.ensures) c.two_registers.ensures
+    rw (c.from-high.ensures, c.from.ensures)
+    (both _ _ _ _ _ _ _ _ _ (grid-known _ _ _ _ _ _ c.size_of-size.ensures c.grid_of-grid.ensures) c.size_of-size.ensures
+    (ap (λ (r : Reach). r.low) c.reach_of-reach.ensures) (ap (λ (r : Reach). r.high) c.reach_of-reach.ensures) (rw (c.from-start.ensures, c.from-low.ensures, c.from-high.ensures, c.from-bytes.ensures) at c.two_registers.ensures))

@@ -4,4 +4,4 @@ use Rattle.regions.proofs.raw_positions.Goals as goal
 
 pub returns : goal.returns
 returns c =
-    rw (← c.size_of-size.ensures, ← consecutive-elements) c.lane_positions.ensures
+    rw (← c.size_of-size.ensures, ← consecutive-elements, ← c.from.ensures, ← c.from-2.ensures) c.lane_positions.ensures

@@ -1,54 +1,36 @@
--- `run::run_kernel` meets its contract. The invariant: the rest of the run comes to what the whole run comes to.
-use Rattle.std.proofs.Common.{ap, arith}
-use Rattle.lengths.specs.declared.Lengths.{Lengths}
-use Rattle.run.proofs.RunLaws.{begins, ends, stops, onward, goes, keeps}
+-- `run::run_kernel` meets its contract.
+use Rattle.std.proofs.Common.{refl, sym, ◌∙◌, arith}
+use Rattle.run.proofs.RunLaws.{ends, spent, goes, stops}
 use Rattle.run.proofs.run_kernel.Goals as goal
 
-pub loop-at-init : goal.loop-at-init
-loop-at-init c = begins _ _ (λ k. omega (arith, c.type_inv.kernel k))
+pub returns-then-progress-gt0-clause-outcome : goal.returns-then-progress-gt0-clause-outcome
+returns-then-progress-gt0-clause-outcome c =
+    let told = c.step-progress.ensures.answer in
+    sym (stops _ _ _ _ _ _ c.turns-test.true c.if-at-kernel.false _ _ _ c.if-progress-gt0.true told.0 told.1 c.step-progress.ensures.room.leaves) ∙ c.turns.invariant.left
 
-pub shape_of-registers-then-progress-gt0 : goal.shape_of-registers-then-progress-gt0
-shape_of-registers-then-progress-gt0 c =
-    ap (λ (l : Lengths). l.registers) (keeps _ _ _ _ _ c.loop-at.invariant c.loop-at-test.true _ _ c.step-progress.ensures)
+pub turns-preserved : goal.turns-preserved
+turns-preserved c =
+    let told = c.step-progress.ensures.answer in
+    let g = c.step-progress.ensures.room in
+    let r = c.turns.invariant.references in
+    record {
+      references = record {
+        registers = g.registers ∙ r.registers;
+        register_taint = g.register_taint ∙ r.register_taint;
+        memory = g.memory ∙ r.memory;
+        memory_taint = g.memory_taint ∙ r.memory_taint;
+        surfaces = g.surfaces ∙ r.surfaces;
+        surface_taint = g.surface_taint ∙ r.surface_taint;
+        leaves = refl;
+      };
+      count = omega (arith, c.turns.invariant.count);
+      left = sym (goes _ _ _ _ _ _ c.turns-test.true c.if-at-kernel.false _ _ (omega (arith, told.0, c.if-progress-gt0.false)) told.2 g.leaves) ∙ c.turns.invariant.left;
+    }
 
-pub shape_of-register_taint-then-progress-gt0 : goal.shape_of-register_taint-then-progress-gt0
-shape_of-register_taint-then-progress-gt0 c =
-    ap (λ (l : Lengths). l.taint.registers) (keeps _ _ _ _ _ c.loop-at.invariant c.loop-at-test.true _ _ c.step-progress.ensures)
+pub returns-after-turns-clause-outcome : goal.returns-after-turns-clause-outcome
+returns-after-turns-clause-outcome c =
+    sym (spent _ _ _ _ _ (omega (arith, c.turns-test.false))) ∙ c.turns.invariant.left
 
-pub shape_of-memory-then-progress-gt0 : goal.shape_of-memory-then-progress-gt0
-shape_of-memory-then-progress-gt0 c =
-    ap (λ (l : Lengths). l.memory) (keeps _ _ _ _ _ c.loop-at.invariant c.loop-at-test.true _ _ c.step-progress.ensures)
-
-pub shape_of-memory_taint-then-progress-gt0 : goal.shape_of-memory_taint-then-progress-gt0
-shape_of-memory_taint-then-progress-gt0 c =
-    ap (λ (l : Lengths). l.taint.memory) (keeps _ _ _ _ _ c.loop-at.invariant c.loop-at-test.true _ _ c.step-progress.ensures)
-
-pub returns-then-progress-gt0 : goal.returns-then-progress-gt0
-returns-then-progress-gt0 c =
-    stops _ _ _ _ _ c.loop-at.invariant c.loop-at-test.true _ _ c.step-progress.ensures c.if-progress-gt0.true
-
-pub overflow_add-completed : goal.overflow_add-completed
-overflow_add-completed c = omega (arith, c.loop-at.invariant.few, c.loop-at-test.true, c.well_formed)
-
-pub loop-at-smaller : goal.loop-at-smaller
-loop-at-smaller c =
-    omega (arith, c.loop-at-test.true, (onward _ _ _ _ _ c.loop-at.invariant c.loop-at-test.true _ _ c.step-progress.ensures c.if-progress-gt0.false).0)
-
-pub loop-at-preserved : goal.loop-at-preserved
-loop-at-preserved c =
-    goes _ _ _ _ _ c.loop-at.invariant c.loop-at-test.true _ _ c.step-progress.ensures c.if-progress-gt0.false
-
-pub shape_of-registers : goal.shape_of-registers
-shape_of-registers c = ap (λ (l : Lengths). l.registers) c.loop-at.invariant.lengths
-
-pub shape_of-register_taint : goal.shape_of-register_taint
-shape_of-register_taint c = ap (λ (l : Lengths). l.taint.registers) c.loop-at.invariant.lengths
-
-pub shape_of-memory : goal.shape_of-memory
-shape_of-memory c = ap (λ (l : Lengths). l.memory) c.loop-at.invariant.lengths
-
-pub shape_of-memory_taint : goal.shape_of-memory_taint
-shape_of-memory_taint c = ap (λ (l : Lengths). l.taint.memory) c.loop-at.invariant.lengths
-
-pub returns : goal.returns
-returns c = ends _ _ _ _ _ c.loop-at.invariant c.loop-at-test.false
+pub returns-then-at-kernel-clause-outcome : goal.returns-then-at-kernel-clause-outcome
+returns-then-at-kernel-clause-outcome c =
+    sym (ends _ _ _ _ _ c.if-at-kernel.true) ∙ c.turns.invariant.left

@@ -1,12 +1,17 @@
-use Rattle.std.proofs.Common.{◌-◌, length}
+use Rattle.std.proofs.Common.{◌≡◌, ◌-◌, length}
 use Rattle.tables.specs.Tables.{tables}
-use Rattle.step.specs.State.{setup, state}
-use Rattle.run.proofs.RunLaws.{Reached}
+use Rattle.step.specs.State.{Setup, setup}
+use Rattle.step.specs.Borrowed.{state_of, Goes}
+use Rattle.run.specs.Run.{run_through}
+use Rattle.run.proofs.RunLaws.{rest}
 use Rattle.run.proofs.run_kernel.Given as goal
 
-abbrev pub invariant-loop-at : goal.invariant-loop-at
-invariant-loop-at l =
-    Reached (setup l.kernel (tables (record { types = l.types; starts = l.starts; counts = l.counts }) (record { bits = l.predicate_bits; counts = l.predicate_counts }) (record { lengths = l.surface_lengths })) l.constants) (state l.initial.registers l.initial.register_taint l.surfaces l.surface_taint l.initial.memory l.initial.memory_taint) l.completed l.at (state l.registers l.register_taint l.surfaces l.surface_taint l.memory l.memory_taint)
-
-abbrev pub decreases-loop-at : goal.decreases-loop-at
-decreases-loop-at l = length l.kernel - l.at
+-- what is left of the run comes to what the whole run comes to
+abbrev pub invariant-turns : goal.invariant-turns
+invariant-turns l =
+    let x : Setup = setup l.kernel (tables (record { types = l.types; starts = l.starts; counts = l.counts }) (record { bits = l.predicate_bits; counts = l.predicate_counts }) (record { lengths = l.surface_lengths })) l.constants in
+    record {
+      references : Goes l.fn.room l.room (state_of l.room);
+      count : l.completed ≡ l._turn;
+      left : rest x (length l.kernel - l._turn) l.completed l.at (state_of l.room) ≡ run_through x (state_of l.fn.room);
+    }

@@ -5,15 +5,14 @@ use Rattle.scatter.proofs.from_room.Goals as goal
 pub returns-then-some_tainted : goal.returns-then-some_tainted
 returns-then-some_tainted c = tainted-done _ _ _ _ _ _ _ c.some_tainted.ensures _ c.if-some_tainted.true
 
-pub returns-then-is_some : goal.returns-then-is_some
-returns-then-is_some c =
-    let a = c.args in
-    misaligned-done _ _ a.pairs a.on.now a.sums.now _ _ c.some_tainted.ensures c.if-some_tainted.false _ c.first_breaking-misaligned.ensures _ c.is_some.ensures _ c.if-is_some.true
+pub returns-in-Some : goal.returns-in-Some
+returns-in-Some c =
+    misaligned-done _ _ _ _ _ _ _ c.some_tainted.ensures c.if-some_tainted.false _ _ _ c.in-Some.ensures
 
-pub returns-then-is_some-2 : goal.returns-then-is_some-2
-returns-then-is_some-2 c =
-    outside-done _ _ _ _ _ _ _ c.some_tainted.ensures c.if-some_tainted.false _ c.first_breaking-misaligned.ensures _ c.is_some.ensures c.if-is_some.false _ c.first_breaking-outside.ensures _ c.is_some-2.ensures _ c.if-is_some-2.true
+pub returns-in-Some-outside : goal.returns-in-Some-outside
+returns-in-Some-outside c =
+    outside-done _ _ _ _ _ _ _ c.some_tainted.ensures c.if-some_tainted.false c.in_default.ensures _ _ _ c.in-Some-outside.ensures
 
 pub returns : goal.returns
 returns c =
-    pairs-done _ _ _ _ _ _ _ c.some_tainted.ensures c.if-some_tainted.false _ c.first_breaking-misaligned.ensures _ c.is_some.ensures c.if-is_some.false _ c.first_breaking-outside.ensures _ c.is_some-2.ensures _ _ c.if-is_some-2.false c.write_pairs.ensures
+    pairs-done _ _ _ _ _ _ _ c.some_tainted.ensures c.if-some_tainted.false c.in_default.ensures _ _ c.in_default-outside.ensures c.write_pairs.ensures

@@ -7,7 +7,7 @@ use Rattle.cells.specs.Effect.{Effect, unless, unless_found, writing}
 use Rattle.exec_byte.specs.Exec.{exec_size}
 use Rattle.channels.specs.Mirror.Prepared.{is_on}
 use Rattle.channels.specs.declared.Lanes.{Lanes}
-use Rattle.plan.specs.declared.Plan.{Plan}
+use Rattle.plan.specs.Plan.{Plan}
 use Rattle.payloads.specs.Needed.{scatter_needed}
 use Rattle.staging.specs.declared.Layout.{Layout}
 use Rattle.staging.specs.Mirror.Room.{layout_of, data_place, data_staged, first_number, second_number}

@@ -6,7 +6,7 @@ use Rattle.refusal.specs.declared.Detail.TheVariants as detail
 use Rattle.cells.specs.Buffer.{Buffer}
 use Rattle.cells.specs.Effect.{Effect, unless}
 use Rattle.exec_byte.specs.Exec.{exec_size}
-use Rattle.plan.specs.declared.Plan.{Plan}
+use Rattle.plan.specs.Plan.{Plan}
 use Rattle.staging.specs.Lanes.{lanes_on}
 use Rattle.staging.specs.Mirror.Room.{elements_fit}
 use Rattle.scatter_effect.specs.Scatter.{Window, scatter_effect}

@@ -1,17 +1,11 @@
-use Rattle.std.proofs.Common.{◌≡◌, ◌-◌, ◌≤◌}
-use Rattle.refusal.specs.declared.Detail.TheVariants as detail
+use Rattle.std.proofs.Common.{◌≡◌}
+use Rattle.std.specs.Prelude.{None}
 use Rattle.scatter_pairs.proofs.SearchLaws.{ChannelsLeft, LanesLeft}
 use Rattle.scatter_pairs.proofs.first_breaking.Given as goal
 
-abbrev pub invariant-loop-lane : goal.invariant-loop-lane
-invariant-loop-lane l =
-    (l.found ≡ detail.None) × (l.lane ≤ l.pairs.lanes) × LanesLeft l.rule l.on l.sums l.pairs l.channel l.lane
-
-abbrev pub decreases-loop-lane : goal.decreases-loop-lane
-decreases-loop-lane l = l.pairs.lanes - l.lane
+-- nothing was found yet, and what is left to search finds what the whole does
+abbrev pub invariant-lanes : goal.invariant-lanes
+invariant-lanes l = record { none : l.found ≡ None; left : LanesLeft l.rule l.targets.on.now l.targets.sums.now l.pairs l.channel l.lane }
 
 abbrev pub invariant-search : goal.invariant-search
-invariant-search l = (l.found ≡ detail.None) × (l.channel ≤ 4) × ChannelsLeft l.rule l.on l.sums l.pairs l.channel
-
-abbrev pub decreases-search : goal.decreases-search
-decreases-search l = 4 - l.channel
+invariant-search l = record { none : l.found ≡ None; left : ChannelsLeft l.rule l.targets.on.now l.targets.sums.now l.pairs l.channel }

@@ -1,9 +1,7 @@
-use Rattle.std.proofs.Common.{◌-◌, ◌≤◌, ◌≡◌}
+use Rattle.std.proofs.Common.{◌≤◌, ◌≡◌}
 use Rattle.payloads.specs.Needed.{enabled_below}
 use Rattle.scatter_writes.proofs.rank.Given as goal
 
+-- the count is that of the channels passed
 abbrev pub invariant-loop-k : goal.invariant-loop-k
-invariant-loop-k l = (l.k ≤ l.channel) × (l.count ≡ enabled_below l.channels l.k) × (l.count ≤ l.k)
-
-abbrev pub decreases-loop-k : goal.decreases-loop-k
-decreases-loop-k l = l.channel - l.k
+invariant-loop-k l = record { counted : l.count ≡ enabled_below l.channels l.k; small : l.count ≤ l.k }

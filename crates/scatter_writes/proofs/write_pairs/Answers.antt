@@ -1,16 +1,16 @@
--- `scatter_writes::write_pairs` meets its contract. The writes that are left, made now, give the whole.
-use Rattle.std.proofs.Common.{rules, refl, arith}
-use Rattle.cells.proofs.LaneLaws.{lanes-turn, lanes-over}
-use Rattle.scatter_writes.proofs.WriteLaws.{rows_written}
+-- `scatter_writes::write_pairs` meets its contract.
+use Rattle.std.proofs.Common.{refl}
+use Rattle.cells.proofs.LentLaws.{leads-begun, lanes-lead, lanes-led}
+use Rattle.scatter_writes.proofs.WriteLaws.{rows-begun}
 use Rattle.scatter_writes.proofs.write_pairs.Goals as goal
 
 pub loop-channel-init : goal.loop-channel-init
-loop-channel-init c = (omega arith, rows_written _ _ _ _ _ _, refl, refl)
+loop-channel-init c = leads-begun _ _ _ (rows-begun _ _ _ _ _)
 
 pub loop-channel-preserved : goal.loop-channel-preserved
 loop-channel-preserved c =
-    (omega arith, lanes-turn _ _ c.loop-channel.channel _ _ _ _ _ c.loop-channel-test.true refl c.write_channel.ensures c.loop-channel.invariant.1, search rules, search rules)
+    lanes-lead _ _ c.loop-channel.channel _ _ _ _ _ _ c.loop-channel-test.true refl c.write_channel.ensures c.loop-channel.invariant
 
 pub returns : goal.returns
 returns c =
-    lanes-over _ _ c.loop-channel.channel _ _ _ c.loop-channel-test.false c.loop-channel.invariant.1
+    lanes-led _ _ c.loop-channel.channel _ _ _ _ c.loop-channel-test.false c.loop-channel.invariant

@@ -1,17 +1,9 @@
-use Rattle.std.proofs.Common.{◌-◌, ◌≤◌, ◌≡◌, length}
-use Rattle.cells.specs.Buffer.{buffer}
-use Rattle.cells.specs.Writes.{written_all}
+use Rattle.std.proofs.Common.{◌-◌}
+use Rattle.cells.specs.Lent.{viewed, Leads}
 use Rattle.cells.specs.Over.{among_from, each}
 use Rattle.bits.specs.Bits.{bit}
 use Rattle.scatter_writes.specs.Mirror.Writes.{row_place, row_writes, all_writes}
 use Rattle.scatter_writes.proofs.write_pairs.Given as goal
 
 abbrev pub invariant-loop-channel : goal.invariant-loop-channel
-invariant-loop-channel l =
-    (l.channel ≤ 4)
-    × (written_all (each (λ c. row_writes l.base (buffer l.room l.room_taint) (row_place l.pairs c) l.on l.sums l.pairs.lanes c) (among_from (bit l.pairs.channels) l.channel (4 - l.channel))) (buffer l.memory l.memory_taint) ≡ written_all (all_writes l.base (buffer l.room l.room_taint) l.pairs l.on l.sums) (buffer l.initial.memory l.initial.memory_taint))
-    × (length l.memory ≡ length l.initial.memory)
-    × (length l.memory_taint ≡ length l.initial.memory_taint)
-
-abbrev pub decreases-loop-channel : goal.decreases-loop-channel
-decreases-loop-channel l = 4 - l.channel
+invariant-loop-channel l = Leads l.fn.memory l.memory (each (λ c. row_writes l.base (viewed l.room) (row_place l.pairs c) l.targets.on.now l.targets.sums.now l.pairs.lanes c) (among_from (bit l.pairs.channels) l.channel (4 - l.channel))) (all_writes l.base (viewed l.room) l.pairs l.targets.on.now l.targets.sums.now)

@@ -1,16 +1,8 @@
-use Rattle.std.proofs.Common.{◌-◌, ◌≤◌, ◌≡◌, false, length, get_or}
-use Rattle.cells.specs.Buffer.{buffer}
-use Rattle.cells.specs.Writes.{written_all}
+use Rattle.std.proofs.Common.{◌-◌, false, get_or}
+use Rattle.cells.specs.Lent.{viewed, Leads}
 use Rattle.cells.specs.Over.{among_from, each}
 use Rattle.scatter_writes.specs.Mirror.Writes.{pair_writes, row_writes}
 use Rattle.scatter_writes.proofs.write_row.Given as goal
 
 abbrev pub invariant-loop-lane : goal.invariant-loop-lane
-invariant-loop-lane l =
-    (l.lane ≤ l.lanes)
-    × (written_all (each (λ i. pair_writes l.base (buffer l.room l.room_taint) l.begin (get_or l.sums i 0) l.channel i) (among_from (λ k. get_or l.on k false) l.lane (l.lanes - l.lane))) (buffer l.memory l.memory_taint) ≡ written_all (row_writes l.base (buffer l.room l.room_taint) l.begin l.on l.sums l.lanes l.channel) (buffer l.initial.memory l.initial.memory_taint))
-    × (length l.memory ≡ length l.initial.memory)
-    × (length l.memory_taint ≡ length l.initial.memory_taint)
-
-abbrev pub decreases-loop-lane : goal.decreases-loop-lane
-decreases-loop-lane l = l.lanes - l.lane
+invariant-loop-lane l = Leads l.fn.memory l.memory (each (λ i. pair_writes l.base (viewed l.room) l.begin (get_or l.targets.sums.now i 0) l.channel i) (among_from (λ k. get_or l.targets.on.now k false) l.lane (l.lanes - l.lane))) (row_writes l.base (viewed l.room) l.begin l.targets.on.now l.targets.sums.now l.lanes l.channel)

@@ -14,4 +14,4 @@ write_lanes-requires c =
 
 pub returns : goal.returns
 returns c =
-    shl-done _ _ _ _ _ _ _ _ c.fits.ensures c.if-not-fits.false-raw c.shape_of-shape.ensures c.lanes_of-lanes.ensures c.stage_both-room.ensures c.write_lanes.ensures
+    shl-done _ _ _ _ _ _ _ _ _ c.fits.ensures c.if-not-fits.false-raw c.shape_of-shape.ensures c.lanes_of-lanes.ensures c.view.ensures (c.view-2.ensures ∙ c.stage_both-room.ensures) c.write_lanes.ensures

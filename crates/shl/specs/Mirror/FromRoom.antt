@@ -4,7 +4,7 @@ use Rattle.cells.specs.Buffer.{Buffer, mark_of}
 use Rattle.cells.specs.Writes.{Write, number_writes}
 use Rattle.exec_byte.specs.Exec.{exec_size}
 use Rattle.shift.specs.Mirror.Total.{total_shift}
-use Rattle.plan.specs.declared.Plan.{Plan}
+use Rattle.plan.specs.Plan.{Plan}
 use Rattle.staging.specs.Mirror.Room.{layout_of, first_number, second_number, either_staged}
 use Rattle.shl.specs.declared.Shape.{Shape}
 

@@ -1,16 +1,8 @@
-use Rattle.std.proofs.Common.{◌-◌, ◌≤◌, ◌≡◌, true, length}
-use Rattle.cells.specs.Buffer.{buffer}
-use Rattle.cells.specs.Writes.{written_all}
-use Rattle.cells.specs.Over.{among_from, each}
-use Rattle.staging.specs.Mirror.Room.{stage_lane, staged}
+use Rattle.std.proofs.Common.{◌-◌, true}
+use Rattle.cells.specs.Over.{among_from, among, each}
+use Rattle.cells.specs.Lent.{viewed, Leads}
+use Rattle.staging.specs.Mirror.Room.{stage_lane}
 use Rattle.staging.proofs.stage.Given as goal
 
 abbrev pub invariant-loop-lane : goal.invariant-loop-lane
-invariant-loop-lane l =
-    (l.lane ≤ l.lanes)
-    × (written_all (each (stage_lane (buffer l.registers l.register_taint) l.elements l.base) (among_from (λ _. true) l.lane (l.lanes - l.lane))) (buffer l.bytes l.taint) ≡ staged (buffer l.registers l.register_taint) l.elements l.lanes l.base (buffer l.initial.bytes l.initial.taint))
-    × (length l.bytes ≡ length l.initial.bytes)
-    × (length l.taint ≡ length l.initial.taint)
-
-abbrev pub decreases-loop-lane : goal.decreases-loop-lane
-decreases-loop-lane l = l.lanes - l.lane
+invariant-loop-lane l = Leads l.fn.room l.room (each (stage_lane (viewed l.registers) l.elements l.base) (among_from (λ _. true) l.lane (l.lanes - l.lane))) (each (stage_lane (viewed l.registers) l.elements l.base) (among (λ _. true) l.lanes))

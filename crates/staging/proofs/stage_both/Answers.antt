@@ -1,8 +1,7 @@
--- `staging::stage_both` meets its contract: one source after the other, in a room of zeros.
-use Rattle.std.proofs.Common.{refl}
-use Rattle.staging.proofs.StageLaws.{both_told}
+-- `staging::stage_both` meets its contract: the room begins as zeros.
+use Rattle.staging.specs.Mirror.Room.{both_staged}
 use Rattle.staging.proofs.stage_both.Goals as goal
 
 pub returns : goal.returns
-returns c =
-    both_told _ _ _ _ _ _ _ _ _ _ c.layout_of-layout.ensures c.first_place-begin.ensures c.second_place-next.ensures c.stage.ensures c.stage-2.ensures refl
+unfolding both_staged
+returns c = c.stage_sources.ensures.content

@@ -4,4 +4,4 @@ use Rattle.staging.proofs.stage_with_data.Goals as goal
 
 pub returns : goal.returns
 returns c =
-    data-told _ _ _ _ _ _ _ _ _ _ c.layout_of-layout.ensures c.data_place-to.ensures c.stage_both-room.ensures c.copy.ensures
+    data-told _ _ _ _ _ _ _ _ _ _ c.layout_of-layout.ensures c.data_place-to.ensures c.stage_both-room.ensures c.copy.ensures.content

@@ -40,9 +40,12 @@ unfoldable pub staged : Buffer → Elements → ℕ → ℕ → Buffer → Buffe
 staged registers e lanes base room = written_all (each (stage_lane registers e base) (among (λ _. true) lanes)) room
 
 -- both sources of an instruction
+abbrev pub sources_staged : Buffer → Elements → Elements → ℕ → Buffer → Buffer
+sources_staged registers first second lanes room =
+    staged registers second lanes (second_place (layout_of first second lanes) 0) (staged registers first lanes (first_place (layout_of first second lanes) 0) room)
+
 unfoldable pub both_staged : Buffer → Elements → Elements → ℕ → Buffer
-both_staged registers first second lanes =
-    staged registers second lanes (second_place (layout_of first second lanes) 0) (staged registers first lanes (first_place (layout_of first second lanes) 0) empty_room)
+both_staged registers first second lanes = sources_staged registers first second lanes empty_room
 
 -- and, of a scatter, so many register bytes from a position on
 unfoldable pub data_staged : Buffer → Elements → Elements → ℕ → ℕ → ℕ → Buffer

@@ -1,22 +1,25 @@
--- `step::perform` meets its contract: a refusal, or what the executor of the operation left.
-use Rattle.step.proofs.PerformLaws.{refusal-performs, shl-performs, gather-performs, scatter-performs, none-performs}
+-- `step::perform` meets its contract: it leaves what the executor of the operation left.
+use Rattle.std.proofs.Common.{refl}
+use Rattle.step.proofs.PerformLaws.{shl-performs, gather-performs, scatter-performs}
 use Rattle.step.proofs.perform.Goals as goal
 
-pub returns-then-plan-gt0 : goal.returns-then-plan-gt0
-returns-then-plan-gt0 c = refusal-performs _ _ _ c.if-plan-gt0.true
+pub returns-in-Shl-clause-answer : goal.returns-in-Shl-clause-answer
+returns-in-Shl-clause-answer c = (shl-performs _ _ _ c.requires _ _ c.in-Shl.is c.shl.ensures).0
 
-pub returns-in-Shl : goal.returns-in-Shl
-returns-in-Shl c =
-    shl-performs _ _ _ c.requires c.if-plan-gt0.false _ _ c.in-Shl.is c.shl.ensures
+pub returns-in-Shl-clause-room : goal.returns-in-Shl-clause-room
+returns-in-Shl-clause-room c =
+    record { registers = refl; register_taint = refl; memory = refl; memory_taint = refl; surfaces = refl; surface_taint = refl; leaves = (shl-performs _ _ _ c.requires _ _ c.in-Shl.is c.shl.ensures).1 }
 
-pub returns-in-Gather : goal.returns-in-Gather
-returns-in-Gather c =
-    gather-performs _ _ _ c.requires c.if-plan-gt0.false _ _ c.in-Gather.is c.gather.ensures
+pub returns-in-Gather-clause-answer : goal.returns-in-Gather-clause-answer
+returns-in-Gather-clause-answer c = (gather-performs _ _ _ c.requires _ _ c.in-Gather.is c.gather.ensures).0
 
-pub returns-in-Scatter : goal.returns-in-Scatter
-returns-in-Scatter c =
-    scatter-performs _ _ _ c.requires c.if-plan-gt0.false _ _ c.in-Scatter.is c.scatter.ensures
+pub returns-in-Gather-clause-room : goal.returns-in-Gather-clause-room
+returns-in-Gather-clause-room c =
+    record { registers = refl; register_taint = refl; memory = refl; memory_taint = refl; surfaces = refl; surface_taint = refl; leaves = (gather-performs _ _ _ c.requires _ _ c.in-Gather.is c.gather.ensures).1 }
 
-pub returns-in-Refused : goal.returns-in-Refused
-returns-in-Refused c =
-    none-performs _ _ _ c.requires c.if-plan-gt0.false c.in-Refused.is
+pub returns-in-Scatter-clause-answer : goal.returns-in-Scatter-clause-answer
+returns-in-Scatter-clause-answer c = (scatter-performs _ _ _ c.requires _ _ c.in-Scatter.is c.scatter.ensures).0
+
+pub returns-in-Scatter-clause-room : goal.returns-in-Scatter-clause-room
+returns-in-Scatter-clause-room c =
+    record { registers = refl; register_taint = refl; memory = refl; memory_taint = refl; surfaces = refl; surface_taint = refl; leaves = (scatter-performs _ _ _ c.requires _ _ c.in-Scatter.is c.scatter.ensures).1 }

@@ -1,9 +1,9 @@
 -- A plan that the executors' guards let pass. Every plan of a decoded and checked instruction is one, whatever the tables hold
 -- (`proofs/FitsLaws.antt`).
 use Rattle.std.specs.Prelude.{◌≡◌, Bool, true}
-use Rattle.plan.specs.declared.Plan.{Plan}
-use Rattle.plan.specs.declared.Operation.{Operation}
-use Rattle.plan.specs.declared.Operation.TheVariants as operation
+use Rattle.plan.specs.Plan.{Plan}
+use Rattle.plan.specs.Operation.{Operation}
+use Rattle.plan.specs.Operation as operation
 use Rattle.shl.specs.Mirror.Guarded.{shl_fits}
 use Rattle.gather.specs.Mirror.Guarded.{gather_fits}
 use Rattle.scatter.specs.Mirror.Guarded.{scatter_fits}

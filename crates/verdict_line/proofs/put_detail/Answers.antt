@@ -9,8 +9,8 @@ returns-in-None c =
 
 pub returns-in-Operand : goal.returns-in-Operand
 returns-in-Operand c =
-    operand-put _ _ _ _ _ _ _ _ c.in-Operand.is (omega arith) c.put_word-a.ensures c.put_number.ensures
+    operand-put _ _ _ _ _ _ _ _ c.in-Operand.is (omega arith) c.put_word-a.ensures (cc)
 
 pub returns-in-Pair : goal.returns-in-Pair
 returns-in-Pair c =
-    pair_put _ _ _ _ _ _ _ _ _ _ _ _ _ c.in-Pair.is (omega arith) (omega arith) c.put_word-a-in-Pair.ensures c.put_number-b.ensures c.put_word-c.ensures c.put_number-in-Pair.ensures
+    pair_put _ _ _ _ _ _ _ _ _ _ _ _ _ c.in-Pair.is (omega arith) (omega arith) c.put_word-a-in-Pair.ensures (cc) c.put_word-c.ensures (cc)

@@ -3,6 +3,3 @@ use Rattle.plan_tests.proofs.answers.mask_of.Given as goal
 
 abbrev pub invariant-loop-lane : goal.invariant-loop-lane
 invariant-loop-lane l = l.mask < 4294967296
-
-abbrev pub decreases-loop-lane : goal.decreases-loop-lane
-decreases-loop-lane l = 32 - l.lane

@@ -1,9 +1,0 @@
--- `encoder::Draft::with_access` meets its contract: one call for each field, in order.
-use Rattle.field_groups.proofs.LayoutLaws.{access-fields}
-use Rattle.encoder.specs.Mirror.Draft.{with_fields}
-use Rattle.encoder.proofs.Draft.with_access.Goals as goal
-
-pub returns : goal.returns
-unfolding with_fields
-returns c =
-    rw (access-fields, ← c.with_field.ensures, ← c.with_field-2.ensures, ← c.with_field-3.ensures, ← c.with_field-4.ensures)

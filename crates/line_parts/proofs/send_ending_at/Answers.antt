@@ -1,7 +1,0 @@
--- `line_parts::send_ending_at` meets its contract: at each return, what the calls and tests on the way say is the table's answer.
-use Rattle.line_parts.proofs.BoundLaws.{sends-bound}
-use Rattle.line_parts.proofs.send_ending_at.Goals as goal
-
-pub byte_of-requires : goal.byte_of-requires
-byte_of-requires c =
-    sends-bound _ _ _ _ _ c.one_of.ensures c.in-Got.is
