@@ -8,6 +8,7 @@ ghost use Rattle.cells.specs.Writes.{written_all};
 ghost use Rattle.cells.specs.Lent.{viewed, held, Becomes};
 ghost use Rattle.cells.specs.Over.{among, each};
 ghost use Rattle.cells.specs.Effect.{RegistersDone};
+ghost use Rattle.plan.specs.Planned.{plan_of};
 ghost use Rattle.channels.specs.Mirror.Prepared.{is_on};
 ghost use Rattle.gather.specs.Mirror.FromRoom.{shape_of, room_address, bytes_read, dword_writes, room_writes, room_lane};
 ghost use Rattle.gather.specs.Mirror.Guarded.{gather_fits, gather_guarded};
@@ -20,7 +21,7 @@ use staging::Layout;
 
 // Whether the offsets have room, and are dwords at most.
 fn fits(plan: Plan) -> bool
-    ensures { result ≡ gather_fits plan }
+    ensures { result ≡ gather_fits (plan_of plan) }
 {
     let lanes = exec_byte::split(plan.control.exec).size;
     let left = plan.left;
@@ -39,7 +40,7 @@ struct Shape {
 }
 
 fn shape_of(plan: Plan) -> Shape
-    ensures { result ≡ shape_of plan }
+    ensures { result ≡ shape_of (plan_of plan) }
 {
     let left = plan.left;
     let right = plan.right;
@@ -155,7 +156,7 @@ pub fn gather(
     registers: &mut Buffer<'_>,
     surfaces: View<'_>,
 ) -> Result<(), Refusal>
-    ensures { RegistersDone (gather_guarded mask plan (held registers.old) (viewed surfaces.entry)) result registers.old registers.new }
+    ensures { RegistersDone (gather_guarded mask (plan_of plan) (held registers.old) (viewed surfaces.entry)) result registers.old registers.new }
 {
     if !fits(plan) {
         return Err(Refusal::Outside);

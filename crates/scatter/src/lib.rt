@@ -6,6 +6,7 @@ ghost use Rattle.std.specs.Prelude.{◌≡◌, ◌≤◌, true, slice_index};
 ghost use Rattle.cells.specs.Lent.{viewed};
 ghost use Rattle.staging.specs.Staged.{in_room};
 ghost use Rattle.cells.specs.Effect.{MemoryDone};
+ghost use Rattle.plan.specs.Planned.{plan_of};
 ghost use Rattle.scatter.specs.Mirror.Guarded.{scatter_fits, window, scatter_guarded};
 ghost use Rattle.scatter.specs.Mirror.FromRoom.{layout_for, pairs_of, sources_staged, lane_sum, WorkedOut, room_effect};
 
@@ -18,7 +19,7 @@ use scatter_pairs::{Pairs, Rule, Targets};
 use staging::{Layout, Room};
 
 fn layout_for(plan: Plan) -> Layout
-    ensures { result ≡ layout_for plan }
+    ensures { result ≡ layout_for (plan_of plan) }
 {
     let left = plan.left;
     let right = plan.right;
@@ -26,7 +27,7 @@ fn layout_for(plan: Plan) -> Layout
 }
 
 fn pairs_of(plan: Plan) -> Pairs
-    ensures { result ≡ pairs_of plan }
+    ensures { result ≡ pairs_of (plan_of plan) }
 {
     Pairs {
         lanes: exec_byte::split(plan.control.exec).size,
@@ -101,7 +102,7 @@ fn from_room(
 
 // Whether the lanes are no more than 16, nor the dwords from a channel's data to the next channel's, and the elements of both addresses have room.
 fn fits(plan: Plan) -> bool
-    ensures { result ≡ scatter_fits plan }
+    ensures { result ≡ scatter_fits (plan_of plan) }
 {
     let lanes = exec_byte::split(plan.control.exec).size;
     let left = plan.left;
@@ -120,7 +121,7 @@ fn first_byte(elements: Elements) -> u32
 
 // All sources: the addresses' elements, and the dwords of Src that the enabled channels need.
 fn stage_sources(registers: View<'_>, plan: Plan) -> Room
-    ensures { in_room result ≡ sources_staged (viewed registers.entry) plan }
+    ensures { in_room result ≡ sources_staged (viewed registers.entry) (plan_of plan) }
 {
     let lanes = exec_byte::split(plan.control.exec).size;
     let left = plan.left;
@@ -139,8 +140,8 @@ fn scatter_fitting(
     registers: View<'_>,
     memory: &mut Buffer<'_>,
 ) -> Result<(), Refusal>
-    requires { scatter_fits plan ≡ true }
-    ensures { MemoryDone (scatter_guarded (window base memory.old.bytes.now) mask plan (viewed registers.entry)) result memory.old memory.new }
+    requires { scatter_fits (plan_of plan) ≡ true }
+    ensures { MemoryDone (scatter_guarded (window base memory.old.bytes.now) mask (plan_of plan) (viewed registers.entry)) result memory.old memory.new }
 {
     let control = plan.control;
     let lanes = channels::lanes_of(control.exec, control.pred, mask, plan.bits);
@@ -163,7 +164,7 @@ pub fn scatter(
     registers: View<'_>,
     memory: &mut Buffer<'_>,
 ) -> Result<(), Refusal>
-    ensures { MemoryDone (scatter_guarded (window base memory.old.bytes.now) mask plan (viewed registers.entry)) result memory.old memory.new }
+    ensures { MemoryDone (scatter_guarded (window base memory.old.bytes.now) mask (plan_of plan) (viewed registers.entry)) result memory.old memory.new }
 {
     if fits(plan) {
         scatter_fitting(plan, mask, base, registers, memory)

@@ -7,6 +7,7 @@ ghost use Rattle.cells.specs.Writes.{written_all};
 ghost use Rattle.cells.specs.Lent.{viewed, held, Becomes};
 ghost use Rattle.cells.specs.Over.{among, each};
 ghost use Rattle.cells.specs.Effect.{RegistersDone};
+ghost use Rattle.plan.specs.Planned.{plan_of};
 ghost use Rattle.channels.specs.Mirror.Prepared.{is_on};
 ghost use Rattle.shl.specs.Mirror.FromRoom.{shape_of, room_value, room_writes, room_lane};
 ghost use Rattle.shl.specs.Mirror.Guarded.{shl_fits, shl_guarded};
@@ -19,7 +20,7 @@ use staging::Layout;
 
 // Whether the sources have room, and are small enough to be shifted.
 fn fits(plan: Plan) -> bool
-    ensures { result ≡ shl_fits plan }
+    ensures { result ≡ shl_fits (plan_of plan) }
 {
     let lanes = exec_byte::split(plan.control.exec).size;
     let left = plan.left;
@@ -38,7 +39,7 @@ struct Shape {
 }
 
 fn shape_of(plan: Plan) -> Shape
-    ensures { result ≡ shape_of plan }
+    ensures { result ≡ shape_of (plan_of plan) }
 {
     let left = plan.left;
     let right = plan.right;
@@ -92,7 +93,7 @@ fn write_lanes(
 
 // Refused, with nothing written, is only a plan that no check makes.
 pub fn shl(plan: Plan, mask: u32, registers: &mut Buffer<'_>) -> Result<(), Refusal>
-    ensures { RegistersDone (shl_guarded mask plan (held registers.old)) result registers.old registers.new }
+    ensures { RegistersDone (shl_guarded mask (plan_of plan) (held registers.old)) result registers.old registers.new }
 {
     if !fits(plan) {
         return Err(Refusal::Outside);
