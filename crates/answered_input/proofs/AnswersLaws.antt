@@ -58,6 +58,23 @@ input-known None left f line read done false asked out after used l r e p same =
 input-known (Some text) left f line read done false asked out after used l r e p same =
     inr (subst (λ (t : List ℕ). Puts t out after used) (ap (λ (b : Bool). cond b (case_output f done.reading) []) same) p)
 
+module _ (f : Form) (line : List ℕ) (read done : Machine) (out after : List ℕ) (used : ℕ) (l : length line ≡ 16386) where
+  -- the input was read to its end
+  module _ (e : done ≡ finished read) (p : Puts (case_output f done.reading) out after used) where
+    pub read-answered : Reads true (begun line) read → PutsAnswer (case_file_text f) out after used
+    read-answered r = input-answered f line read done true true out after used l r e (ended-puts true f done.reading out after used refl p) refl
+
+    pub read-known : (known left : Option (List ℕ)) → ReadsKnown known left true (begun line) read → PutsKnown known (case_file_text f) out after used
+    read-known known left r = input-known known left f line read done true true out after used l r e (ended-puts true f done.reading out after used refl p) refl
+
+-- or not
+module _ (f : Form) (line : List ℕ) (read : Machine) (out : List ℕ) (l : length line ≡ 16386) where
+  pub unread-answered : Reads false (begun line) read → PutsAnswer (case_file_text f) out out 0
+  unread-answered r = input-answered f line read (finished read) false false out out 0 l r refl (unended-puts false f (finished read).reading out refl) refl
+
+  pub unread-known : (known left : Option (List ℕ)) → ReadsKnown known left false (begun line) read → PutsKnown known (case_file_text f) out out 0
+  unread-known known left r = input-known known left f line read (finished read) false false out out 0 l r refl (unended-puts false f (finished read).reading out refl) refl
+
 -- the part of a buffer of 32,813 bytes that was written
 module _ (output : List ℕ → List ℕ) (out after : List ℕ) (used : ℕ) (room : 32813 ≤ length out) (p : PutsAnswer output out after used) where
   pub part-answers : Answers output (take used after)

@@ -17,7 +17,7 @@ ghost use Rattle.answering.specs.Mirror.Forms.{outcome_text, refusal_text};
 ghost use Rattle.answering.specs.Mirror.Puts.{Puts};
 ghost use Rattle.answering.specs.Mirror.Bench.{good_output, case_output};
 
-use feeding::first;
+use line_blocks::first;
 use refusal::Detail;
 use run::Answer;
 use step::{Constants, Room};

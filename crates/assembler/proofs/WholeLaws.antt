@@ -17,7 +17,7 @@ use Rattle.assembler.specs.Mirror.Parts.{row_assembled, whole, Goes, Passes}
 use Rattle.assembler.proofs.EncodedLaws.{start-assembled}
 
 abbrev pub state : ℕ → Bool → ℕ → ℕ → State
-state used long out place = record { used = used; long = long; out = out; place = place }
+state used long out place = record { begun = record { used = used; long = long }; out = out; place = place }
 
 -- ---- more of the block
 
@@ -26,13 +26,13 @@ abbrev pub Puts : List ℕ → List ℕ → ℕ → List ℕ → ℕ → Type 0
 Puts characters out at after e = (wrote e after ≡ written out at (assembled_line characters)) × (length (assembled_line characters) ≤ 256)
 
 module _ (block line out : List ℕ) (s : State) (end : ℕ) (line' : List ℕ) (used : ℕ) (long : Bool)
-    (e : end ≡ s.place + line_length (drop s.place block)) (p : row line' used long ≡ all_pushed (take (end - s.place) (drop s.place block)) (row line s.used s.long))
+    (e : end ≡ s.place + line_length (drop s.place block)) (p : row line' used long ≡ all_pushed (take (end - s.place) (drop s.place block)) (row line s.begun.used s.begun.long))
     (r : s.out + 256 ≤ length out) where
   pub part-goes : Goes block line out s line' out (state used long s.out end)
   unfolding whole
   part-goes =
       record {
-        same = λ later. ap (λ (x : List ℕ). take s.out out ++ x) (part_out row_assembled block later s.place end (row line s.used s.long) (row line' used long) e p);
+        same = λ later. ap (λ (x : List ℕ). take s.out out ++ x) (part_out row_assembled block later s.place end (row line s.begun.used s.begun.long) (row line' used long) e p);
         inside = omega (arith, r);
       }
 
@@ -49,7 +49,7 @@ module _ (block line out : List ℕ) (s : State) (end : ℕ) (line' : List ℕ) 
             ∙ (append_assoc (take s.out out) (assembled_line (take used line')) rest
             ∙ ap (λ (x : List ℕ). take s.out out ++ x)
             (sym (line-out row_assembled block later s.place end (row line' used long) h e l)
-            ∙ part_out row_assembled block later s.place end (row line s.used s.long) (row line' used long) e p));
+            ∙ part_out row_assembled block later s.place end (row line s.begun.used s.begun.long) (row line' used long) e p));
         inside = w.1;
       }
 
@@ -74,9 +74,9 @@ unfolding whole assembler_output
 whole-assembled block line out later h = text-lines row_assembled assembled_line line (λ w l g. assembled-agree w l (rw h at g)) (block ++ later)
 
 -- where nothing of the block is left, what is to come is what the next block is read from
-done-assembled : (block line out later : List ℕ) (s : State) → length block ≤ s.place → whole block line out s later ≡ take s.out out ++ text_out row_assembled (row line s.used s.long) later
+done-assembled : (block line out later : List ℕ) (s : State) → length block ≤ s.place → whole block line out s later ≡ take s.out out ++ text_out row_assembled (row line s.begun.used s.begun.long) later
 unfolding whole
-done-assembled block line out later s h = ap (λ (x : List ℕ). take s.out out ++ x) (over-out row_assembled block later s.place (row line s.used s.long) h)
+done-assembled block line out later s h = ap (λ (x : List ℕ). take s.out out ++ x) (over-out row_assembled block later s.place (row line s.begun.used s.begun.long) h)
 
 -- ---- a block, its output written now and then
 
@@ -95,22 +95,22 @@ module _ (block line₀ : List ℕ) (used₀ : ℕ) (long₀ : Bool) (line out :
   went later = ap (λ (x : List ℕ). f.written ++ x) (g.same later) ∙ f.same later
 
   -- what is written goes out of the buffer
-  pub far-more : SoFar block line₀ used₀ long₀ line' out' (state r.used r.long 0 r.place)
+  pub far-more : SoFar block line₀ used₀ long₀ line' out' (state r.begun.used r.begun.long 0 r.place)
   unfolding whole
   far-more =
       record {
         written = f.written ++ take r.out out';
-        same = λ later. append_assoc f.written (take r.out out') (text_out row_assembled (row line' r.used r.long) (drop r.place block ++ later)) ∙ went later;
+        same = λ later. append_assoc f.written (take r.out out') (text_out row_assembled (row line' r.begun.used r.begun.long) (drop r.place block ++ later)) ∙ went later;
         inside = omega arith;
       }
 
   -- nothing is left
-  pub far-done : length block ≤ r.place → Passes block line₀ used₀ long₀ line' r.used r.long
+  pub far-done : length block ≤ r.place → Passes block line₀ used₀ long₀ line' r.begun.used r.begun.long
   far-done h =
       record {
         written = f.written ++ take r.out out';
         same = λ later.
-            append_assoc f.written (take r.out out') (text_out row_assembled (row line' r.used r.long) later)
+            append_assoc f.written (take r.out out') (text_out row_assembled (row line' r.begun.used r.begun.long) later)
             ∙ (ap (λ (x : List ℕ). f.written ++ x) (sym (done-assembled block line' out' later r h)) ∙ went later);
       }
 

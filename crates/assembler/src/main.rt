@@ -2,7 +2,7 @@
 
 #![tactic(auto)]
 
-ghost use Rattle.std.specs.Prelude.{◌≡◌, false, ◌++◌, ◌+◌, ◌≤◌, ◌<◌, length};
+ghost use Rattle.std.specs.Prelude.{◌≡◌, ◌++◌, ◌+◌, ◌≤◌, ◌<◌, length, IfOk};
 ghost use Rattle.hex_text.specs.Bytes.{hex_of};
 ghost use Rattle.format_writers.specs.Writing.{wrote, written};
 ghost use Rattle.line_blocks.specs.LinesOf.{line_end};
@@ -10,9 +10,9 @@ ghost use Rattle.assembler.specs.Assembling.{column_line, assembled_line};
 ghost use Rattle.assembler.specs.Mirror.Parts.{Goes, Passes};
 
 use formats::Base;
+use line_blocks::Begun;
 use std::io::{Read, Write};
 use streams::Failure;
-use text::Assembled;
 
 // The line of a refusal.
 fn put_column(out: &mut [u8], at: usize, column: u64) -> usize
@@ -28,11 +28,8 @@ fn put_bytes(out: &mut [u8], at: usize, bytes: &[u8]) -> usize
     ensures { wrote result out.new ≡ written out.old at (hex_of bytes.now) }
 {
     let mut to = format_writers::put_word(out, at, b"|", 0);
-    let mut i = 0;
-    while i < bytes.len() {
-        let e = format_writers::put_byte(out, to, bytes[i]);
-        to = e;
-        i += 1;
+    for byte in bytes {
+        to = format_writers::put_byte(out, to, *byte);
     }
     to
 }
@@ -51,19 +48,15 @@ fn assemble_line(characters: &[u8], out: &mut [u8], at: usize) -> usize
 {
     let mut bytes = [0u8; 64];
     match text::read_into(characters, &mut bytes) {
-        Assembled::Wrote(count) => {
-            put_encoding(out, at, line_blocks::first_bytes(&bytes, count))
-        }
-        Assembled::Refused(_, column) => put_column(out, at, column as u64),
+        Ok(count) => put_encoding(out, at, line_blocks::first_bytes(&bytes, count)),
+        Err(refusal) => put_column(out, at, refusal.column() as u64),
     }
 }
 
-// Where assembling stands: of the line begun, how many characters stand in its buffer, and whether there were more; how much of the output buffer
-// is used; where the block is read on.
+// Where assembling stands: the line begun; how much of the output buffer is used; where the block is read on.
 #[derive(Clone, Copy)]
 struct State {
-    used: usize,
-    long: bool,
+    begun: Begun,
     out: usize,
     place: usize,
 }
@@ -77,20 +70,17 @@ fn next_line(block: &[u8], line: &mut [u8], out: &mut [u8], s: State) -> State
 {
     let place = s.place;
     let end = line_blocks::line_end(block, place);
-    let begun = line_blocks::push_all(line, &block[place..end], s.used, s.long);
+    let begun = line_blocks::push_all(line, &block[place..end], s.begun);
     if block.len() <= end {
         return State {
-            used: begun.used,
-            long: begun.long,
-            out: s.out,
+            begun,
             place: end,
+            ..s
         };
     }
-    let used = assemble_line(line_blocks::first_bytes(line, begun.used), out, s.out);
     State {
-        used: 0,
-        long: false,
-        out: used,
+        begun: Begun::nothing(),
+        out: assemble_line(line_blocks::first_bytes(line, begun.used), out, s.out),
         place: end + 1,
     }
 }
@@ -101,79 +91,41 @@ fn work(block: &[u8], line: &mut [u8], out: &mut [u8], from: State) -> State
     ensures { Goes block.now line.old out.old from line.new out.new result }
 {
     let mut s = from;
-    let mut turns = u64::MAX;
-    while 0 < turns {
-        turns -= 1;
-        if out.len() - s.out < 256 {
+    for _turn in 0..u64::MAX {
+        if out.len() - s.out < 256 || block.len() <= s.place {
             return s;
         }
-        if block.len() <= s.place {
-            return s;
-        }
-        let next = next_line(block, line, out, s);
-        s = next;
+        s = next_line(block, line, out, s);
     }
     s
 }
 
-// Of the line begun, how many characters stand in its buffer, and whether there were more; whether a write failed.
-#[derive(Clone, Copy)]
-struct Taken {
-    used: usize,
-    long: bool,
-    failed: bool,
-}
-
-// A block, its output written whenever the buffer has little room, and at the end.
+// A block, its output written whenever the buffer has little room, and at the end; the line begun then.
 fn assemble_block<W: Write>(
     writer: &mut W,
     block: &[u8],
     line: &mut [u8],
     out: &mut [u8],
-    used: usize,
-    long: bool,
-) -> Taken
-    ensures { result.failed ≡ false → Passes block.now line.old used long line.new result.used result.long }
+    begun: Begun,
+) -> Result<Begun, Failure>
+    ensures { IfOk result (λ after. Passes block.now line.old begun.used begun.long line.new after.used after.long) }
 {
     let mut s = State {
-        used,
-        long,
+        begun,
         out: 0,
         place: 0,
     };
-    let mut turns = u64::MAX;
-    while 0 < turns {
-        turns -= 1;
+    for _turn in 0..u64::MAX {
         let next = work(block, line, out, s);
-        if writer
+        writer
             .write_all(line_blocks::first_bytes(out, next.out))
-            .is_err()
-        {
-            return Taken {
-                used: 0,
-                long: false,
-                failed: true,
-            };
-        }
+            .map_err(|_| Failure::Unwritten)?;
         if block.len() <= next.place {
-            return Taken {
-                used: next.used,
-                long: next.long,
-                failed: false,
-            };
+            return Ok(next.begun);
         }
-        s = State {
-            used: next.used,
-            long: next.long,
-            out: 0,
-            place: next.place,
-        };
+        s = State { out: 0, ..next };
     }
-    Taken {
-        used: 0,
-        long: false,
-        failed: true,
-    }
+    Err(Failure::Unwritten)
 }
 
 // Block by block to the input's end, or to a read or a write that fails.
@@ -184,29 +136,16 @@ fn assemble_input<R: Read, W: Write>(
     line: &mut [u8],
     out: &mut [u8],
 ) -> Result<(), Failure> {
-    let mut used = 0;
-    let mut long = false;
-    for _ in 0..u64::MAX {
-        let count = match reader.read(block) {
-            Ok(count) => count,
-            Err(_) => return Err(Failure::Unread),
-        };
+    let mut begun = Begun::nothing();
+    for _turn in 0..u64::MAX {
+        let count = reader.read(block).map_err(|_| Failure::Unread)?;
         if count == 0 {
             // the last line may lack its 0x0a
-            let end = line_blocks::last_end(b"\n", used, long);
-            let last = assemble_block(writer, end, line, out, used, long);
-            return if last.failed {
-                Err(Failure::Unwritten)
-            } else {
-                Ok(())
-            };
+            let end = line_blocks::last_end(b"\n", begun);
+            assemble_block(writer, end, line, out, begun)?;
+            return Ok(());
         }
-        let taken = assemble_block(writer, &block[..count], line, out, used, long);
-        if taken.failed {
-            return Err(Failure::Unwritten);
-        }
-        used = taken.used;
-        long = taken.long;
+        begun = assemble_block(writer, &block[..count], line, out, begun)?;
     }
     Ok(())
 }

@@ -2,13 +2,12 @@
 use crate::output;
 use decoder::Instruction;
 use std::io;
-use text::{Assembled, Printed};
 
 // The printer's answer for this buffer, and the whole buffer after it.
 fn print_into(rt: &impl Print, instruction: Instruction, buffer: &mut [u8]) -> io::Result<()> {
     match text::print(instruction, buffer) {
-        Printed::Wrote(count) => output::answer(rt, b" printed ", count)?,
-        Printed::Refused(number) => output::refused(rt, number)?,
+        Ok(count) => output::answer(rt, b" printed ", count)?,
+        Err(refusal) => output::refused(rt, refusal.number())?,
     }
     output::line(rt, buffer)
 }
@@ -40,8 +39,8 @@ fn print_again(rt: &impl Print, instruction: Instruction, length: usize) -> io::
 // The reader's answer for this buffer, and the whole buffer after it.
 fn read_into(rt: &impl Print, line: &[u8], buffer: &mut [u8]) -> io::Result<()> {
     match text::read_into(line, buffer) {
-        Assembled::Wrote(count) => output::answer(rt, b" read ", count)?,
-        Assembled::Refused(number, _) => output::refused(rt, number)?,
+        Ok(count) => output::answer(rt, b" read ", count)?,
+        Err(refusal) => output::refused(rt, refusal.number())?,
     }
     output::bytes(rt, buffer)
 }
@@ -57,19 +56,12 @@ fn read(rt: &impl Print, line: &[u8], room: usize) -> io::Result<()> {
 
 // The length of the line that is printed here, 0 for a refusal.
 fn length_in(instruction: Instruction, line: &mut [u8]) -> usize {
-    match text::print(instruction, line) {
-        Printed::Wrote(count) => count,
-        Printed::Refused(_) => 0,
-    }
+    text::print(instruction, line).unwrap_or(0)
 }
 
 // The first bytes of a buffer, all where it has fewer.
 fn start(buffer: &[u8], count: usize) -> &[u8] {
-    if count <= buffer.len() {
-        &buffer[..count]
-    } else {
-        buffer
-    }
+    buffer.get(..count).unwrap_or(buffer)
 }
 
 // Printing, and reading the line into a buffer of `size` bytes.

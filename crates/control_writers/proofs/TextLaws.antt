@@ -14,6 +14,7 @@ use Rattle.formats.specs.Numbers.{number}
 use Rattle.exec_byte.specs.declared.Exec.{Exec}
 use Rattle.exec_byte.specs.Exec.{exec_of}
 use Rattle.control_texts.specs.Mirror.Predicate.{openings, endings, group_endings, ending, id_and_ending, predicate}
+use Rattle.control_texts.proofs.PrintLaws.{some-print}
 use Rattle.control_texts.specs.Mirror.Exec.{mask_endings, sizes, scatter_sizes, mask_parts, mask, mask_place, size_place, exec_from, exec, scatter_exec}
 
 -- ---- the predicate
@@ -29,6 +30,10 @@ any-ending opening id end b e h = rw (← e, h)
 pub no-predicate : (p : ℕ) → p ≡ 0 → predicate.print p ≡ word_at (words openings) 0
 unfolding predicate through pair id_and_ending blank one_of words word_at
 no-predicate p e = rw (eq-eqb p 0 e)
+
+pub one-predicate : (p word : ℕ) → word ≡ p → (p ≡ 0 → ⊥) →
+    predicate.print p ≡ word_at (words openings) (1 + word / 32768) ++ (digits_of 10 (word % 4096) ++ (ending (1 + word / 32768) (word % 4096)).print ((word / 8192 % 4 + 2) % 3))
+one-predicate p word e n = rw e (some-print p n)
 
 -- ---- the exec byte
 

@@ -27,7 +27,7 @@ pub fn put_predicate(out: &mut [u8], at: usize, pred: u16) -> usize
     if pred == 0 {
         return format_writers::put_word(out, at, b"|(P|(!P|", 0);
     }
-    let word = pred as u64;
+    let word = u64::from(pred);
     let opening = 1 + word / 32768;
     let id = word % 4096;
     let a = format_writers::put_word(out, at, b"|(P|(!P|", opening);
@@ -44,33 +44,28 @@ fn put_mask(out: &mut [u8], at: usize, code: u64) -> usize
 }
 
 // A mask's place among M1 to M8 and M1_NM to M8_NM.
+#[tactic(auto, unfolding(control_texts::specs::Mirror::Exec::mask_place))]
 fn mask_place(exec: Exec) -> u64
     ensures { result ≡ mask_place exec }
 {
-    let number = (exec.offset / 4) as u64;
+    let number = u64::from(exec.offset / 4);
     if exec.unmasked { number + 8 } else { number }
 }
 
 // A size's place among those that a line may show.
+#[tactic(auto, unfolding(control_texts::specs::Mirror::Exec::size_place))]
 fn size_place(size: u8) -> u64
     ensures { result ≡ size_place size }
 {
-    if size == 1 {
-        return 0;
+    match size {
+        1 => 0,
+        2 => 1,
+        4 => 2,
+        8 => 3,
+        16 => 4,
+        32 => 5,
+        _ => 6,
     }
-    if size == 2 {
-        return 1;
-    }
-    if size == 4 {
-        return 2;
-    }
-    if size == 8 {
-        return 3;
-    }
-    if size == 16 {
-        return 4;
-    }
-    if size == 32 { 5 } else { 6 }
 }
 
 pub fn put_exec(out: &mut [u8], at: usize, byte: u8) -> usize
@@ -86,10 +81,6 @@ pub fn put_scatter_exec(out: &mut [u8], at: usize, byte: u8) -> usize
 {
     let e = exec_byte::split(byte);
     let a = put_mask(out, at, mask_place(e));
-    format_writers::put_word(
-        out,
-        a,
-        b"8) |16) |",
-        part_writers::above(size_place(e.size), 3),
-    )
+    let place = size_place(e.size).saturating_sub(3);
+    format_writers::put_word(out, a, b"8) |16) |", place)
 }

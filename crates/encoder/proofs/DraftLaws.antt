@@ -6,8 +6,8 @@ use mathlib.Core.Logic.{◌≢◌}
 use Prim.Native.Nat.{ℕ, suc, ◌+◌, ◌≤◌, ◌<◌}
 use native.Mathlib.Numerals.{add-one}
 use native.Mathlib.Omega.{arith}
-use lib.ListN.{length, take, length-append, length-set}
-use lib.Seq.{take-suc-set}
+use lib.ListN.{length, take, get_or, length-append, length-set}
+use lib.Seq.{take-suc, take-suc-set}
 use lib.Dec.{ltb, eqb}
 use borrow.Author.Tests.{lt-ltb, eqb-false}
 use Rattle.reader.specs.Reply.{Reply, refused, done, and_then}
@@ -21,6 +21,10 @@ pub with-bytes-append : (vs ws : List ℕ) (d : Draft) → with_bytes (vs ++ ws)
 unfolding with_bytes
 with-bytes-append [] ws d = refl
 with-bytes-append (v ∷ vs) ws d = with-bytes-append vs ws (with_byte v d)
+
+pub one_more : (bs : List ℕ) (i : ℕ) (d : Draft) → i < length bs → with_bytes (take (i + 1) bs) d ≡ with_byte (get_or bs i 0) (with_bytes (take i bs) d)
+unfolding with_bytes
+one_more bs i d h = rw (add-one i, take-suc bs i 0 h) (with-bytes-append (take i bs) (get_or bs i 0 ∷ []) d)
 
 pub with_append : (fs gs : List Field) (d : Draft) → with_fields (fs ++ gs) d ≡ and_then (with_fields fs d) (with_fields gs)
 unfolding with_fields

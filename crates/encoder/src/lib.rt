@@ -66,23 +66,15 @@ impl Draft {
         }
     }
 
-    #[tactic(auto, unfolding(crate::specs::Mirror::Draft::with_bytes, little_endian::specs::LittleEndian::bytes_of))]
-    fn with_word(self, v: u16) -> Draft
-        ensures { result ≡ with_bytes (bytes_of 2 v) self }
+    #[tactic(auto, using(crate::proofs::DraftLaws::one_more), unfolding(crate::specs::Mirror::Draft::with_bytes))]
+    fn with_bytes(self, bytes: &[u8]) -> Draft
+        ensures { result ≡ with_bytes bytes.now self }
     {
-        let [low, high] = v.to_le_bytes();
-        self.with_byte(low).with_byte(high)
-    }
-
-    #[tactic(auto, unfolding(crate::specs::Mirror::Draft::with_bytes, little_endian::specs::LittleEndian::bytes_of))]
-    fn with_dword(self, v: u32) -> Draft
-        ensures { result ≡ with_bytes (bytes_of 4 v) self }
-    {
-        let [first, second, third, fourth] = v.to_le_bytes();
-        self.with_byte(first)
-            .with_byte(second)
-            .with_byte(third)
-            .with_byte(fourth)
+        let mut draft = self;
+        for &v in bytes {
+            draft = draft.with_byte(v);
+        }
+        draft
     }
 
     #[tactic(auto, using(refusal::proofs::RuleLaws::number_some), unfolding(crate::specs::Mirror::Draft::with_field, crate::specs::Mirror::Draft::with_bytes, fields::specs::Layout::field_bytes, fields::specs::Layout::field_refusal, little_endian::specs::LittleEndian::bytes_of))]
@@ -92,13 +84,13 @@ impl Draft {
         match field {
             Field::Byte(rule, v) => {
                 rule.judge(v)?;
-                Ok(self.with_byte(v))
+                Ok(self.with_bytes(&[v]))
             }
             Field::Word(rule, v) => {
                 rule.judge(v)?;
-                Ok(self.with_word(v))
+                Ok(self.with_bytes(&v.to_le_bytes()))
             }
-            Field::Dword(v) => Ok(self.with_dword(v)),
+            Field::Dword(v) => Ok(self.with_bytes(&v.to_le_bytes())),
             Field::Lacking(v) => {
                 fields::judge(v == 0, Refusal::Reserved)?;
                 Ok(self)

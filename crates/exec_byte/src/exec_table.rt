@@ -5,7 +5,8 @@ ghost use Rattle.exec_byte.specs.Mirror.Entries.{entry_at};
 
 const RESERVED: u16 = 0;
 
-// An entry's hex digits are 1 for NM, k - 1 of Mk or Mk_NM, and two for the size: 0x1110 is M2_NM with 16 lanes.
+// An entry's hex digits are 1 for NM, k - 1 of Mk or Mk_NM, and two for the size: 0x1110 is M2_NM with 16 lanes. One number each, since 256 structs
+// of four fields would be no plainer.
 const EXEC_TABLE: [u16; 256] = [
     0x0001, // 00
     0x0002, // 01
@@ -266,10 +267,11 @@ const EXEC_TABLE: [u16; 256] = [
 ];
 
 // The array is handed over, so that the proof of `entry` can name it and test it whole.
+#[tactic(auto, unfolding(crate::specs::Mirror::Entries::entry_at))]
 fn looked_up(table: &[u16; 256], exec: u8) -> u16
     ensures { result ≡ entry_at table.now exec }
 {
-    table[exec as usize]
+    table[usize::from(exec)]
 }
 
 // The number of an exec byte, 0 for a reserved one.

@@ -1,5 +1,5 @@
 -- The lines of the exec bytes: written piece by piece, and how long they are.
-use mathlib.Core.Path.{◌≡◌, refl, ap, ◌∙◌}
+use mathlib.Core.Path.{◌≡◌, refl}
 use mathlib.Core.List.{List, [], ◌∷◌, ◌++◌}
 use mathlib.Core.Bool.{true, false}
 use Prim.Native.Nat.{ℕ, zero, suc, ◌+◌, ◌*◌, ◌≤◌, ◌<◌}
@@ -51,12 +51,9 @@ pub no_lines : (l : List ℕ) → wrote 0 l ≡ written l 0 (lines_below 0)
 unfolding lines_below
 no_lines l = wrote_none l [] 0 (omega arith) refl
 
-pub one-more-line : (l m n : List ℕ) (to e byte : ℕ) → wrote to m ≡ written l 0 (lines_below byte) → wrote e n ≡ written m to (entry_line byte) → wrote e n ≡ written l 0 (lines_below (byte + 1))
+pub one_more_line : (l m n : List ℕ) (to e byte : ℕ) → wrote to m ≡ written l 0 (lines_below byte) → wrote e n ≡ written m to (entry_line byte) → wrote e n ≡ written l 0 (lines_below (byte + 1))
 unfolding lines_below
-one-more-line l m n to e byte p q = rw (add-one byte) (wrote_then l 0 (lines_below byte) (entry_line byte) to m e n p q)
-
-pub all_lines : (l m : List ℕ) (to byte : ℕ) → byte ≤ 256 → 256 ≤ byte → wrote to m ≡ written l 0 (lines_below byte) → wrote to m ≡ written l 0 exec_lines
-all_lines l m to byte h g p = let e : byte ≡ 256 = omega (arith, h, g) in p ∙ ap (λ (n : ℕ). written l 0 (lines_below n)) e
+one_more_line l m n to e byte p q = rw (add-one byte) (wrote_then l 0 (lines_below byte) (entry_line byte) to m e n p q)
 
 -- ---- how long
 

@@ -34,15 +34,13 @@ fn put_entry(out: &mut [u8], at: usize, byte: u8) -> usize
     put_meaning(out, b, exec_byte::split(byte))
 }
 
+#[tactic(auto, using(crate::proofs::LineLaws::no_lines))]
 fn put_table(out: &mut [u8]) -> usize
     ensures { wrote result out.new ≡ written out.old 0 exec_lines }
 {
     let mut to = 0;
-    let mut byte: u16 = 0;
-    while byte < 256 {
-        let e = put_entry(out, to, byte as u8);
-        to = e;
-        byte += 1;
+    for byte in 0..=u8::MAX {
+        to = put_entry(out, to, byte);
     }
     to
 }

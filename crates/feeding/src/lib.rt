@@ -31,13 +31,6 @@ impl State {
     }
 }
 
-// The first elements of a buffer; all of them if there are fewer.
-pub fn first<T>(buffer: &[T], count: usize) -> &[T]
-    ensures { result.now ≡ take count buffer.now }
-{
-    buffer.get(..count).unwrap_or(buffer)
-}
-
 // The characters of the line begun; none of one that was too long, since an empty line is as bad.
 fn line_characters(line: &[u8], begun: Begun) -> &[u8]
     ensures { result.now ≡ cond begun.long [] (take begun.used line.now) }
@@ -45,7 +38,7 @@ fn line_characters(line: &[u8], begun: Begun) -> &[u8]
     if begun.long {
         &[]
     } else {
-        first(line, begun.used)
+        line_blocks::first(line, begun.used)
     }
 }
 
@@ -71,6 +64,7 @@ pub fn feed(
 {
     let mut begun = state.begun;
     let mut case = state.case;
+    // By an index: over the rest of the block as a slice the bound of `end + 1` was not proved.
     let mut i = read_on(state.case.bad, 0, block.len());
     while i < block.len() {
         let end = line_blocks::line_end(block, i);

@@ -26,9 +26,3 @@ put_one l at b n e m two small h p = p ∙ ap (written l at) (sym (one-digit b n
 
 pub put-more : (l : List ℕ) (at b n e : ℕ) (m : List ℕ) (d : ℕ) (k : List ℕ) → 2 ≤ b → b ≤ 16 → b ≤ n → wrote e m ≡ written l at (digits_of b (n / b)) → wrote d k ≡ written m e (character_of (n % b) ∷ []) → wrote d k ≡ written l at (digits_of b n)
 put-more l at b n e m d k two small h p q = wrote_then l at (digits_of b (n / b)) (character_of (n % b) ∷ []) e m d k p q ∙ ap (written l at) (sym (last-digit b n two small h))
-
-pub fewer : (b n : ℕ) → 2 ≤ b → b ≤ n → n / b < n
-fewer b n two h = div-lt_self (omega (arith, two, h)) two
-
-pub below-sixteen : (b n : ℕ) → 2 ≤ b → b ≤ 16 → n % b < 16
-below-sixteen b n two small = let h : n % b < b = mod-lt n (omega (arith, two)) in omega (arith, h, small)

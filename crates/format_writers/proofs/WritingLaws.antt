@@ -2,14 +2,17 @@
 use mathlib.Core.Path.{◌≡◌, refl, sym, ap, ◌∙◌}
 use mathlib.Core.List.{List, [], ◌∷◌, ◌++◌}
 use mathlib.Core.Bool.{Bool, true, false}
-use Prim.Native.Nat.{ℕ, suc, ◌+◌, ◌≤◌, ◌<◌}
+use Prim.Native.Nat.{ℕ, zero, suc, ◌+◌, ◌-◌, ◌≤◌, ◌<◌}
+use Rattle.std.specs.Prelude.{min}
+use Rattle.std.proofs.lemmas.List.{length-take, take_min}
+use borrow.Rule.Slice.PartMut.{put_mid}
 use native.Mathlib.Omega.{arith}
 use lib.Dec.{ltb}
-use lib.ListN.{length, set, take, drop, length-append}
+use lib.ListN.{length, set, take, drop, length-append, length-set}
 use lib.Seq.{set_out, take_at, length-take-le}
 use borrow.Author.Tests.{ltb-true, ltb-false, le-ltb}
 use Rattle.hex_text.specs.Storing.{placed}
-use Rattle.hex_text.proofs.StoringLaws.{length-placed, placed-is}
+use Rattle.hex_text.proofs.StoringLaws.{copied, length-placed, placed-is}
 use Rattle.format_writers.specs.Writing.{within, Written, wrote, written}
 use Rattle.formats.proofs.Tests.{cond-then}
 
@@ -80,10 +83,6 @@ written-within l at t = both-are (written l (within (length l) at) t) (written l
 pub wrote-length : (l : List ℕ) (at : ℕ) (t : List ℕ) (e : ℕ) (m : List ℕ) → wrote e m ≡ written l at t → length m ≡ length l
 wrote-length l at t e m p = ap (λ (w : Written). length w.buffer) p ∙ ap length (written-buffer l at t) ∙ length-placed l at t
 
--- the start of a walk
-pub wrote-from : (l w v : List ℕ) (at to : ℕ) → to ≡ within (length l) at → w ≡ v → (written l to w ≡ written l at v) × (to ≤ length l)
-wrote-from l w v at to e p = (ap (λ (n : ℕ). written l n w) e ∙ written-within l at w ∙ ap (written l at) p, omega (arith, e, within-le (length l) at))
-
 pub wrote-inside : (l : List ℕ) (at : ℕ) (t : List ℕ) (e : ℕ) (m : List ℕ) → wrote e m ≡ written l at t → e ≤ length m
 wrote-inside l at t e m p =
     let q : e ≡ within (length l) (at + length t) = ap (λ (w : Written). w.end) p ∙ written-end l at t in
@@ -133,6 +132,33 @@ wrote_one l at c h = both-are (wrote (at + 1) (set l at c)) (written l at (c ∷
 pub wrote-lost : (l : List ℕ) (at c : ℕ) → length l ≤ at → wrote (length l) l ≡ written l at (c ∷ [])
 unfolding written placed
 wrote-lost l at c h = both-are (wrote (length l) l) (written l at (c ∷ [])) (sym (within-outside (length l) (at + 1) (omega arith))) (sym (set_out l at c h))
+
+-- ---- a text at once
+
+-- what would stand past the end is not placed
+placed-cut : (l : List ℕ) (at : ℕ) (t : List ℕ) (n : ℕ) → length l ≤ at + n → placed l at (take n t) ≡ placed l at t
+unfolding placed
+placed-cut l at [] zero h = refl
+placed-cut l at [] (suc n) h = refl
+placed-cut l at (c ∷ t) zero h = sym (placed-outside l at (c ∷ t) (omega arith))
+placed-cut l at (c ∷ t) (suc n) h = placed-cut (set l at c) (suc at) t n (rw (length-set l at c) (omega arith))
+
+within-min : (room at : ℕ) → within room at ≡ min at room
+within-min room at = told (ltb at room) refl
+  where
+    told : (b : Bool) → ltb at room ≡ b → within room at ≡ min at room
+    told true e = let h = ltb-true at room e in within-inside room at (omega arith) ∙ omega arith
+    told false e = let h = ltb-false at room e in within-outside room at h ∙ omega arith
+
+pub text_placed : (l t : List ℕ) (at a n k : ℕ) → a ≡ min at (length l) → n ≡ min (length l - a) (length t) → k ≡ n → wrote (a + n) (put_mid a k l (take n t)) ≡ written l at t
+text_placed l t at a n k e f g =
+    let c : length (take n t) ≡ n = length-take n t ∙ omega (arith, f) in
+    let w : a ≡ within (length l) at = e ∙ sym (within-min (length l) at) in
+    let all : take n t ≡ take (length l - a) t = ap (λ (m : ℕ). take m t) f ∙ take_min (length l - a) t in
+    let end : a + n ≡ min (at + length t) (length l) = omega (arith, e, f) in
+    both-are (wrote (a + n) (put_mid a k l (take n t))) (written l at t)
+    (end ∙ sym (within-min (length l) (at + length t)) ∙ sym (written-end l at t))
+    (copied l (take n t) a k (g ∙ sym c) (omega (arith, c, e, f)) ∙ ap (placed l a) all ∙ placed-cut l a t (length l - a) (omega (arith, e)) ∙ ap (λ (m : ℕ). placed l m t) w ∙ placed-within l at t ∙ sym (written-buffer l at t))
 
 -- ---- where there is room
 

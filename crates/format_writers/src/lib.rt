@@ -2,21 +2,24 @@
 
 #![tactic(auto)]
 
-ghost use Rattle.std.specs.Prelude.{◌≡◌, ◌≤◌, ◌<◌, [], ◌∷◌, drop};
+ghost use Rattle.std.specs.Prelude.{◌≡◌, ◌≤◌, [], ◌∷◌, drop};
 ghost use Rattle.hex_text.specs.Digits.{character_of};
 ghost use Rattle.hex_text.specs.Bytes.{hex_of};
 ghost use Rattle.formats.specs.Words.{words, word_at};
 ghost use Rattle.formats.specs.Numerals.{digits_of};
 ghost use Rattle.formats.specs.Numbers.{radix_of};
-ghost use Rattle.formats.specs.Mirror.Scan.{word_of};
-ghost use Rattle.format_writers.specs.Writing.{within, wrote, written};
+ghost use Rattle.format_writers.specs.Writing.{wrote, written};
 
 use formats::Base;
 
-fn clipped(at: usize, room: usize) -> usize
-    ensures { result ≡ within room at }
+// A text at `at` and after, as much as the buffer has room for, and the place past it, the buffer's end at most.
+fn put_text(out: &mut [u8], at: usize, text: &[u8]) -> usize
+    ensures { wrote result out.new ≡ written out.old at text.now }
 {
-    if at < room { at } else { room }
+    let from = at.min(out.len());
+    let count = (out.len() - from).min(text.len());
+    out[from..from + count].copy_from_slice(&text[..count]);
+    from + count
 }
 
 // A character at `at`, if the buffer goes so far, and the place past it, the buffer's end at most.
@@ -30,42 +33,56 @@ fn put_character(out: &mut [u8], at: usize, character: u8) -> usize
     out.len()
 }
 
-// Where word `index` begins; past the table's end if it has no such word.
-fn word_start(table: &[u8], index: u64) -> usize
-    ensures { word_of (drop result table.now) ≡ word_at (words table.now) index }
+// The first word of a table; empty if it has none.
+#[tactic(auto, using(crate::proofs::StartLaws::first_inside, crate::proofs::StartLaws::first_taken))]
+fn first_word(table: &[u8]) -> &[u8]
+    ensures { result.now ≡ word_at (words table.now) 0 }
 {
-    let mut from = 0;
-    let mut left = index;
-    while from < table.len() {
-        if left == 0 {
-            return from;
+    &table[..formats::word_end(table, 0)]
+}
+
+// What follows the first `count` characters of a text.
+fn behind(text: &[u8], count: usize) -> &[u8]
+    ensures { result.now ≡ drop count text.now }
+{
+    text.get(count..).unwrap_or(&[])
+}
+
+// The table without its first word.
+#[tactic(auto, using(crate::proofs::StartLaws::later_are))]
+fn later_words(table: &[u8]) -> &[u8]
+    ensures { words result.now ≡ drop 1 (words table.now) }
+{
+    let end = formats::word_end(table, 0);
+    behind(behind(table, end), 1)
+}
+
+// Word `index` of a table; empty if it has no such word.
+#[tactic(auto, using(crate::proofs::StartLaws::no_word, crate::proofs::StartLaws::word_later))]
+fn word(table: &[u8], index: u64) -> &[u8]
+    ensures { result.now ≡ word_at (words table.now) index }
+{
+    let mut rest = table;
+    for _before in 0..index {
+        if rest.is_empty() {
+            return rest;
         }
-        let end = formats::word_end(table, from);
-        from = end + 1;
-        left -= 1;
+        rest = later_words(rest);
     }
-    from
+    first_word(rest)
 }
 
 // Word `index` of the table, at `at` and after, and the place past it.
 pub fn put_word(out: &mut [u8], at: usize, table: &[u8], index: u64) -> usize
     ensures { wrote result out.new ≡ written out.old at (word_at (words table.now) index) }
 {
-    let mut i = word_start(table, index);
-    let mut to = clipped(at, out.len());
-    while formats::in_word(table, i) {
-        let e = put_character(out, to, table[i]);
-        to = e;
-        i += 1;
-    }
-    to
+    put_text(out, at, word(table, index))
 }
 
-fn put_digit(out: &mut [u8], at: usize, d: u64) -> usize
-    requires { d < 16 }
+fn put_digit(out: &mut [u8], at: usize, d: u8) -> usize
     ensures { wrote result out.new ≡ written out.old at (character_of d ∷ []) }
 {
-    put_character(out, at, hex_text::character(d as u8))
+    put_character(out, at, hex_text::character(d))
 }
 
 fn put_digits(out: &mut [u8], at: usize, base: u64, n: u64) -> usize
@@ -73,10 +90,10 @@ fn put_digits(out: &mut [u8], at: usize, base: u64, n: u64) -> usize
     ensures { wrote result out.new ≡ written out.old at (digits_of base n) }
 {
     if n < base {
-        return put_digit(out, at, n);
+        return put_digit(out, at, n as u8);
     }
     let e = put_digits(out, at, base, n / base);
-    put_digit(out, e, n % base)
+    put_digit(out, e, (n % base) as u8)
 }
 
 // A number, at `at` and after, and the place past it.
@@ -90,6 +107,6 @@ pub fn put_number(out: &mut [u8], at: usize, base: Base, n: u64) -> usize
 pub fn put_byte(out: &mut [u8], at: usize, byte: u8) -> usize
     ensures { wrote result out.new ≡ written out.old at (hex_of (byte ∷ [])) }
 {
-    let a = put_digit(out, at, (byte / 16) as u64);
-    put_digit(out, a, (byte % 16) as u64)
+    let a = put_digit(out, at, byte / 16);
+    put_digit(out, a, byte % 16)
 }

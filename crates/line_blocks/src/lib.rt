@@ -5,11 +5,18 @@
 ghost use Rattle.std.specs.Prelude.{◌≡◌, ◌==◌, false, cond, [], ◌+◌, take, drop, position};
 ghost use Rattle.line_blocks.specs.Mirror.Rows.{row, is_begun, pushed, all_pushed, line_length};
 
-// The first bytes of a buffer; all of them if there are fewer.
-pub fn first_bytes(buffer: &[u8], count: usize) -> &[u8]
+// The first elements of a buffer; all of them if there are fewer.
+pub fn first<T>(buffer: &[T], count: usize) -> &[T]
     ensures { result.now ≡ take count buffer.now }
 {
     buffer.get(..count).unwrap_or(buffer)
+}
+
+// The same of bytes.
+pub fn first_bytes(buffer: &[u8], count: usize) -> &[u8]
+    ensures { result.now ≡ take count buffer.now }
+{
+    first(buffer, count)
 }
 
 // Of the line begun, how many characters stand in the line buffer, and whether there were more.

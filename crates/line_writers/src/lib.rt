@@ -32,12 +32,8 @@ fn put_source_region(out: &mut [u8], at: usize, region: u16) -> usize
 fn region_opening(word: u64) -> u64
     ensures { result ≡ (destination_region_from word).0 }
 {
-    if word % 256 == 0 {
-        if word / 256 == 0 {
-            word % 16
-        } else {
-            7 + word / 256
-        }
+    if word % 256 == 0 && word / 256 != 0 {
+        7 + word / 256
     } else {
         word % 16
     }
@@ -96,7 +92,7 @@ fn as_general(o: Operand) -> General
 {
     match o {
         Operand::General(g) => g,
-        Operand::Immediate(i) => General {
+        Operand::Immediate(_) => General {
             index: 0,
             row: 0,
             column: 0,
@@ -132,7 +128,7 @@ fn put_scalar_and_raws(out: &mut [u8], at: usize, scalar: Operand, first: Raw, s
 fn carries_nothing(size: u64, scale: u64) -> bool
     ensures { result ≡ zeros (size, scale) }
 {
-    if size == 0 { scale == 0 } else { false }
+    size == 0 && scale == 0
 }
 
 // Block_size and Scale of a gather.
@@ -196,7 +192,7 @@ fn put_scatter(out: &mut [u8], at: usize, x: Scatter) -> usize
     ensures { wrote result out.new ≡ written out.old at ((scatter x.control.pred).print (instruction.Scatter x)) }
 {
     let address = x.address;
-    let letters = part_writers::above(x.channels as u64, 1);
+    let letters = u64::from(x.channels).saturating_sub(1);
     let a = format_writers::put_word(
         out,
         at,

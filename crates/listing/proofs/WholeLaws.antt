@@ -23,12 +23,12 @@ use Rattle.listing.proofs.StepLaws.{StepPut, refusal-short, listed-step, listed-
 use Rattle.listing.proofs.LoadLaws.{Loads, not_so, take-bytes}
 
 abbrev pub state : ℕ → Bool → ℕ → ℕ → ℕ → ℕ → State
-state used long size at out place = record { used = used; long = long; size = size; at = at; out = out; place = place }
+state used long size at out place = record { begun = record { used = used; long = long }; size = size; at = at; out = out; place = place }
 
 -- ---- a line of the kernel at hand
 
 pub step-goes : (block line kernel part out after : List ℕ) (s : State) (e next : ℕ) → Bytes kernel → part ≡ take s.size kernel → s.at < length (take s.size kernel) →
-    s.out + 256 ≤ length out → StepPut part s.at out s.out e after next → Goes block line kernel out s line kernel after (state s.used s.long s.size next e s.place)
+    s.out + 256 ≤ length out → StepPut part s.at out s.out e after next → Goes block line kernel out s line kernel after (state s.begun.used s.begun.long s.size next e s.place)
 unfolding whole
 step-goes block line kernel part out after s e next bytes is h r stepped =
     let k = take s.size kernel in
@@ -38,7 +38,7 @@ step-goes block line kernel part out after s e next bytes is h r stepped =
     let w = room-takes out t s.out e after (omega (arith, r, p.1.1)) p.0 in
     record {
       same = λ later.
-          let rest = text_out row_listed (row line s.used s.long) (drop s.place block ++ later) in
+          let rest = text_out row_listed (row line s.begun.used s.begun.long) (drop s.place block ++ later) in
           ap₂ (λ (x : List ℕ) (n : ℕ). x ++ (listed_from k n ++ rest)) w.0 p.1.0
           ∙ (append_assoc (take s.out out) t (listed_from k (step_next k s.at) ++ rest)
           ∙ ap (λ (x : List ℕ). take s.out out ++ x) (sym (append_assoc t (listed_from k (step_next k s.at)) rest) ∙ ap (λ (x : List ℕ). x ++ rest) (sym (listed-step k b s.at h))));
@@ -61,18 +61,16 @@ bad-takes : (characters kernel : List ℕ) (size : ℕ) (long : Bool) → Loads 
 unfolding kernel_in
 bad-takes characters kernel size long p = rw (p.1, sym p.0) (listed-over [] 0 (omega arith), refl)
 
-pub take-good : (line characters kernel out : List ℕ) (used size at : ℕ) (long good : Bool) → characters ≡ take used line → Loads long characters good size kernel → good ≡ true →
+pub take-good : (line characters kernel out : List ℕ) (used size at : ℕ) (long : Bool) → characters ≡ take used line → Loads long characters true size kernel →
     at + 256 ≤ length out → Takes line used long out at kernel size out at
 unfolding row_listed
-take-good line characters kernel out used size at long true c p g r =
+take-good line characters kernel out used size at long c p r =
     (ap (λ (x : List ℕ). take at out ++ x) (good-takes (take used line) kernel size long (subst (λ (x : List ℕ). Loads long x true size kernel) c p)), omega (arith, r))
-take-good line characters kernel out used size at long false c p g r = absurd (true≢false (sym g))
 
-pub take-bad : (line characters kernel out after : List ℕ) (used size at e : ℕ) (long good : Bool) → characters ≡ take used line → Loads long characters good size kernel → good ≡ false →
+pub take-bad : (line characters kernel out after : List ℕ) (used size at e : ℕ) (long : Bool) → characters ≡ take used line → Loads long characters false size kernel →
     at + 256 ≤ length out → wrote e after ≡ written out at (refusal_line 14 0) → Takes line used long out at kernel size after e
 unfolding row_listed
-take-bad line characters kernel out after used size at e long true c p g r q = absurd (true≢false g)
-take-bad line characters kernel out after used size at e long false c p g r q =
+take-bad line characters kernel out after used size at e long c p r q =
     let w = room-takes out (refusal_line 14 0) at e after (omega (arith, r, refusal-short 14 0 (omega arith) (omega arith))) q in
     let b = bad-takes (take used line) kernel size long (subst (λ (x : List ℕ). Loads long x false size kernel) c p) in
     (ap₂ (λ (x y : List ℕ). x ++ y) w.0 b.0 ∙ (append-nil (take at out ++ refusal_line 14 0) ∙ ap (λ (x : List ℕ). take at out ++ x) b.1), w.1)
@@ -80,13 +78,13 @@ take-bad line characters kernel out after used size at e long false c p g r q =
 -- ---- more of the block
 
 module _ (block line kernel out : List ℕ) (s : State) (end : ℕ) (line' : List ℕ) (used : ℕ) (long : Bool)
-    (e : end ≡ s.place + line_length (drop s.place block)) (p : row line' used long ≡ all_pushed (take (end - s.place) (drop s.place block)) (row line s.used s.long))
+    (e : end ≡ s.place + line_length (drop s.place block)) (p : row line' used long ≡ all_pushed (take (end - s.place) (drop s.place block)) (row line s.begun.used s.begun.long))
     (r : s.out + 256 ≤ length out) where
   pub part-goes : Goes block line kernel out s line' kernel out (state used long s.size s.at s.out end)
   unfolding whole
   part-goes =
       record {
-        same = λ later. ap (λ (x : List ℕ). take s.out out ++ (listed_from (take s.size kernel) s.at ++ x)) (part_out row_listed block later s.place end (row line s.used s.long) (row line' used long) e p);
+        same = λ later. ap (λ (x : List ℕ). take s.out out ++ (listed_from (take s.size kernel) s.at ++ x)) (part_out row_listed block later s.place end (row line s.begun.used s.begun.long) (row line' used long) e p);
         inside = omega (arith, r);
       }
 
@@ -103,8 +101,8 @@ module _ (block line kernel out : List ℕ) (s : State) (end : ℕ) (line' : Lis
             ∙ (append_assoc (take s.out out) (row_listed w) rest
             ∙ ap (λ (x : List ℕ). take s.out out ++ x)
             (sym (line-out row_listed block later s.place end w h e l)
-            ∙ (part_out row_listed block later s.place end (row line s.used s.long) w e p
-            ∙ ap (λ (x : List ℕ). x ++ text_out row_listed (row line s.used s.long) (drop s.place block ++ later)) (sym (listed-over (take s.size kernel) s.at over))))));
+            ∙ (part_out row_listed block later s.place end (row line s.begun.used s.begun.long) w e p
+            ∙ ap (λ (x : List ℕ). x ++ text_out row_listed (row line s.begun.used s.begun.long) (drop s.place block ++ later)) (sym (listed-over (take s.size kernel) s.at over))))));
         inside = t.1;
       }
 
@@ -144,10 +142,10 @@ whole-listed block line kernel out later h =
 
 -- where nothing of the block and of the kernel at hand is left, what is to come is what the next block is read from; at the text's end a 0x0a ends the line begun
 pub done-listed : (block line kernel out later : List ℕ) (s : State) → length block ≤ s.place → length (take s.size kernel) ≤ s.at →
-    whole block line kernel out s later ≡ take s.out out ++ text_out row_listed (row line s.used s.long) later
+    whole block line kernel out s later ≡ take s.out out ++ text_out row_listed (row line s.begun.used s.begun.long) later
 unfolding whole
 done-listed block line kernel out later s h k =
-    ap₂ (λ (x y : List ℕ). take s.out out ++ (x ++ y)) (listed-over (take s.size kernel) s.at k) (over-out row_listed block later s.place (row line s.used s.long) h)
+    ap₂ (λ (x y : List ℕ). take s.out out ++ (x ++ y)) (listed-over (take s.size kernel) s.at k) (over-out row_listed block later s.place (row line s.begun.used s.begun.long) h)
 
 -- ---- a block, its output written now and then
 
@@ -175,25 +173,25 @@ module _ (block line₀ : List ℕ) (used₀ : ℕ) (long₀ : Bool) (line kerne
   went later = ap (λ (x : List ℕ). f.written ++ x) (g.same later) ∙ f.same later
 
   -- what is written goes out of the buffer
-  pub far-more : SoFar block line₀ used₀ long₀ line' kernel' out' (state r.used r.long r.size r.at 0 r.place)
+  pub far-more : SoFar block line₀ used₀ long₀ line' kernel' out' (state r.begun.used r.begun.long r.size r.at 0 r.place)
   unfolding whole
   far-more =
       record {
         written = f.written ++ take r.out out';
         same = λ later.
-            append_assoc f.written (take r.out out') (listed_from (take r.size kernel') r.at ++ text_out row_listed (row line' r.used r.long) (drop r.place block ++ later)) ∙ went later;
+            append_assoc f.written (take r.out out') (listed_from (take r.size kernel') r.at ++ text_out row_listed (row line' r.begun.used r.begun.long) (drop r.place block ++ later)) ∙ went later;
         inside = omega arith;
       }
 
   -- nothing is left
-  pub far-done : (work : Bool) → work ≡ (ltb r.at (length (take r.size kernel')) || ltb r.place (length block)) → not work ≡ true → Passes block line₀ used₀ long₀ line' r.used r.long
+  pub far-done : (work : Bool) → work ≡ (ltb r.at (length (take r.size kernel')) || ltb r.place (length block)) → not work ≡ true → Passes block line₀ used₀ long₀ line' r.begun.used r.begun.long
   far-done work e n =
       let none : (ltb r.at (length (take r.size kernel')) || ltb r.place (length block)) ≡ false = not_so work (ltb r.at (length (take r.size kernel')) || ltb r.place (length block)) e n in
       let k = neither (ltb r.at (length (take r.size kernel'))) (ltb r.place (length block)) none in
       record {
         written = f.written ++ take r.out out';
         same = λ later.
-            append_assoc f.written (take r.out out') (text_out row_listed (row line' r.used r.long) later)
+            append_assoc f.written (take r.out out') (text_out row_listed (row line' r.begun.used r.begun.long) later)
             ∙ (ap (λ (x : List ℕ). f.written ++ x) (sym (done-listed block line' kernel' out' later r (ltb-false r.place (length block) k.1) (ltb-false r.at (length (take r.size kernel')) k.0))) ∙ went later);
       }
 

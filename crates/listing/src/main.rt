@@ -2,7 +2,7 @@
 
 #![tactic(auto)]
 
-ghost use Rattle.std.specs.Prelude.{◌≡◌, false, ◌||◌, ◌++◌, ◌+◌, ◌*◌, ◌≤◌, ◌<◌, ltb, length, take};
+ghost use Rattle.std.specs.Prelude.{◌≡◌, ◌||◌, ◌++◌, ◌+◌, ◌*◌, ◌≤◌, ◌<◌, ltb, length, take, is_some, unwrap_or, IfOk};
 ghost use Rattle.format_writers.specs.Writing.{wrote, written};
 ghost use Rattle.lines.specs.Mirror.Line.{line};
 ghost use Rattle.line_blocks.specs.LinesOf.{line_end};
@@ -12,6 +12,7 @@ ghost use Rattle.listing.specs.Mirror.Parts.{is_kernel_in, kernel_in, row_listed
 
 use decoder::Instruction;
 use formats::Base;
+use line_blocks::Begun;
 use std::io::{Read, Write};
 use streams::Failure;
 
@@ -57,49 +58,30 @@ fn list_instruction(kernel: &[u8], at: usize, out: &mut [u8], used: usize) -> St
     }
 }
 
-// Whether a line is a kernel, and how many bytes of the kernel's buffer it takes.
-#[derive(Clone, Copy)]
-struct Loaded {
-    good: bool,
-    size: usize,
-}
-
-// The kernel that a line is, to the buffer's start; no byte of one that is none, or was too long.
-fn load(characters: &[u8], long: bool, kernel: &mut [u8]) -> Loaded
+// The kernel that a line is, to the buffer's start, and how many bytes it has; nothing of a line that is none, or was too long.
+fn load(characters: &[u8], long: bool, kernel: &mut [u8]) -> Option<usize>
     requires { length characters.now ≤ 2 * length kernel.old }
-    ensures { (result.good ≡ is_kernel_in long characters.now) × (take result.size kernel.new ≡ kernel_in long characters.now) }
+    ensures good { is_some result ≡ is_kernel_in long characters.now }
+    ensures bytes { take (unwrap_or result 0) kernel.new ≡ kernel_in long characters.now }
 {
     if long {
-        return Loaded {
-            good: false,
-            size: 0,
-        };
+        return None;
     }
-    if characters.len() == 0 {
-        return Loaded {
-            good: true,
-            size: 0,
-        };
+    if characters.is_empty() {
+        return Some(0);
     }
     if !hex_text::is_hex(characters) {
-        return Loaded {
-            good: false,
-            size: 0,
-        };
+        return None;
     }
     hex_text::store(characters, 0, kernel, 0);
-    Loaded {
-        good: true,
-        size: hex_text::content_length(characters, 0),
-    }
+    Some(hex_text::content_length(characters, 0))
 }
 
-// Where listing stands: of the line begun, how many characters stand in its buffer, and whether there were more; of the kernel at hand, how many
-// bytes it has, and where listing goes on in it; how much of the output buffer is used; where the block is read on.
+// Where listing stands: the line begun; of the kernel at hand, how many bytes it has, and where listing goes on in it; how much of the output
+// buffer is used; where the block is read on.
 #[derive(Clone, Copy)]
 struct State {
-    used: usize,
-    long: bool,
+    begun: Begun,
     size: usize,
     at: usize,
     out: usize,
@@ -114,12 +96,9 @@ fn list_step(block: &[u8], line: &[u8], kernel: &[u8], out: &mut [u8], s: State)
 {
     let step = list_instruction(line_blocks::first_bytes(kernel, s.size), s.at, out, s.out);
     State {
-        used: s.used,
-        long: s.long,
-        size: s.size,
         at: step.next,
         out: step.used,
-        place: s.place,
+        ..s
     }
 }
 
@@ -131,29 +110,21 @@ struct Taken {
 }
 
 // A line that is whole: a kernel to be listed, or a refusal.
-fn take_line(
-    line: &[u8],
-    used: usize,
-    long: bool,
-    kernel: &mut [u8],
-    out: &mut [u8],
-    at: usize,
-) -> Taken
+fn take_line(line: &[u8], begun: Begun, kernel: &mut [u8], out: &mut [u8], at: usize) -> Taken
     requires at_in_bounds { at + 256 ≤ length out.old }
     requires line_len_bound { length line.now ≤ 2 * length kernel.old }
-    ensures { (take result.out out.new ++ listed_from (take result.size kernel.new) 0 ≡ take at out.old ++ row_listed (row line.now used long)) × (result.out ≤ length out.new) }
+    ensures { (take result.out out.new ++ listed_from (take result.size kernel.new) 0 ≡ take at out.old ++ row_listed (row line.now begun.used begun.long)) × (result.out ≤ length out.new) }
 {
-    let loaded = load(line_blocks::first_bytes(line, used), long, kernel);
-    if loaded.good {
-        Taken {
-            size: loaded.size,
-            out: at,
-        }
-    } else {
-        Taken {
-            size: loaded.size,
+    match load(
+        line_blocks::first_bytes(line, begun.used),
+        begun.long,
+        kernel,
+    ) {
+        Some(size) => Taken { size, out: at },
+        None => Taken {
+            size: 0,
             out: put_refusal(out, at, 14, 0),
-        }
+        },
     }
 }
 
@@ -167,21 +138,17 @@ fn next_line(block: &[u8], line: &mut [u8], kernel: &mut [u8], out: &mut [u8], s
 {
     let place = s.place;
     let end = line_blocks::line_end(block, place);
-    let begun = line_blocks::push_all(line, &block[place..end], s.used, s.long);
+    let begun = line_blocks::push_all(line, &block[place..end], s.begun);
     if block.len() <= end {
         return State {
-            used: begun.used,
-            long: begun.long,
-            size: s.size,
-            at: s.at,
-            out: s.out,
+            begun,
             place: end,
+            ..s
         };
     }
-    let taken = take_line(line, begun.used, begun.long, kernel, out, s.out);
+    let taken = take_line(line, begun, kernel, out, s.out);
     State {
-        used: 0,
-        long: false,
+        begun: Begun::nothing(),
         size: taken.size,
         at: 0,
         out: taken.out,
@@ -226,85 +193,45 @@ fn work(block: &[u8], line: &mut [u8], kernel: &mut [u8], out: &mut [u8], from: 
     ensures { Goes block.now line.old kernel.old out.old from line.new kernel.new out.new result }
 {
     let mut s = from;
-    let mut turns = u64::MAX;
-    while 0 < turns {
-        turns -= 1;
-        if out.len() - s.out < 256 {
+    for _turn in 0..u64::MAX {
+        if out.len() - s.out < 256 || !has_work(block, kernel, s) {
             return s;
         }
-        if !has_work(block, kernel, s) {
-            return s;
-        }
-        let next = go_on(block, line, kernel, out, s);
-        s = next;
+        s = go_on(block, line, kernel, out, s);
     }
     s
 }
 
-// Of the line begun, how many characters stand in its buffer, and whether there were more; whether a write failed.
-#[derive(Clone, Copy)]
-struct Listed {
-    used: usize,
-    long: bool,
-    failed: bool,
-}
-
-// A block, its output written whenever the buffer has little room, and at the end.
+// A block, its output written whenever the buffer has little room, and at the end; the line begun then.
 fn list_block<W: Write>(
     writer: &mut W,
     block: &[u8],
     line: &mut [u8],
     kernel: &mut [u8],
     out: &mut [u8],
-    used: usize,
-    long: bool,
-) -> Listed
+    begun: Begun,
+) -> Result<Begun, Failure>
     requires { length line.old ≤ 2 * length kernel.old }
-    ensures { result.failed ≡ false → Passes block.now line.old used long line.new result.used result.long }
+    ensures { IfOk result (λ after. Passes block.now line.old begun.used begun.long line.new after.used after.long) }
 {
     let mut s = State {
-        used,
-        long,
+        begun,
         size: 0,
         at: 0,
         out: 0,
         place: 0,
     };
-    let mut turns = u64::MAX;
-    while 0 < turns {
-        turns -= 1;
+    for _turn in 0..u64::MAX {
         let next = work(block, line, kernel, out, s);
-        if writer
+        writer
             .write_all(line_blocks::first_bytes(out, next.out))
-            .is_err()
-        {
-            return Listed {
-                used: 0,
-                long: false,
-                failed: true,
-            };
-        }
+            .map_err(|_| Failure::Unwritten)?;
         if !has_work(block, kernel, next) {
-            return Listed {
-                used: next.used,
-                long: next.long,
-                failed: false,
-            };
+            return Ok(next.begun);
         }
-        s = State {
-            used: next.used,
-            long: next.long,
-            size: next.size,
-            at: next.at,
-            out: 0,
-            place: next.place,
-        };
+        s = State { out: 0, ..next };
     }
-    Listed {
-        used: 0,
-        long: false,
-        failed: true,
-    }
+    Err(Failure::Unwritten)
 }
 
 // Block by block to the input's end, or to a read or a write that fails.
@@ -318,29 +245,16 @@ fn list_input<R: Read, W: Write>(
 ) -> Result<(), Failure>
     requires { length line.old ≤ 2 * length kernel.old }
 {
-    let mut used = 0;
-    let mut long = false;
-    for _ in 0..u64::MAX {
-        let count = match reader.read(block) {
-            Ok(count) => count,
-            Err(_) => return Err(Failure::Unread),
-        };
+    let mut begun = Begun::nothing();
+    for _turn in 0..u64::MAX {
+        let count = reader.read(block).map_err(|_| Failure::Unread)?;
         if count == 0 {
             // the last line may lack its 0x0a
-            let end = line_blocks::last_end(b"\n", used, long);
-            let last = list_block(writer, end, line, kernel, out, used, long);
-            return if last.failed {
-                Err(Failure::Unwritten)
-            } else {
-                Ok(())
-            };
+            let end = line_blocks::last_end(b"\n", begun);
+            list_block(writer, end, line, kernel, out, begun)?;
+            return Ok(());
         }
-        let listed = list_block(writer, &block[..count], line, kernel, out, used, long);
-        if listed.failed {
-            return Err(Failure::Unwritten);
-        }
-        used = listed.used;
-        long = listed.long;
+        begun = list_block(writer, &block[..count], line, kernel, out, begun)?;
     }
     Ok(())
 }

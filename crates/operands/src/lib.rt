@@ -27,6 +27,8 @@ pub enum TypeRule {
 }
 
 // Where an operand's elements are: the byte of each lane's element in the register file, or the immediate's number.
+// A struct and no enum of the two: a destination and a raw operand have positions alone, and each loop over their lanes would match on a number that
+// can't be there.
 #[derive(Clone, Copy)]
 pub struct Elements {
     pub size: u8,

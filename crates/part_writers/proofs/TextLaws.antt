@@ -20,9 +20,10 @@ pub hexadecimal-text : (t : List ℕ) → text "0x" ++ t ≡ word_at (words (tex
 unfolding words word_at
 hexadecimal-text t = refl
 
-pub raw-text : (r : Raw) → raw.print r ≡ word_at (words (text "v|")) 0 ++ ((digits_of 10 r.index ++ word_at (words (text ".|")) 0) ++ digits_of 10 r.offset)
+pub raw-text : (r : Raw) (index offset : ℕ) → index ≡ r.index → offset ≡ r.offset →
+    raw.print r ≡ word_at (words (text "v|")) 0 ++ ((digits_of 10 index ++ word_at (words (text ".|")) 0) ++ digits_of 10 offset)
 unfolding raw raw_parts decimal before after through pair number one_of
-raw-text r = refl
+raw-text r index offset e f = rw (e, f)
 
 pub narrow_type : (n k : ℕ) → n < 4294967296 → (type_behind n).print k ≡ word_at (words types) k
 unfolding type_behind one_of

@@ -1,15 +1,12 @@
 -- A whole text at the buffer's start, or nothing of it.
-use mathlib.Core.Path.{◌≡◌, refl, ap, ◌∙◌}
+use mathlib.Core.Path.{◌≡◌, refl, sym, ap, ◌∙◌}
 use mathlib.Core.Bool.{true, false}
 use mathlib.Core.List.{List, ◌++◌}
 use Prim.Native.Nat.{ℕ, ◌+◌, ◌≤◌, ◌<◌}
 use native.Mathlib.Omega.{arith}
 use lib.ListN.{length, drop}
-use Rattle.hex_text.specs.Storing.{placed, fits, stored}
-use Rattle.hex_text.proofs.StoringLaws.{fits-yes, fits-no, stored-all, stored-not, placed-is}
-
-pub whole-fits : (t l m : List ℕ) → length t ≤ length l → m ≡ placed l 0 t → (true ≡ fits t 0 l) × (m ≡ stored t 0 l)
-whole-fits t l m h e = stored-all t l m 0 (length t) refl (omega arith) (omega arith) e
+use Rattle.hex_text.specs.Storing.{fits, stored}
+use Rattle.hex_text.proofs.StoringLaws.{fits-yes, fits-no, stored-not, placed-is}
 
 pub whole-not : (t l : List ℕ) → length l < length t → (false ≡ fits t 0 l) × (l ≡ stored t 0 l)
 whole-not t l h = stored-not t l 0 (fits-no t l 0 (length t) refl (omega arith) (omega arith))
@@ -20,3 +17,7 @@ unfolding stored
 whole-text t l h =
     let n : 0 + length t ≡ length t = omega arith in
     rw (fits-yes t l 0 (length t) refl (omega arith) (omega arith)) (placed-is l 0 t (omega arith) ∙ ap (λ (k : ℕ). t ++ drop k l) n)
+
+-- a copy of the text
+pub whole-fits : (t l m : List ℕ) → length t ≤ length l → m ≡ t → (true ≡ fits t 0 l) × (m ++ drop (length t) l ≡ stored t 0 l)
+whole-fits t l m h e = (sym (fits-yes t l 0 (length t) refl (omega arith) (omega arith)), rw e (sym (whole-text t l h)))

@@ -2,8 +2,8 @@
 
 #![tactic(auto)]
 
-ghost use Rattle.std.specs.Prelude.{◌≡◌, ◌+◌, ◌*◌, ◌-◌, ◌≤◌, ◌++◌, length};
-ghost use Rattle.hex_text.specs.Storing.{placed, fits, stored};
+ghost use Rattle.std.specs.Prelude.{◌≡◌, ◌+◌, ◌*◌, ◌++◌};
+ghost use Rattle.hex_text.specs.Storing.{fits, stored};
 ghost use Rattle.formats.specs.Text.{text};
 ghost use Rattle.formats.specs.Words.{words, word_at};
 ghost use Rattle.formats.specs.Numerals.{digits_of};
@@ -13,13 +13,6 @@ ghost use Rattle.text_parts.specs.Mirror.Immediate.{type_behind, place_of, immed
 
 use formats::Base;
 use operand_fields::{Immediate, Raw};
-
-// How much a number exceeds another; 0 if it does not.
-pub fn above(n: u64, least: u64) -> u64
-    ensures { result ≡ n - least }
-{
-    if least <= n { n - least } else { 0 }
-}
 
 // A decimal number and the word that ends it, the first of a table.
 pub fn put_decimal(out: &mut [u8], at: usize, end: &[u8], n: u64) -> usize
@@ -41,8 +34,8 @@ pub fn put_hexadecimal(out: &mut [u8], at: usize, end: &[u8], n: u64) -> usize
 pub fn put_raw(out: &mut [u8], at: usize, r: Raw) -> usize
     ensures { wrote result out.new ≡ written out.old at (raw.print r) }
 {
-    let index = r.index as u64;
-    let offset = r.offset as u64;
+    let index = u64::from(r.index);
+    let offset = u64::from(r.offset);
     let a = format_writers::put_word(out, at, b"v|", 0);
     let b = put_decimal(out, a, b".|", index);
     format_writers::put_number(out, b, Base::Decimal, offset)
@@ -59,22 +52,21 @@ fn put_type(out: &mut [u8], at: usize, n: u64, place: u64) -> usize
 }
 
 // A type's number among those that an immediate may show.
+#[tactic(auto, unfolding(text_parts::specs::Mirror::Immediate::place_of))]
 fn type_place(code: u8) -> u64
     ensures { result ≡ place_of code }
 {
-    if code == element_types::UQ {
-        return 0;
+    match code {
+        element_types::UQ => 0,
+        element_types::F => 7,
+        _ => u64::from(code) + 1,
     }
-    if code == element_types::F {
-        return 7;
-    }
-    code as u64 + 1
 }
 
 fn whole_number(low: u32, high: u32) -> u64
     ensures { result ≡ high * 4294967296 + low }
 {
-    high as u64 * 4294967296 + low as u64
+    u64::from(high) * 4294967296 + u64::from(low)
 }
 
 // An immediate behind its `0x`.
@@ -87,25 +79,13 @@ pub fn put_immediate(out: &mut [u8], at: usize, i: Immediate) -> usize
     put_type(out, a, n, place)
 }
 
-// The text at the buffer's start.
-fn copy(out: &mut [u8], text: &[u8])
-    requires { length text.now ≤ length out.old }
-    ensures { out.new ≡ placed out.old 0 text.now }
-{
-    let mut i = 0;
-    while i < text.len() {
-        out[i] = text[i];
-        i += 1;
-    }
-}
-
-// The same if the buffer has room for all of it, and whether it has; nothing is written if not.
+// A text at the buffer's start if the buffer has room for all of it, and whether it has; nothing is written if not.
 pub fn put_whole(out: &mut [u8], text: &[u8]) -> bool
     ensures { (result ≡ fits text.now 0 out.old) × (out.new ≡ stored text.now 0 out.old) }
 {
-    if text.len() <= out.len() {
-        copy(out, text);
-        return true;
+    if text.len() > out.len() {
+        return false;
     }
-    false
+    out[..text.len()].copy_from_slice(text);
+    true
 }

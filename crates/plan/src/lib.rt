@@ -30,6 +30,7 @@ pub enum Operation {
 
 // What a run needs of an accepted instruction.
 // SHL: left is Src0, right Src1, payload Dst. Gather: Offset, Element_offset, Dst. Scatter: Address, Element_offset, Src.
+// One struct for the three, as the definitions of the effects have one record for them (`Rattle.plan.specs.Plan`); what only another operation has is 0.
 #[derive(Clone, Copy)]
 pub struct Plan {
     pub operation: Operation,

@@ -19,38 +19,38 @@ fn digit_at(line: &[u8], at: usize) -> u8
 }
 
 pub(crate) fn byte(line: &[u8], at: usize) -> u8
-    requires { at ≤ 65536 }
+    requires { at ≤ 1048576 }
 {
     16 * digit_at(line, 2 * at) + digit_at(line, 2 * at + 1)
 }
 
 pub(crate) fn word(line: &[u8], at: usize) -> u16
-    requires { at ≤ 65535 }
+    requires { at ≤ 1048575 }
 {
     u16::from(byte(line, at)) + 256 * u16::from(byte(line, at + 1))
 }
 
 pub(crate) fn dword(line: &[u8], at: usize) -> u32
-    requires { at ≤ 65533 }
+    requires { at ≤ 1048573 }
 {
     u32::from(word(line, at)) + 65536 * u32::from(word(line, at + 2))
 }
 
 pub(crate) fn qword(line: &[u8], at: usize) -> u64
-    requires { at ≤ 65529 }
+    requires { at ≤ 1048569 }
 {
     u64::from(dword(line, at)) + 4294967296 * u64::from(dword(line, at + 4))
 }
 
 pub(crate) fn size(line: &[u8], at: usize) -> usize
-    requires { at ≤ 65535 }
+    requires { at ≤ 1048575 }
 {
     usize::from(word(line, at))
 }
 
 // A number of entries that a table of 257 can have.
 pub(crate) fn entries(line: &[u8], at: usize) -> usize
-    requires { at ≤ 65535 }
+    requires { at ≤ 1048575 }
     ensures { result ≤ 257 }
 {
     size(line, at) % 258
@@ -67,41 +67,46 @@ pub(crate) fn kernel_of(line: &[u8]) -> [u8; 64]
     kernel
 }
 
+// A table's entries, and `past` behind the last one.
+fn table_of<T: Copy, F: Fn(u16) -> T>(count: u16, past: T, entry: F) -> [T; 257]
+    requires { F.IsAlwaysCallable entry }
+    ensures { 257 ≡ length result }
+{
+    let mut table = [past; 257];
+    for i in 0..count.min(257) {
+        table[usize::from(i)] = entry(i);
+    }
+    table
+}
+
 // In a table's line the number of its entries comes first; a variable has five bytes, and so has a predicate. A byte of each entry: the first
 // entry's at `first`, and `past` behind the last one.
 pub(crate) fn bytes_of(line: &[u8], first: usize, past: u8) -> [u8; 257]
     requires { first ≤ 16 }
     ensures { 257 ≡ length result }
 {
-    let count = size(line, 0);
-    let mut table = [past; 257];
-    for i in 0..count.min(257) {
-        table[i] = byte(line, 5 * i + first);
-    }
-    table
+    table_of(
+        word(line, 0),
+        past,
+        |i| byte(line, 5 * usize::from(i) + first),
+    )
 }
 
 // The predicates' bits, 0 behind the last one.
 pub(crate) fn bits_of(line: &[u8]) -> [u32; 257]
     ensures { 257 ≡ length result }
 {
-    let count = size(line, 0);
-    let mut table = [0; 257];
-    for i in 0..count.min(257) {
-        table[i] = dword(line, 5 * i + 2);
-    }
-    table
+    table_of(word(line, 0), 0, |i| dword(line, 5 * usize::from(i) + 2))
 }
 
 // A word of each entry: the first entry's at `first`, the others' `stride` bytes apart, and `past` behind the last one.
-pub(crate) fn words_of(line: &[u8], first: usize, stride: usize, past: u16) -> [u16; 257]
-    requires { (first ≤ 16) × (stride ≤ 16) }
+pub(crate) fn words_of(line: &[u8], first: usize, stride: u8, past: u16) -> [u16; 257]
+    requires { (first ≤ 16) × (stride ≤ 15) }
     ensures { 257 ≡ length result }
 {
-    let count = size(line, 0);
-    let mut table = [past; 257];
-    for i in 0..count.min(257) {
-        table[i] = word(line, stride * i + first);
-    }
-    table
+    table_of(
+        word(line, 0),
+        past,
+        |i| word(line, usize::from(stride) * usize::from(i) + first),
+    )
 }

@@ -36,15 +36,23 @@ fn every_count_good(counts: &[u8]) -> bool
 }
 
 impl Predicates<'_> {
-    // The predicate of an id, if the table has it. Whoever needs one asks here: beside `good` nothing else reads the two slices.
+    // The predicate of an id, if the table has it. Whoever needs one asks here: beside `count` and `good` nothing else reads the two slices.
     #[tactic(auto, unfolding(crate::specs::Predicates::predicate_at))]
     pub fn at(self, id: u16) -> Option<Predicate>
         ensures { result ≡ found (predicate_at (predicates_of self.entry) id) }
     {
         let i = usize::from(id);
         let bits = self.bits.get(i).copied()?;
-        let count = self.counts.get(i).copied().unwrap_or(0);
+        let count = self.count(id);
         Some(Predicate { bits, count })
+    }
+
+    // The count of an id; where the table has no bits of it too, 0 past the end of the counts.
+    #[tactic(auto, unfolding(crate::specs::Predicates::predicate_at))]
+    pub fn count(self, id: u16) -> u8
+        ensures { result ≡ (predicate_at (predicates_of self.entry) id).count }
+    {
+        self.counts.get(usize::from(id)).copied().unwrap_or(0)
     }
 
     // Whether the table keeps the sizes.

@@ -75,12 +75,17 @@ module _ (k : Constants) (q : code.Plan) (s : State) (fits : Fits (plan_of q)) w
   abbrev window : Window
   window = record { base = k.base; length = length s.memory.bytes }
 
-  pub scatter-performs : (r : Result (Unit {0}) Refusal) (m : Buffer) → q.operation ≡ left.Scatter → (number_given r ≡ (scatter_guarded window k.mask p s.registers).number) × (detail_given r ≡ (scatter_guarded window k.mask p s.registers).detail) → m ≡ written_all (scatter_guarded window k.mask p s.registers).memory s.memory
+  -- the scatter's status and writes, by the registers that it saw
+  abbrev Scattered : Result (Unit {0}) Refusal → Buffer → Buffer → Type 0
+  Scattered r m b = (number_given r ≡ (scatter_guarded window k.mask p b).number) × (detail_given r ≡ (scatter_guarded window k.mask p b).detail) × (m ≡ written_all (scatter_guarded window k.mask p b).memory s.memory)
+
+  pub scatter-performs : (r : Result (Unit {0}) Refusal) (m b : Buffer) → b ≡ s.registers → q.operation ≡ left.Scatter → Scattered r m b
       → Performs r (record { registers = s.registers; surfaces = s.surfaces; memory = m })
   unfolding acted fits_for
-  scatter-performs r m is made written =
+  scatter-performs r m b seen is made =
       let o : p.operation ≡ operation.Scatter = ap operation_of is in
       let g = scatter.guard-passes window k.mask p s.registers (fit _ o) in
-      performs (scatter_guarded window k.mask p s.registers) r s.registers m (g ∙ sym (acts _ o)) made.0 made.1
+      let done : Scattered r m s.registers = subst (Scattered r m) seen made in
+      performs (scatter_guarded window k.mask p s.registers) r s.registers m (g ∙ sym (acts _ o)) done.0 done.1
       (sym (unwritten _ _ (ap (λ (e : Effect). e.registers) g ∙ scatter-spares-registers window p (lanes_on k.mask p) s.registers)))
-      written
+      done.2

@@ -61,7 +61,13 @@ fn perform(room: &mut Room<'_>, constants: Constants, plan: Plan) -> Result<(), 
                 bytes: &mut *room.memory,
                 taint: &mut *room.memory_taint,
             };
-            scatter::scatter(plan, constants.mask, constants.base, registers.view(), &mut memory)
+            scatter::scatter(
+                plan,
+                constants.mask,
+                constants.base,
+                registers.view(),
+                &mut memory,
+            )
         }
     }
 }

@@ -1,12 +1,15 @@
 -- What the encoder's answer and the written line say of printing: the fields that are taken, the line that has room, and the line that has none.
 use mathlib.Core.Path.{◌≡◌, refl, sym, ap, ◌∙◌, subst}
 use mathlib.Core.List.{List, ◌++◌}
-use mathlib.Core.Bool.{Bool, true, false, cond}
+use mathlib.Core.Bool.{Bool, true, false, cond, true≢false}
 use Prim.Native.Nat.{ℕ, ◌+◌, ◌≤◌, ◌<◌}
 use native.Mathlib.Omega.{arith}
 use lib.ListN.{length, take, drop}
 use lib.Dec.{ltb, eqb}
 use borrow.Author.Tests.{le-ltb, ltb-true, ltb-false, eq-eqb, ne_eqb, eqb-true, eqb-false, leb-true, leb-false}
+use Rattle.std.specs.Prelude.{Result, Ok, Err}
+use Rattle.std.specs.Result.{IsErr, IsErrAnd}
+use Rattle.refusal.specs.declared.Refusal.{Refusal}
 use Rattle.little_endian.specs.LittleEndian.{Bytes}
 use Rattle.little_endian.proofs.Parts.{bytes-before}
 use Rattle.hex_text.specs.Storing.{fits, stored}
@@ -25,7 +28,12 @@ use Rattle.lines.specs.Mirror.Line.{line_fits, line}
 use Rattle.lines.proofs.EncodesLaws.{encodes-fits}
 use Rattle.lines.proofs.PrintLaws.{line-prints}
 use Rattle.lines.proofs.LengthLaws.{line-short}
-use Rattle.text.specs.Printing.{printed_in, printed_into}
+use Rattle.text.specs.Printing.{fields_judged, printed_in, printed_into}
+
+-- a refusal that `?` hands on
+pub handed-on : {A : Type 0} (r : Result A Refusal) (e : Refusal) → IsErr r → IsErrAnd r (λ x. x ≡ e) → r ≡ Err e
+handed-on (Ok v) e h k = absurd (true≢false (sym h))
+handed-on (Err x) e h k = ap Err k
 
 -- ---- what the encoder's answer says, given room for every encoding
 
@@ -46,18 +54,40 @@ module _ (i : Instruction) (l : List ℕ) (room : 34 ≤ length l) where
       told false p q = absurd (let z : ◌≡◌ {A = ℕ} 0 1 = cc in omega arith)
 
   -- the fields of an encoding fit their lines, since each of its bytes is one
-  pub fields-taken : (n : ℕ) (m : List ℕ) → done n ≡ encoded_in (length l) i → m ≡ encoded_into l i → Bytes m → (0 ≡ instruction_refusal i) × (◌≡◌ {A = ℕ} 0 0 → line_fits i ≡ true)
-  fields-taken n m e p b =
+  pub fields-fit : (n : ℕ) (m : List ℕ) → done n ≡ encoded_in (length l) i → m ≡ encoded_into l i → Bytes m → line_fits i ≡ true
+  fields-fit n m e p b =
       let g = taken-answer n e in
-      (sym g, λ _. encodes-fits i g (bytes-before (instruction_bytes i) (drop (length (instruction_bytes i)) l) (subst Bytes (p ∙ encoded-there g) b)))
+      encodes-fits i g (bytes-before (instruction_bytes i) (drop (length (instruction_bytes i)) l) (subst Bytes (p ∙ encoded-there g) b))
 
-  pub fields-refused : (n : ℕ) → refused n ≡ encoded_in (length l) i → (n ≡ instruction_refusal i) × (n ≡ 0 → line_fits i ≡ true)
-  unfolding encoded_in
-  fields-refused n e = told (eqb (instruction_refusal i) 0) refl (rw has_room at e)
+  pub fields-taken : (n : ℕ) → done n ≡ encoded_in (length l) i → done (tt {0}) ≡ fields_judged i
+  unfolding fields_judged
+  fields-taken n e = rw (eq-eqb (instruction_refusal i) 0 (taken-answer n e)) refl
+
+  pub fields-refused : (n : ℕ) → refused n ≡ encoded_in (length l) i → refused n ≡ fields_judged i
+  unfolding encoded_in fields_judged
+  fields-refused n e = told (eqb (instruction_refusal i) 0) (rw has_room at e)
     where
-      told : (b : Bool) → eqb (instruction_refusal i) 0 ≡ b → refused n ≡ cond b (done (length (instruction_bytes i))) (refused (instruction_refusal i)) → (n ≡ instruction_refusal i) × (n ≡ 0 → line_fits i ≡ true)
-      told true p q = absurd (let z : ◌≡◌ {A = ℕ} 0 1 = cc in omega arith)
-      told false p q = let x : n ≡ instruction_refusal i = cc in (x, λ z. absurd (eqb-false (instruction_refusal i) 0 p (sym x ∙ z)))
+      told : (b : Bool) → refused n ≡ cond b (done (length (instruction_bytes i))) (refused (instruction_refusal i)) → refused n ≡ cond b (done (tt {0})) (refused (instruction_refusal i))
+      told true q = absurd (let z : ◌≡◌ {A = ℕ} 0 1 = cc in omega arith)
+      told false q = cc
+
+-- ---- printing, by the judgement of the fields
+
+pub taken : (i : Instruction) → done (tt {0}) ≡ fields_judged i → instruction_refusal i ≡ 0
+unfolding fields_judged
+taken i e = told (eqb (instruction_refusal i) 0) refl e
+  where
+    told : (b : Bool) → eqb (instruction_refusal i) 0 ≡ b → done (tt {0}) ≡ cond b (done (tt {0})) (refused (instruction_refusal i)) → instruction_refusal i ≡ 0
+    told true p q = eqb-true (instruction_refusal i) 0 p
+    told false p q = absurd (let z : ◌≡◌ {A = ℕ} 0 1 = cc in omega arith)
+
+pub refused-printed : (i : Instruction) (n : ℕ) → refused n ≡ fields_judged i → (l : List ℕ) → (refused n ≡ printed_in (length l) i) × (l ≡ printed_into l i)
+unfolding fields_judged printed_in printed_into
+refused-printed i n e l = told (eqb (instruction_refusal i) 0) refl e
+  where
+    told : (b : Bool) → eqb (instruction_refusal i) 0 ≡ b → refused n ≡ cond b (done (tt {0})) (refused (instruction_refusal i)) → (refused n ≡ printed_in (length l) i) × (l ≡ printed_into l i)
+    told true p q = absurd (let z : ◌≡◌ {A = ℕ} 0 1 = cc in omega arith)
+    told false p q = let x : n ≡ instruction_refusal i = cc in rw (p, x) (refl, refl)
 
 -- ---- the line in a buffer that has room for every line
 
@@ -71,13 +101,7 @@ line-there i l e m h n p =
     let r = wrote-text l (line.print i) e m (omega (arith, line-short.most i (line-good i ∙ h), n)) p in
     (r.0 ∙ ap length t, r.1 ∙ t)
 
--- ---- the three answers
-
-pub refused-printed : (i : Instruction) (l : List ℕ) (n : ℕ) → n ≡ instruction_refusal i → (n ≡ 0 → ⊥) → (refused n ≡ printed_in (length l) i) × (l ≡ printed_into l i)
-unfolding printed_in printed_into
-refused-printed i l n e z =
-    let bad : eqb (instruction_refusal i) 0 ≡ false = ne_eqb (instruction_refusal i) 0 (λ q. z (e ∙ q)) in
-    rw (bad, e) (refl, refl)
+-- ---- the line in the buffer
 
 module _ (i : Instruction) (g : instruction_refusal i ≡ 0) (l t m : List ℕ) (e : ℕ) (n : e ≡ length (line_of i)) (p : t ≡ line_of i) (b : Bool) (f : b ≡ fits t 0 l) (s : m ≡ stored t 0 l) where
   -- the answer `a` to a call that leaves the buffer `m`, where printing answers `r`

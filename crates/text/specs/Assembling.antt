@@ -1,11 +1,12 @@
 -- Reading a text into the caller's buffer: 16 with a column if it is no printed line, then 15 if the buffer is shorter than the encoding, otherwise
 -- the encoding at its start.
-use Rattle.std.specs.Prelude.{ℕ, List}
+use Rattle.std.specs.Prelude.{ℕ, List, Result, Ok, Err}
 use Rattle.reader.specs.Reply.{on_reply}
 use Rattle.encoder.specs.Encoding.{encoded_in, encoded_into}
 use Rattle.lines.specs.Reading.{on_reading, reading_of}
-use Rattle.text.specs.declared.Assembled.{Assembled}
-use Rattle.text.specs.declared.Assembled.TheVariants as assembled
+use Rattle.refusal.specs.Numbers as refusal
+use Rattle.text.specs.declared.Unassembled.{Unassembled}
+use Rattle.text.specs.declared.Unassembled.TheVariants as unassembled
 
 -- how many bytes were written; or the number of a refusal, with a column for 16 and 0 for 15
 pub data Assembly : Type 0 where
@@ -19,6 +20,14 @@ unfoldable pub assembled_into : List ℕ → List ℕ → List ℕ
 assembled_into l t = on_reading (reading_of t) (λ i. encoded_into l i) (λ _ _. l)
 
 -- number and values of each case
-abbrev pub assembly_of : Assembled → Assembly
-assembly_of (assembled.Wrote n) = wrote n
-assembly_of (assembled.Refused n column) = refused n column
+abbrev pub number_of : Unassembled → ℕ
+number_of (unassembled.NoLine e) = 16
+number_of (unassembled.Encoding r) = refusal.number_of r
+
+abbrev pub column_of : Unassembled → ℕ
+column_of (unassembled.NoLine e) = e.column
+column_of (unassembled.Encoding r) = 0
+
+abbrev pub assembly_of : Result ℕ Unassembled → Assembly
+assembly_of (Ok n) = wrote n
+assembly_of (Err e) = refused (number_of e) (column_of e)

@@ -5,8 +5,6 @@ use Rattle.reader.specs.Reply.{Reply, refused, done, on_reply}
 use Rattle.decoder.specs.declared.Instruction.{Instruction}
 use Rattle.decoder.specs.Format.{instruction_refusal}
 use Rattle.lines.specs.LineOf.{line_of}
-use Rattle.text.specs.declared.Printed.{Printed}
-use Rattle.text.specs.declared.Printed.TheVariants as printed
 
 -- the line's length, if the buffer has room for it
 unfoldable pub printed_in : ℕ → Instruction → Reply ℕ
@@ -19,7 +17,6 @@ printed_in room i =
 unfoldable pub printed_into : List ℕ → Instruction → List ℕ
 printed_into l i = on_reply (printed_in (length l) i) (λ n. l) (λ n. line_of i ++ drop n l)
 
--- number and values of each case
-abbrev pub printed_reply : Printed → Reply ℕ
-printed_reply (printed.Wrote n) = done n
-printed_reply (printed.Refused n) = refused n
+-- the fields alone, where room is no matter
+unfoldable pub fields_judged : Instruction → Reply (Unit {0})
+fields_judged i = cond (eqb (instruction_refusal i) 0) (done (tt {0})) (refused (instruction_refusal i))

@@ -2,76 +2,107 @@
 
 #![tactic(auto)]
 
-ghost use Rattle.std.specs.Prelude.{◌≡◌, true, ◌≤◌, length};
-ghost use Rattle.decoder.specs.Format.{instruction_refusal};
+ghost use Rattle.std.specs.Prelude.{◌≡◌, ◌≤◌, true, length, OnOk};
+ghost use Rattle.reader.specs.Reply.{done, outcome};
 ghost use Rattle.lines.specs.Mirror.Line.{line_fits};
-ghost use Rattle.text.specs.Printing.{printed_reply, printed_in, printed_into};
-ghost use Rattle.text.specs.Assembling.{assembly_of, assembled_in, assembled_into};
+ghost use Rattle.text.specs.Printing.{fields_judged, printed_in, printed_into};
+ghost use Rattle.text.specs.Assembling.{number_of, column_of, assembly_of, assembled_in, assembled_into};
+ghost use Rattle.text.specs.declared.Unassembled.TheVariants.{NoLine, Encoding};
 
 use decoder::Instruction;
-use lines::TextRead;
+use refusal::Refusal;
 
-// How many characters a line has, or the number of a refusal.
+// Why a text is not assembled.
 #[derive(Clone, Copy)]
-pub enum Printed {
-    Wrote(usize),
-    Refused(u8),
+pub enum Unassembled {
+    // 16: it is no line
+    NoLine(lines::NoLine),
+    // by the encoder
+    Encoding(Refusal),
 }
 
-// How many bytes an encoding has; or the number of a refusal, with a column for 16 and 0 for 15.
-#[derive(Clone, Copy)]
-pub enum Assembled {
-    Wrote(usize),
-    Refused(u8, usize),
-}
+impl From<lines::NoLine> for Unassembled {
+    ghost from_gives = { λ e r. r ≡ NoLine e };
 
-// The number by which the encoder refuses an instruction's fields, 0 if it takes them: its answer judges them, given room for every encoding.
-fn refusal(bytes: &mut [u8], instruction: Instruction) -> u8
-    requires { 34 ≤ length bytes.old }
-    ensures { (result ≡ instruction_refusal instruction) × (result ≡ 0 → line_fits instruction ≡ true) }
-{
-    match encoder::encode(instruction, bytes) {
-        Ok(_) => 0,
-        Err(refusal) => refusal.number(),
+    fn from(e: lines::NoLine) -> Unassembled {
+        Unassembled::NoLine(e)
     }
 }
 
+impl From<Refusal> for Unassembled {
+    ghost from_gives = { λ e r. r ≡ Encoding e };
+
+    fn from(e: Refusal) -> Unassembled {
+        Unassembled::Encoding(e)
+    }
+}
+
+impl Unassembled {
+    // The number that is given back.
+    pub fn number(self) -> u8
+        ensures { result ≡ number_of self }
+    {
+        match self {
+            Unassembled::NoLine(_) => 16,
+            Unassembled::Encoding(refusal) => refusal.number(),
+        }
+    }
+
+    // The column that 16 tells; 0 for any other number.
+    pub fn column(self) -> usize
+        ensures { result ≡ column_of self }
+    {
+        match self {
+            Unassembled::NoLine(no_line) => no_line.column,
+            Unassembled::Encoding(_) => 0,
+        }
+    }
+}
+
+// Whether the fields are taken: the encoder's answer judges them, given room for every encoding.
+fn judge(instruction: Instruction, bytes: &mut [u8]) -> Result<(), Refusal>
+    requires { 34 ≤ length bytes.old }
+    ensures answer { outcome result ≡ fields_judged instruction }
+    ensures fits { OnOk result (line_fits instruction ≡ true) }
+{
+    encoder::encode(instruction, bytes)?;
+    Ok(())
+}
+
 // The line of an instruction whose fields are taken.
-fn put_taken(instruction: Instruction, buffer: &mut [u8]) -> Printed
-    requires { (instruction_refusal instruction ≡ 0) × (line_fits instruction ≡ true) }
-    ensures { (printed_reply result ≡ printed_in (length buffer.old) instruction) × (buffer.new ≡ printed_into buffer.old instruction) }
+fn put_taken(instruction: Instruction, buffer: &mut [u8]) -> Result<usize, Refusal>
+    requires taken { done (tt {0}) ≡ fields_judged instruction }
+    requires fits { line_fits instruction ≡ true }
+    ensures answer { outcome result ≡ printed_in (length buffer.old) instruction }
+    ensures line { buffer.new ≡ printed_into buffer.old instruction }
 {
     let mut text = [0u8; 128];
     let end = line_writers::put_line(&mut text, 0, instruction);
     if part_writers::put_whole(buffer, &text[..end]) {
-        Printed::Wrote(end)
+        Ok(end)
     } else {
-        Printed::Refused(15)
+        Err(Refusal::Room)
     }
 }
 
 // Prints at the buffer's start. On a refusal the buffer is untouched; bytes past a line stay.
-pub fn print(instruction: Instruction, buffer: &mut [u8]) -> Printed
-    ensures { (printed_reply result ≡ printed_in (length buffer.old) instruction) × (buffer.new ≡ printed_into buffer.old instruction) }
+#[tactic(auto)]
+pub fn print(instruction: Instruction, buffer: &mut [u8]) -> Result<usize, Refusal>
+    ensures answer { outcome result ≡ printed_in (length buffer.old) instruction }
+    ensures line { buffer.new ≡ printed_into buffer.old instruction }
 {
     let mut bytes = [0u8; 64];
-    let number = refusal(&mut bytes, instruction);
-    if number == 0 {
-        put_taken(instruction, buffer)
-    } else {
-        Printed::Refused(number)
-    }
+    judge(instruction, &mut bytes)?;
+    put_taken(instruction, buffer)
 }
 
 // Reads a text and encodes its instruction at the buffer's start. On a refusal the buffer is untouched; bytes past an encoding stay.
-pub fn read_into(text: &[u8], buffer: &mut [u8]) -> Assembled
-    ensures { (assembly_of result ≡ assembled_in (length buffer.old) text.now) × (buffer.new ≡ assembled_into buffer.old text.now) }
+#[tactic(auto, unfolding(crate::specs::Assembling::assembled_in, crate::specs::Assembling::assembled_into))]
+pub fn read_into(text: &[u8], buffer: &mut [u8]) -> Result<usize, Unassembled>
+    ensures answer { assembly_of result ≡ assembled_in (length buffer.old) text.now }
+    ensures bytes { buffer.new ≡ assembled_into buffer.old text.now }
 {
-    match lines::read(text) {
-        TextRead::Line(instruction) => match encoder::encode(instruction, buffer) {
-            Ok(count) => Assembled::Wrote(count),
-            Err(refusal) => Assembled::Refused(refusal.number(), 0),
-        },
-        TextRead::NoLine(column) => Assembled::Refused(16, column),
-    }
+    let instruction = lines::read(text)?;
+    let count = encoder::encode(instruction, buffer)?;
+    Ok(count)
 }

@@ -1,9 +1,8 @@
-use Rattle.std.proofs.Common.{◌≡◌, ◌-◌, length}
-use Rattle.assembler.proofs.WritingLaws.{Rest}
+-- The bytes so far are written.
+use Rattle.std.proofs.Common.{◌≡◌, take}
+use Rattle.hex_text.specs.Bytes.{hex_of}
+use Rattle.format_writers.specs.Writing.{wrote, written}
 use Rattle.assembler.proofs.put_bytes.Given as goal
 
-abbrev pub invariant-loop-i : goal.invariant-loop-i
-invariant-loop-i l = Rest l.bytes l.initial.out l.initial.to l.out l.to l.i × (length l.out ≡ length l.initial.out)
-
-abbrev pub decreases-loop-i : goal.decreases-loop-i
-decreases-loop-i l = length l.bytes - l.i
+abbrev pub invariant-loop-byte : goal.invariant-loop-byte
+invariant-loop-byte l = wrote l.to l.out ≡ written l.fn.out l.fn.at (hex_of (take l.byte-index l.bytes))

@@ -11,7 +11,7 @@ row_assembled w = assembled_line (take w.used w.line)
 
 -- what the output buffer has, and what is to come for the rest of the text: of the block, and `later`
 unfoldable pub whole : List ℕ → List ℕ → List ℕ → State → List ℕ → List ℕ
-whole block line out s later = take s.out out ++ text_out row_assembled (row line s.used s.long) (drop s.place block ++ later)
+whole block line out s later = take s.out out ++ text_out row_assembled (row line s.begun.used s.begun.long) (drop s.place block ++ later)
 
 -- a step of the program: what has been put out, with what is to come, stays the same whatever text comes later, and the output buffer has room for what is in it
 pub record Goes (block line out : List ℕ) (s : State) (line' out' : List ℕ) (r : State) : Type 0 where

@@ -6,4 +6,4 @@ use Rattle.control_writers.proofs.put_scatter_exec.Goals as goal
 pub returns : goal.returns
 returns c =
     wrote-two _ _ _ _ _ _ _ _ _ c.put_mask-a.ensures c.put_word.ensures
-    (scatter-exec-text _ _ _ _ c.split-e.ensures c.mask_place.ensures c.size_place.ensures _ c.above.ensures)
+    (scatter-exec-text _ _ _ _ c.split-e.ensures c.mask_place.ensures c.size_place.ensures _ c.saturating_sub-place.ensures)

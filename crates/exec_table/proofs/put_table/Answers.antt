@@ -1,14 +1,14 @@
--- `exec_table::put_table` meets its contract. The invariant: the lines of the bytes so far are written.
-use Rattle.std.proofs.Common.{refl, ◌∙◌, arith}
-use Rattle.exec_table.proofs.LineLaws.{no_lines, one-more-line, all_lines}
+-- One line more, the last one too.
+use Rattle.std.proofs.Common.{◌≡◌, ◌∙◌, ℕ, ◌+◌, ap, arith}
+use Rattle.format_writers.specs.Writing.{written}
+use Rattle.exec_table.specs.ExecLines.{lines_below}
+use Rattle.exec_table.proofs.LineLaws.{one_more_line}
 use Rattle.exec_table.proofs.put_table.Goals as goal
 
-pub loop-byte-init : goal.loop-byte-init
-loop-byte-init c = (omega arith, no_lines _, refl)
-
 pub loop-byte-preserved : goal.loop-byte-preserved
-loop-byte-preserved c =
-    (omega (arith, c.loop-byte-test.true), one-more-line _ _ _ _ _ c.loop-byte.byte c.loop-byte.invariant.1 c.put_entry-e.ensures, c.put_entry-e.auto.out ∙ c.loop-byte.invariant.2)
+loop-byte-preserved c = one_more_line _ _ _ _ _ c.loop-byte.byte c.loop-byte.invariant c.put_entry-to.ensures
 
-pub returns : goal.returns
-returns c = all_lines _ _ _ _ c.loop-byte.invariant.0 c.loop-byte-test.false c.loop-byte.invariant.1
+pub returns-2 : goal.returns-2
+returns-2 c =
+    let last : c.loop-byte.byte + 1 ≡ 256 = omega arith in
+    one_more_line _ _ _ _ _ c.loop-byte.byte c.loop-byte.invariant c.put_entry-to.ensures ∙ ap (λ (n : ℕ). written c.args.out.now 0 (lines_below n)) last

@@ -2,8 +2,5 @@
 use Rattle.listing.proofs.WholeLaws.{SoFar}
 use Rattle.listing.proofs.list_block.Given as goal
 
-abbrev pub invariant-loop-turns : goal.invariant-loop-turns
-invariant-loop-turns g l = SoFar l.block l.fn.line l.used l.long l.line l.kernel l.out l.s
-
-abbrev pub decreases-loop-turns : goal.decreases-loop-turns
-decreases-loop-turns g l = l.turns
+abbrev pub invariant-loop-turn : goal.invariant-loop-turn
+invariant-loop-turn g l = SoFar l.block l.fn.line l.fn.begun.used l.fn.begun.long l.line l.kernel l.out l.s

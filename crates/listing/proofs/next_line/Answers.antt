@@ -13,4 +13,4 @@ returns-then-block-end c =
 
 pub returns : goal.returns
 returns c =
-    line-goes _ _ _ _ _ _ _ _ _ c.line_end-end.ensures c.push_all-begun.ensures c.requires.out_in_bounds _ _ _ _ c.requires.place_in_bounds c.if-block-end.false c.requires.kernel_len_bound c.take_line-taken.ensures
+    rw c.nothing.ensures (line-goes _ _ _ _ c.args.s _ _ _ _ c.line_end-end.ensures c.push_all-begun.ensures c.requires.out_in_bounds _ _ _ _ c.requires.place_in_bounds c.if-block-end.false c.requires.kernel_len_bound c.take_line-taken.ensures)

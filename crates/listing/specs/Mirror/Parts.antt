@@ -21,7 +21,7 @@ row_listed w = cond (is_kernel_in w.long (take w.used w.line)) (listed_from (hex
 -- what the output buffer has, the lines of the kernel at hand that are still to come, and those of the rest of the text: of the block, and `later`
 unfoldable pub whole : List ℕ → List ℕ → List ℕ → List ℕ → State → List ℕ → List ℕ
 whole block line kernel out s later =
-    take s.out out ++ (listed_from (take s.size kernel) s.at ++ text_out row_listed (row line s.used s.long) (drop s.place block ++ later))
+    take s.out out ++ (listed_from (take s.size kernel) s.at ++ text_out row_listed (row line s.begun.used s.begun.long) (drop s.place block ++ later))
 
 -- a step of the program: what has been put out, with what is to come, stays the same whatever text comes later, and the output buffer has room for what is in it
 pub record Goes (block line kernel out : List ℕ) (s : State) (line' kernel' out' : List ℕ) (r : State) : Type 0 where
