@@ -28,25 +28,24 @@ impl Answer {
     pub fn number(self) -> u8
         ensures { result ≡ number_told self.refusal }
     {
-        match self.refusal {
-            None => 0,
-            Some(refusal) => refusal.number(),
-        }
+        self.refusal.map_or(0, Refusal::number)
     }
 
     // What goes with the number.
     pub fn detail(self) -> Detail
         ensures { result ≡ detail_told self.refusal }
     {
-        match self.refusal {
-            None => Detail::None,
-            Some(refusal) => refusal.detail(),
-        }
+        self.refusal.map_or(Detail::None, Refusal::detail)
     }
 }
 
 // The instructions in kernel order, up to the end or the first refusal; earlier instructions stand.
-fn run_kernel(kernel: &[u8], tables: Tables<'_>, constants: Constants, room: &mut Room<'_>) -> Answer
+fn run_kernel(
+    kernel: &[u8],
+    tables: Tables<'_>,
+    constants: Constants,
+    room: &mut Room<'_>,
+) -> Answer
     ensures outcome { outcome (answer_of result) (state_of room.new) ≡ run_through (setup kernel.now (tables_of tables.entry) constants) (state_of room.old) }
     ensures room { Goes room.old room.new (state_of room.new) }
 {
