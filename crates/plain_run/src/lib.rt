@@ -3,35 +3,30 @@
 #![tactic(auto)]
 
 ghost use Rattle.std.specs.Prelude.{◌≡◌};
-ghost use Rattle.tables.specs.Tables.{tables};
-ghost use Rattle.tables.specs.Borrowed.{variable_table};
-ghost use Rattle.predicate_table.specs.Borrowed.{predicate_table};
-ghost use Rattle.surface_table.specs.Borrowed.{surface_table};
+ghost use Rattle.tables.specs.Borrowed.{tables_of};
 ghost use Rattle.step.specs.State.{setup, state};
 ghost use Rattle.run.specs.Answer.{answer_of};
 ghost use Rattle.run.specs.Run.{outcome, run};
 ghost use Rattle.plain_run.specs.PlainRun.{plain_run, plain_outcome, without_marks};
 ghost use Rattle.plain_run.specs.Mirror.TooLong.{too_long};
 
-use refusal::Detail;
+use refusal::Refusal;
 use run::Answer;
 use step::{Constants, Room};
+use tables::Tables;
 
+#[tactic(auto, unfolding(crate::specs::Mirror::TooLong::too_long))]
 fn too_long(registers: usize, surfaces: usize, memory: usize) -> bool
     ensures { result ≡ too_long registers surfaces memory }
 {
-    (4096 < registers) | ((8192 < surfaces) | (4096 < memory))
+    4096 < registers || 8192 < surfaces || 4096 < memory
 }
 
-// The run over slices that make a room.
+// The run over slices that make a room. A function of its own: a room of the caller's slices and of arrays that are made beside it would not
+// give the caller its slices back.
 fn run_slices<'a>(
     kernel: &[u8],
-    types: &[u8],
-    starts: &[u16],
-    counts: &[u16],
-    predicate_bits: &[u32],
-    predicate_counts: &[u8],
-    surface_lengths: &[u16],
+    tables: Tables<'_>,
     constants: Constants,
     surfaces: &'a [u8],
     surface_taint: &'a [u8],
@@ -40,8 +35,8 @@ fn run_slices<'a>(
     memory: &'a mut [u8],
     memory_taint: &'a mut [u8],
 ) -> Answer
-    ensures { let x = setup kernel.now (tables (variable_table types starts counts) (predicate_table predicate_bits predicate_counts) (surface_table surface_lengths)) constants in
-        outcome (answer_of result) (state registers.new register_taint.new surfaces.now surface_taint.now memory.new memory_taint.new) ≡ run x (state registers.old register_taint.old surfaces.now surface_taint.now memory.old memory_taint.old) }
+    ensures { outcome (answer_of result) (state registers.new register_taint.new surfaces.now surface_taint.now memory.new memory_taint.new)
+        ≡ run (setup kernel.now (tables_of tables.entry) constants) (state registers.old register_taint.old surfaces.now surface_taint.now memory.old memory_taint.old) }
 {
     let mut room = Room {
         registers,
@@ -51,45 +46,29 @@ fn run_slices<'a>(
         surfaces,
         surface_taint,
     };
-    run::run(
-        kernel,
-        types,
-        starts,
-        counts,
-        predicate_bits,
-        predicate_counts,
-        surface_lengths,
-        constants,
-        &mut room,
-    )
+    run::run(kernel, tables, constants, &mut room)
 }
 
 // A run without taint: the run over taint that is all zero.
 pub fn plain_run(
     kernel: &[u8],
-    types: &[u8],
-    starts: &[u16],
-    counts: &[u16],
-    predicate_bits: &[u32],
-    predicate_counts: &[u8],
-    surface_lengths: &[u16],
+    tables: Tables<'_>,
     constants: Constants,
     surfaces: &[u8],
     registers: &mut [u8],
     memory: &mut [u8],
 ) -> Answer
-    ensures { let x = setup kernel.now (tables (variable_table types starts counts) (predicate_table predicate_bits predicate_counts) (surface_table surface_lengths)) constants in
-        plain_outcome (answer_of result) registers.new memory.new ≡ without_marks (plain_run x registers.old surfaces.now memory.old) }
+    ensures { plain_outcome (answer_of result) registers.new memory.new
+        ≡ without_marks (plain_run (setup kernel.now (tables_of tables.entry) constants) registers.old surfaces.now memory.old) }
 {
     let register_count = registers.len();
     let surface_count = surfaces.len();
     let memory_count = memory.len();
     if too_long(register_count, surface_count, memory_count) {
         return Answer {
-            number: 13,
+            refusal: Some(Refusal::Tables),
             completed: 0,
             position: 0,
-            detail: Detail::None,
         };
     }
     let mut register_taint = [0u8; 4096];
@@ -97,12 +76,7 @@ pub fn plain_run(
     let mut memory_taint = [0u8; 4096];
     run_slices(
         kernel,
-        types,
-        starts,
-        counts,
-        predicate_bits,
-        predicate_counts,
-        surface_lengths,
+        tables,
         constants,
         surfaces,
         &surface_taint[..surface_count],

@@ -4,10 +4,15 @@ use Prim.Native.Nat.{ℕ, zero, suc, ◌+◌, ◌-◌, ◌≤◌, ◌<◌}
 use native.Mathlib.Omega.{arith}
 use native.Mathlib.Numerals.{add-one}
 use lib.ListN.{length}
-use borrow.Author.Tests.{lt-ltb, le-ltb}
+use borrow.Author.Tests.{lt-ltb, le-ltb, ltb-true}
+use Rattle.std.specs.Prelude.{Ok, Err}
 use Rattle.refusal.specs.declared.Detail.{Detail}
+use Rattle.refusal.specs.declared.Refusal.{Refusal}
+use Rattle.refusal.specs.Numbers.{number_of, detail_of}
+use Rattle.refusal.proofs.RuleLaws.{number_some}
 use Rattle.step.specs.State.{Setup, State}
 use Rattle.step.specs.Step.{step_at, after}
+use Rattle.step.specs.Borrowed.{Answers}
 use Rattle.step.proofs.Kept.{refused-step-keeps}
 use Rattle.run.specs.Run.{Outcome, stopped_with, stopped, run_from}
 use Rattle.run.proofs.Kept.{refused-stops}
@@ -32,15 +37,19 @@ module _ (x : Setup) where
     more : turns - k ≡ suc (turns - (k + 1))
     more = omega (arith, turn)
 
-    pub goes : (next : ℕ) (u : State) → (step_at x at s).effect.number ≡ 0 → next ≡ (step_at x at s).next → u ≡ after (step_at x at s).effect s
+    pub goes : (next : ℕ) (u : State) → Answers (Ok next) (step_at x at s) → u ≡ after (step_at x at s).effect s
         → rest (turns - k) completed at s ≡ rest (turns - (k + 1)) (completed + 1) next u
     unfolding run_from
-    goes next u done onward left = rw (more, lt-ltb at (length x.kernel) before, done, add-one completed, onward, left)
+    goes next u told left = rw (more, lt-ltb at (length x.kernel) before, ← told.number, add-one completed, told.next, left)
 
     -- a refusal ends the run, with the state as it was
-    pub stops : (n : ℕ) (d : Detail) (u : State) → 0 < n → n ≡ (step_at x at s).effect.number → d ≡ (step_at x at s).effect.detail → u ≡ after (step_at x at s).effect s
+    stopped-by : (n : ℕ) (d : Detail) (u : State) → 0 < n → n ≡ (step_at x at s).effect.number → d ≡ (step_at x at s).effect.detail → u ≡ after (step_at x at s).effect s
         → rest (turns - k) completed at s ≡ stopped_with n d completed at u
-    stops zero d u h is tells left = absurd (omega (arith, h))
-    stops (suc n) d u h is tells left =
+    stopped-by zero d u h is tells left = absurd (omega (arith, h))
+    stopped-by (suc n) d u h is tells left =
         let kept : u ≡ s = left ∙ refused-step-keeps x at s (λ z. absurd (omega (arith, is, z))) in
         rw (more, kept, tells) (refused-stops (step_at x) (length x.kernel) (turns - (k + 1)) completed at n s before (sym is))
+
+    pub stops : (r : Refusal) (u : State) → Answers (Err r) (step_at x at s) → u ≡ after (step_at x at s).effect s
+        → rest (turns - k) completed at s ≡ stopped_with (number_of r) (detail_of r) completed at u
+    stops r u told left = stopped-by (number_of r) (detail_of r) u (ltb-true 0 (number_of r) (number_some r)) told.number told.detail left

@@ -3,43 +3,50 @@
 #![tactic(auto)]
 
 ghost use Rattle.std.specs.Prelude.{◌≡◌};
-ghost use Rattle.tables.specs.Tables.{tables};
-ghost use Rattle.tables.specs.Borrowed.{variable_table};
-ghost use Rattle.predicate_table.specs.Borrowed.{predicate_table};
-ghost use Rattle.surface_table.specs.Borrowed.{surface_table};
+ghost use Rattle.tables.specs.Borrowed.{tables_of};
 ghost use Rattle.step.specs.State.{setup};
 ghost use Rattle.step.specs.Borrowed.{state_of, Goes};
-ghost use Rattle.run.specs.Answer.{answer_of};
+ghost use Rattle.run.specs.Answer.{answer_of, number_told, detail_told};
 ghost use Rattle.run.specs.Run.{outcome, run_through, run};
 
-use refusal::Detail;
 use lengths::{Lengths, TaintLengths};
+use refusal::{Detail, Refusal};
 use step::{Constants, Room};
+use tables::Tables;
 
-// What a run gives back: the number, how many instructions were completed, the byte position of the refused one or of the end, and what the
-// number tells.
+// What a run gives back: its refusal, if there is one, how many instructions were completed, and the byte position of the refused one or of the
+// end.
 #[derive(Clone, Copy)]
 pub struct Answer {
-    pub number: u8,
+    pub refusal: Option<Refusal>,
     pub completed: usize,
     pub position: usize,
-    pub detail: Detail,
+}
+
+impl Answer {
+    // The number that is given back: 0, or the refusal's.
+    pub fn number(self) -> u8
+        ensures { result ≡ number_told self.refusal }
+    {
+        self.refusal.map_or(0, Refusal::number)
+    }
+
+    // What goes with the number.
+    pub fn detail(self) -> Detail
+        ensures { result ≡ detail_told self.refusal }
+    {
+        self.refusal.map_or(Detail::None, Refusal::detail)
+    }
 }
 
 // The instructions in kernel order, up to the end or the first refusal; earlier instructions stand.
 fn run_kernel(
     kernel: &[u8],
-    types: &[u8],
-    starts: &[u16],
-    counts: &[u16],
-    predicate_bits: &[u32],
-    predicate_counts: &[u8],
-    surface_lengths: &[u16],
+    tables: Tables<'_>,
     constants: Constants,
     room: &mut Room<'_>,
 ) -> Answer
-    ensures outcome { let x = setup kernel.now (tables (variable_table types starts counts) (predicate_table predicate_bits predicate_counts) (surface_table surface_lengths)) constants in
-        outcome (answer_of result) (state_of room.new) ≡ run_through x (state_of room.old) }
+    ensures outcome { outcome (answer_of result) (state_of room.new) ≡ run_through (setup kernel.now (tables_of tables.entry) constants) (state_of room.old) }
     ensures room { Goes room.old room.new (state_of room.new) }
 {
     let mut completed = 0;
@@ -49,52 +56,30 @@ fn run_kernel(
         if at >= kernel.len() {
             break;
         }
-        let progress = step::step(
-            kernel,
-            types,
-            starts,
-            counts,
-            predicate_bits,
-            predicate_counts,
-            surface_lengths,
-            constants,
-            at,
-            room,
-        );
-        if 0 < progress.number {
-            let detail = progress.detail;
-            return Answer {
-                number: progress.number,
-                completed,
-                position: at,
-                detail,
-            };
+        match step::step(kernel, tables, constants, at, room) {
+            Ok(next) => {
+                completed += 1;
+                at = next;
+            }
+            Err(refusal) => {
+                return Answer {
+                    refusal: Some(refusal),
+                    completed,
+                    position: at,
+                };
+            }
         }
-        completed += 1;
-        at = progress.next;
     }
     Answer {
-        number: 0,
+        refusal: None,
         completed,
         position: at,
-        detail: Detail::None,
     }
 }
 
 // A run with taint. 13 comes first; then the instructions, one after the other.
-pub fn run(
-    kernel: &[u8],
-    types: &[u8],
-    starts: &[u16],
-    counts: &[u16],
-    predicate_bits: &[u32],
-    predicate_counts: &[u8],
-    surface_lengths: &[u16],
-    constants: Constants,
-    room: &mut Room<'_>,
-) -> Answer
-    ensures outcome { let x = setup kernel.now (tables (variable_table types starts counts) (predicate_table predicate_bits predicate_counts) (surface_table surface_lengths)) constants in
-        outcome (answer_of result) (state_of room.new) ≡ run x (state_of room.old) }
+pub fn run(kernel: &[u8], tables: Tables<'_>, constants: Constants, room: &mut Room<'_>) -> Answer
+    ensures outcome { outcome (answer_of result) (state_of room.new) ≡ run (setup kernel.now (tables_of tables.entry) constants) (state_of room.old) }
     ensures room { Goes room.old room.new (state_of room.new) }
 {
     let taint = TaintLengths {
@@ -111,32 +96,13 @@ pub fn run(
         register_size: constants.register_size,
         taint,
     };
-    if tables::tables_good(
-        lengths,
-        types,
-        starts,
-        counts,
-        predicate_bits,
-        predicate_counts,
-        surface_lengths,
-    ) {
-        run_kernel(
-            kernel,
-            types,
-            starts,
-            counts,
-            predicate_bits,
-            predicate_counts,
-            surface_lengths,
-            constants,
-            room,
-        )
+    if tables.good(lengths) {
+        run_kernel(kernel, tables, constants, room)
     } else {
         Answer {
-            number: 13,
+            refusal: Some(Refusal::Tables),
             completed: 0,
             position: 0,
-            detail: Detail::None,
         }
     }
 }

@@ -7,7 +7,7 @@ use Rattle.refusal.specs.declared.Refusal.{Refusal}
 use Rattle.refusal.specs.Numbers.{number_given, detail_given}
 use Rattle.cells.specs.Buffer.{Buffer}
 use Rattle.cells.specs.Writes.{written_all}
-use Rattle.cells.specs.Effect.{Effect, RegistersDone, MemoryDone}
+use Rattle.cells.specs.Effect.{Effect}
 use Rattle.plan.specs.declared.Plan as code
 use Rattle.plan.specs.declared.Operation.TheVariants as left
 use Rattle.plan.specs.Plan.{Plan}
@@ -54,33 +54,38 @@ module _ (k : Constants) (q : code.Plan) (s : State) (fits : Fits (plan_of q)) w
   fit : (o : Operation) → p.operation ≡ o → fits_for o p ≡ true
   fit o is = subst (λ (q : Operation). fits_for q p ≡ true) is (fits.when-accepted refl)
 
-  pub shl-performs : (r : Result (Unit {0}) Refusal) (b : Buffer) → q.operation ≡ left.Shl → RegistersDone (shl_guarded k.mask p s.registers) r s.registers b
+  pub shl-performs : (r : Result (Unit {0}) Refusal) (b : Buffer) → q.operation ≡ left.Shl → (number_given r ≡ (shl_guarded k.mask p s.registers).number) × (detail_given r ≡ (shl_guarded k.mask p s.registers).detail) → b ≡ written_all (shl_guarded k.mask p s.registers).registers s.registers
       → Performs r (record { registers = b; surfaces = s.surfaces; memory = s.memory })
   unfolding acted fits_for
-  shl-performs r b is made =
+  shl-performs r b is made written =
       let o : p.operation ≡ operation.Shl = ap operation_of is in
       let g = shl.guard-passes k.mask p s.registers (fit _ o) in
-      performs (shl_guarded k.mask p s.registers) r b s.memory (g ∙ sym (acts _ o)) made.0 made.1 made.2
+      performs (shl_guarded k.mask p s.registers) r b s.memory (g ∙ sym (acts _ o)) made.0 made.1 written
       (sym (unwritten _ _ (ap (λ (e : Effect). e.memory) g ∙ shl-spares-memory p (lanes_on k.mask p) s.registers)))
 
-  pub gather-performs : (r : Result (Unit {0}) Refusal) (b : Buffer) → q.operation ≡ left.Gather → RegistersDone (gather_guarded k.mask p s.registers s.surfaces) r s.registers b
+  pub gather-performs : (r : Result (Unit {0}) Refusal) (b : Buffer) → q.operation ≡ left.Gather → (number_given r ≡ (gather_guarded k.mask p s.registers s.surfaces).number) × (detail_given r ≡ (gather_guarded k.mask p s.registers s.surfaces).detail) → b ≡ written_all (gather_guarded k.mask p s.registers s.surfaces).registers s.registers
       → Performs r (record { registers = b; surfaces = s.surfaces; memory = s.memory })
   unfolding acted fits_for
-  gather-performs r b is made =
+  gather-performs r b is made written =
       let o : p.operation ≡ operation.Gather = ap operation_of is in
       let g = gather.guard-passes k.mask p s.registers s.surfaces (fit _ o) in
-      performs (gather_guarded k.mask p s.registers s.surfaces) r b s.memory (g ∙ sym (acts _ o)) made.0 made.1 made.2
+      performs (gather_guarded k.mask p s.registers s.surfaces) r b s.memory (g ∙ sym (acts _ o)) made.0 made.1 written
       (sym (unwritten _ _ (ap (λ (e : Effect). e.memory) g ∙ gather-spares-memory p (lanes_on k.mask p) s.registers s.surfaces)))
 
   abbrev window : Window
   window = record { base = k.base; length = length s.memory.bytes }
 
-  pub scatter-performs : (r : Result (Unit {0}) Refusal) (m : Buffer) → q.operation ≡ left.Scatter → MemoryDone (scatter_guarded window k.mask p s.registers) r s.memory m
+  -- the scatter's status and writes, by the registers that it saw
+  abbrev Scattered : Result (Unit {0}) Refusal → Buffer → Buffer → Type 0
+  Scattered r m b = (number_given r ≡ (scatter_guarded window k.mask p b).number) × (detail_given r ≡ (scatter_guarded window k.mask p b).detail) × (m ≡ written_all (scatter_guarded window k.mask p b).memory s.memory)
+
+  pub scatter-performs : (r : Result (Unit {0}) Refusal) (m b : Buffer) → b ≡ s.registers → q.operation ≡ left.Scatter → Scattered r m b
       → Performs r (record { registers = s.registers; surfaces = s.surfaces; memory = m })
   unfolding acted fits_for
-  scatter-performs r m is made =
+  scatter-performs r m b seen is made =
       let o : p.operation ≡ operation.Scatter = ap operation_of is in
       let g = scatter.guard-passes window k.mask p s.registers (fit _ o) in
-      performs (scatter_guarded window k.mask p s.registers) r s.registers m (g ∙ sym (acts _ o)) made.0 made.1
+      let done : Scattered r m s.registers = subst (Scattered r m) seen made in
+      performs (scatter_guarded window k.mask p s.registers) r s.registers m (g ∙ sym (acts _ o)) done.0 done.1
       (sym (unwritten _ _ (ap (λ (e : Effect). e.registers) g ∙ scatter-spares-registers window p (lanes_on k.mask p) s.registers)))
-      made.2
+      done.2

@@ -1,11 +1,9 @@
 -- What one step leaves: the answer and the state of the definition's step.
 use mathlib.Core.Path.{◌≡◌, refl, sym, ap, subst, ◌∙◌}
-use mathlib.Core.Bool.{true}
 use mathlib.Core.List.{[]}
-use Prim.Native.Nat.{ℕ, ◌≤◌, ◌<◌}
-use native.Mathlib.Omega.{arith}
+use Prim.Native.Nat.{ℕ}
 use borrow.Author.Tests.{ltb-true}
-use Rattle.std.specs.Prelude.{Result, Ok, Err}
+use Rattle.std.specs.Prelude.{Result, Ok, Err, IsErr, IsErrAnd}
 use Rattle.refusal.specs.declared.Detail.{Detail}
 use Rattle.refusal.specs.declared.Detail.TheVariants as detail
 use Rattle.refusal.specs.declared.Refusal.{Refusal}
@@ -21,6 +19,7 @@ use Rattle.decoder.proofs.RefusalNumbers.{refusal-at-most-four}
 use Rattle.plan.specs.declared.Plan as code
 use Rattle.plan.specs.Plan.{Plan}
 use Rattle.plan.specs.Planned.{plan_of, planned}
+use Rattle.plan.specs.Plans.{refused_plan}
 use Rattle.plan.specs.Checked.{checked}
 use Rattle.step.specs.State.{Setup, State, register_bytes}
 use Rattle.step.specs.Step.{plan_effect, Stepped, step_at, after}
@@ -33,6 +32,11 @@ use Rattle.step.proofs.SmallLaws.{small-tells-nothing}
 -- what the code answers of a step from this state, and the state that it leaves, are the step's
 abbrev pub Takes : State → Stepped → Result ℕ Refusal → State → Type 0
 Takes s t r u = Answers r t × (u ≡ after t.effect s)
+
+-- what `?` hands on
+pub handed_on : {A : Type 0} (r : Result A Refusal) (e : Refusal) → IsErr r → IsErrAnd r (λ x. x ≡ e) → r ≡ Err e
+handed_on (Ok v) e h k = absurd k
+handed_on (Err x) e h k = ap Err k
 
 module _ (x : Setup) (at : ℕ) (s : State) where
   stepped : (d : Reply (Read Instruction)) → instruction_at x.kernel at ≡ d
@@ -61,7 +65,7 @@ module _ (x : Setup) (at : ℕ) (s : State) where
           (ap (λ (p : Plan). record { next = c.at; effect = plan_effect x.constants p s }) plan ∙ stepped (reply (Ok (i, c))) (sym told ∙ ap reply is))
 
       pub refused-before : (r : Refusal) → w ≡ Err r → Takes s (step_at x at s) (Err r) s
-      unfolding plan_effect
+      unfolding plan_effect refused_plan
       refused-before r e =
           goes (Err r) s
           (subst (λ (f : Effect). Takes s (record { next = c.at; effect = f }) (Err r) s)

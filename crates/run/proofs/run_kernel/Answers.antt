@@ -3,15 +3,13 @@ use Rattle.std.proofs.Common.{refl, sym, ◌∙◌, arith}
 use Rattle.run.proofs.RunLaws.{ends, spent, goes, stops}
 use Rattle.run.proofs.run_kernel.Goals as goal
 
-pub returns-then-progress-gt0-clause-outcome : goal.returns-then-progress-gt0-clause-outcome
-returns-then-progress-gt0-clause-outcome c =
-    let told = c.step-progress.ensures.answer in
-    sym (stops _ _ _ _ _ _ c.turns-test.true c.if-at-kernel.false _ _ _ c.if-progress-gt0.true told.0 told.1 c.step-progress.ensures.room.leaves) ∙ c.turns.invariant.left
+pub returns-in-Err-clause-outcome : goal.returns-in-Err-clause-outcome
+returns-in-Err-clause-outcome c =
+    sym (stops _ _ _ _ _ _ c.turns-test.true c.if-at-kernel.false _ _ c.in-Err.ensures.answer c.in-Err.ensures.room.leaves) ∙ c.turns.invariant.left
 
 pub turns-preserved : goal.turns-preserved
 turns-preserved c =
-    let told = c.step-progress.ensures.answer in
-    let g = c.step-progress.ensures.room in
+    let g = c.in-Ok.ensures.room in
     let r = c.turns.invariant.references in
     record {
       references = record {
@@ -24,7 +22,7 @@ turns-preserved c =
         leaves = refl;
       };
       count = omega (arith, c.turns.invariant.count);
-      left = sym (goes _ _ _ _ _ _ c.turns-test.true c.if-at-kernel.false _ _ (omega (arith, told.0, c.if-progress-gt0.false)) told.2 g.leaves) ∙ c.turns.invariant.left;
+      left = sym (goes _ _ _ _ _ _ c.turns-test.true c.if-at-kernel.false _ _ c.in-Ok.ensures.answer g.leaves) ∙ c.turns.invariant.left;
     }
 
 pub returns-after-turns-clause-outcome : goal.returns-after-turns-clause-outcome

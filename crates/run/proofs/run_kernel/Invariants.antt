@@ -1,5 +1,5 @@
 use Rattle.std.proofs.Common.{◌≡◌, ◌-◌, length}
-use Rattle.tables.specs.Tables.{tables}
+use Rattle.tables.specs.Borrowed.{tables_of}
 use Rattle.step.specs.State.{Setup, setup}
 use Rattle.step.specs.Borrowed.{state_of, Goes}
 use Rattle.run.specs.Run.{run_through}
@@ -9,7 +9,7 @@ use Rattle.run.proofs.run_kernel.Given as goal
 -- what is left of the run comes to what the whole run comes to
 abbrev pub invariant-turns : goal.invariant-turns
 invariant-turns l =
-    let x : Setup = setup l.kernel (tables (record { types = l.types; starts = l.starts; counts = l.counts }) (record { bits = l.predicate_bits; counts = l.predicate_counts }) (record { lengths = l.surface_lengths })) l.constants in
+    let x : Setup = setup l.kernel (tables_of l.tables) l.constants in
     record {
       references : Goes l.fn.room l.room (state_of l.room);
       count : l.completed ≡ l._turn;
