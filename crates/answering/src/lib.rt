@@ -10,7 +10,7 @@ ghost use Rattle.tally.specs.Mirror.Verdicts.{number_of, position_of};
 ghost use Rattle.output.specs.Mirror.Page.{page, written};
 ghost use Rattle.output.specs.Output.{buffer_lines, output_bytes};
 ghost use Rattle.step.specs.Borrowed.{lent};
-ghost use Rattle.run.specs.Answer.{answer_of};
+ghost use Rattle.run.specs.Answer.{answer_of, number_told};
 ghost use Rattle.run.specs.Run.{outcome, run};
 ghost use Rattle.answering.specs.Mirror.Setting.{taint_of, setup_of};
 ghost use Rattle.answering.specs.Mirror.Forms.{outcome_text, refusal_text};
@@ -18,9 +18,11 @@ ghost use Rattle.answering.specs.Mirror.Puts.{Puts};
 ghost use Rattle.answering.specs.Mirror.Bench.{good_output, case_output};
 
 use line_blocks::first;
+use predicate_table::Predicates;
 use refusal::Detail;
 use run::Answer;
 use step::{Constants, Room};
+use tables::{Tables, Variables};
 use tally::{Case, Kind, TableViews, Unfit};
 
 // What is written of an answer: the 40 line and the buffers, or the verdict line.
@@ -69,6 +71,18 @@ fn run_case<'a>(
     };
     let variables = case.met(Kind::Variable);
     let predicates = case.met(Kind::Predicate);
+    let filled = Tables {
+        variables: Variables {
+            types: first(tables.types, variables),
+            starts: first(tables.starts, variables),
+            counts: first(tables.counts, variables),
+        },
+        predicates: Predicates {
+            bits: first(tables.predicate_bits, predicates),
+            counts: first(tables.predicate_counts, predicates),
+        },
+        surface_lengths: first(tables.surface_lengths, case.met(Kind::Surface)),
+    };
     let mut room = Room {
         registers,
         register_taint,
@@ -79,12 +93,7 @@ fn run_case<'a>(
     };
     run::run(
         first(kernel, case.length(Kind::Kernel)),
-        first(tables.types, variables),
-        first(tables.starts, variables),
-        first(tables.counts, variables),
-        first(tables.predicate_bits, predicates),
-        first(tables.predicate_counts, predicates),
-        first(tables.surface_lengths, case.met(Kind::Surface)),
+        filled,
         constants,
         &mut room,
     )
@@ -101,11 +110,11 @@ fn write_lines(
     memory_taint: &[u8],
 ) -> usize
     requires { (answer.completed ≤ 4096) × (answer.position ≤ 4096) }
-    ensures { page out.new result ≡ written (output_bytes answer.number answer.completed answer.position (buffer_lines base registers.now memory.now register_taint.now memory_taint.now)) (page out.old 0) }
+    ensures { page out.new result ≡ written (output_bytes (number_told answer.refusal) answer.completed answer.position (buffer_lines base registers.now memory.now register_taint.now memory_taint.now)) (page out.old 0) }
 {
     output::write(
         out,
-        answer.number,
+        answer.number(),
         answer.completed as u16,
         answer.position as u32,
         base,
@@ -153,16 +162,13 @@ fn run_and_write(
             register_taint,
             memory_taint,
         ),
-        Form::Verdict => {
-            let detail = answer.detail;
-            verdict_line::put_verdict(
-                out,
-                answer.number,
-                answer.completed,
-                answer.position,
-                detail,
-            )
-        }
+        Form::Verdict => verdict_line::put_verdict(
+            out,
+            answer.number(),
+            answer.completed,
+            answer.position,
+            answer.detail(),
+        ),
     }
 }
 

@@ -8,4 +8,4 @@ returns-in-Lines c =
 
 pub returns-in-Verdict : goal.returns-in-Verdict
 returns-in-Verdict c =
-    verdict-written _ _ _ _ _ _ _ _ _ _ _ _ _ _ c.run_case-answer.ensures.0 c.in-Verdict.is c.put_verdict.ensures
+    verdict-written _ _ _ _ _ _ _ _ _ _ _ _ _ _ c.run_case-answer.ensures.0 c.in-Verdict.is (rw (c.number.ensures, c.detail.ensures) at c.put_verdict.ensures)
