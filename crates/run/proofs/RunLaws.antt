@@ -7,10 +7,10 @@ use lib.ListN.{length}
 use borrow.Author.Tests.{lt-ltb, le-ltb, ltb-true}
 use Rattle.std.specs.Prelude.{Ok, Err}
 use Rattle.refusal.specs.declared.Detail.{Detail}
-use Rattle.refusal.specs.declared.Refusal.{Refusal}
 use Rattle.refusal.specs.Numbers.{number_of, detail_of}
 use Rattle.refusal.proofs.RuleLaws.{number_some}
 use Rattle.step.specs.State.{Setup, State}
+use Rattle.step.specs.declared.Stopped.{Stopped}
 use Rattle.step.specs.Step.{step_at, after}
 use Rattle.step.specs.Borrowed.{Answers}
 use Rattle.step.proofs.Kept.{refused-step-keeps}
@@ -50,6 +50,6 @@ module _ (x : Setup) where
         let kept : u ≡ s = left ∙ refused-step-keeps x at s (λ z. absurd (omega (arith, is, z))) in
         rw (more, kept, tells) (refused-stops (step_at x) (length x.kernel) (turns - (k + 1)) completed at n s before (sym is))
 
-    pub stops : (r : Refusal) (u : State) → Answers (Err r) (step_at x at s) → u ≡ after (step_at x at s).effect s
-        → rest (turns - k) completed at s ≡ stopped_with (number_of r) (detail_of r) completed at u
-    stops r u told left = stopped-by (number_of r) (detail_of r) u (ltb-true 0 (number_of r) (number_some r)) told.number told.detail left
+    pub stops : (e : Stopped) (u : State) → Answers (Err e) (step_at x at s) → u ≡ after (step_at x at s).effect s
+        → rest (turns - k) completed at s ≡ stopped_with (number_of e.refusal) (detail_of e.refusal) completed at u
+    stops e u told left = stopped-by (number_of e.refusal) (detail_of e.refusal) u (ltb-true 0 (number_of e.refusal) (number_some e.refusal)) told.number told.detail left

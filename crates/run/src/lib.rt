@@ -61,9 +61,9 @@ fn run_kernel(
                 completed += 1;
                 at = next;
             }
-            Err(refusal) => {
+            Err(stopped) => {
                 return Answer {
-                    refusal: Some(refusal),
+                    refusal: Some(stopped.refusal),
                     completed,
                     position: at,
                 };

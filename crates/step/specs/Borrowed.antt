@@ -1,11 +1,13 @@
 -- Words of contracts: the state behind the references that a function borrows, and what a step answers.
-use Rattle.std.specs.Prelude.{◌≡◌, ℕ, List, Result, IfOk}
+use Rattle.std.specs.Prelude.{◌≡◌, ℕ, List, Result, Ok, Err}
 use Rattle.std.specs.Borrow.{MutBor}
 use denote.Triple.Both.{Both}
-use Rattle.refusal.specs.declared.Refusal.{Refusal}
-use Rattle.refusal.specs.Numbers.{number_given, detail_given}
+use Rattle.refusal.specs.declared.Detail.{Detail}
+use Rattle.refusal.specs.declared.Detail.TheVariants as detail
+use Rattle.refusal.specs.Numbers.{number_of, detail_of}
 use Rattle.tables.specs.Borrowed.{Slice}
 use Rattle.step.specs.declared.Room.{Room}
+use Rattle.step.specs.declared.Stopped.{Stopped}
 use Rattle.step.specs.State.{State, state}
 use Rattle.step.specs.Step.{Stepped}
 
@@ -24,11 +26,23 @@ pub record Goes (old new : Room) (s : State) : Type 0 where
   pub surface_taint : new.surface_taint ≡ old.surface_taint
   pub leaves : state_of new ≡ s
 
--- the number with what it tells; and, of a step that is not refused, where the next one begins
-pub record Answers (result : Result ℕ Refusal) (t : Stepped) : Type 0 where
-  pub number : number_given result ≡ t.effect.number
-  pub detail : detail_given result ≡ t.effect.detail
-  pub next : IfOk result (λ next. next ≡ t.next)
+-- the number with what it tells, and where the next step begins, of a refused one too
+abbrev pub next_of : Result ℕ Stopped → ℕ
+next_of (Ok next) = next
+next_of (Err e) = e.next
+
+abbrev pub number_stopped : Result ℕ Stopped → ℕ
+number_stopped (Ok next) = 0
+number_stopped (Err e) = number_of e.refusal
+
+abbrev pub detail_stopped : Result ℕ Stopped → Detail
+detail_stopped (Ok next) = detail.None
+detail_stopped (Err e) = detail_of e.refusal
+
+pub record Answers (result : Result ℕ Stopped) (t : Stepped) : Type 0 where
+  pub number : number_stopped result ≡ t.effect.number
+  pub detail : detail_stopped result ≡ t.effect.detail
+  pub next : next_of result ≡ t.next
 
 -- a slice that a function may write, as an `ensures` names it
 abbrev pub MutSlice : Type 0

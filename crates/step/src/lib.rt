@@ -72,6 +72,13 @@ fn perform(room: &mut Room<'_>, constants: Constants, plan: Plan) -> Result<(), 
     }
 }
 
+// Why a step is refused, and where the next one would begin: behind the instruction, if it was decoded.
+#[derive(Clone, Copy)]
+pub struct Stopped {
+    pub refusal: Refusal,
+    pub next: usize,
+}
+
 // One instruction: decoded, tested, performed. The position behind it, or why it is refused, with nothing written.
 pub fn step(
     kernel: &[u8],
@@ -79,13 +86,22 @@ pub fn step(
     constants: Constants,
     at: usize,
     room: &mut Room<'_>,
-) -> Result<usize, Refusal>
+) -> Result<usize, Stopped>
     ensures answer { Answers result (step_at (setup kernel.now (tables_of tables.entry) constants) at (state_of room.old)) }
     ensures room { Goes room.old room.new (after (step_at (setup kernel.now (tables_of tables.entry) constants) at (state_of room.old)).effect (state_of room.old)) }
 {
-    let (instruction, cursor) = decoder::decode(kernel, at)?;
+    let (instruction, cursor) = match decoder::decode(kernel, at) {
+        Ok(decoded) => decoded,
+        Err(refusal) => return Err(Stopped { refusal, next: at }),
+    };
+    let next = cursor.at;
     let register_size = lengths::chosen_size(constants.register_size);
-    let plan = plan::check(register_size, tables, instruction)?;
-    perform(room, constants, plan)?;
-    Ok(cursor.at)
+    let plan = match plan::check(register_size, tables, instruction) {
+        Ok(plan) => plan,
+        Err(refusal) => return Err(Stopped { refusal, next }),
+    };
+    match perform(room, constants, plan) {
+        Ok(()) => Ok(next),
+        Err(refusal) => Err(Stopped { refusal, next }),
+    }
 }
