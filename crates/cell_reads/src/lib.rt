@@ -38,6 +38,7 @@ pub fn has_room(end: usize, at: usize, count: usize) -> bool
 }
 
 // Four bytes that are there: no test for each.
+// Elements of four bytes and of eight have functions of their own: no test for each byte, and no loop.
 fn four_at(bytes: &[u8], at: usize) -> u64
     requires { at + 4 ≤ length bytes.now }
     ensures { (result ≡ number_at 4 bytes.now at) × (result < 4294967296) }

@@ -28,6 +28,7 @@ fn ending_at(text: &[u8], cursor: Cursor, opening: u64, id: u64) -> Result<(u64,
     }
 }
 
+// Here and below `as`, proved to keep the number: a `try_from` would have an Err that no value reaches.
 fn predicate_word(opening: u64, id: u64, end: u64) -> u16
     requires { (1 ≤ opening) × (opening < 3) × (id ≤ 4095) × (end < 3) }
     ensures { result ≡ (opening - 1) * 32768 + (end + 1) % 3 * 8192 + id }

@@ -167,6 +167,7 @@ pub fn decode(kernel: &[u8], at: usize) -> Result<(Instruction, Cursor), Refusal
 }
 
 // The number that decoding at a position gives back: 0, or the refusal's.
+// A number: the clause gives that of `instruction_at`. `decode` answers the Result.
 #[tactic(auto, unfolding(reader::specs::Reply::number_of))]
 pub fn decode_number(kernel: &[u8], at: usize) -> u8
     ensures { result ≡ number_of (instruction_at kernel.now at) }
@@ -178,6 +179,7 @@ pub fn decode_number(kernel: &[u8], at: usize) -> u8
 }
 
 // The instruction's own bytes, as a part of the kernel; an empty part on a refusal.
+// No Option: `own_bytes` of specs/ is [] on a refusal.
 #[tactic(auto, unfolding(crate::specs::Decoding::own_bytes))]
 pub fn own_bytes(kernel: &[u8], at: usize) -> &[u8]
     ensures { result.now ≡ own_bytes kernel.now at }

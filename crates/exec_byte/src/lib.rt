@@ -8,6 +8,7 @@ ghost use Rattle.std.specs.Prelude.{◌≡◌};
 ghost use Rattle.exec_byte.specs.Exec.{exec_of};
 
 // The parts of an exec byte: whether it is reserved, ExecSize, the offset, and whether NM is chosen.
+// A flag and no Option: `exec_of` gives the size and the offset of a reserved byte too, 0.
 #[derive(Clone, Copy)]
 pub struct Exec {
     pub reserved: bool,
@@ -17,6 +18,7 @@ pub struct Exec {
 }
 
 // What the exec byte means; decoder, encoder, texts and runs ask it here, and nothing else looks at its bits.
+// `as`, proved to keep the number: a `try_from` would have an Err that no value reaches.
 pub fn split(exec: u8) -> Exec
     ensures { result ≡ exec_of exec }
 {

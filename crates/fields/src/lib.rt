@@ -45,6 +45,7 @@ pub enum WordRule {
 }
 
 // The classes of an operand.
+// Numbers and no enum: three bits may be any class, and `tag_of` and `class_good` are over all of them.
 pub const GENERAL: u8 = 0;
 
 pub const IMMEDIATE: u8 = 5;

@@ -11,6 +11,7 @@ ghost use Rattle.formats.specs.Mirror.Scan.{common, word_of, in_word, alike_at, 
 ghost use Rattle.formats.specs.Mirror.Digits.{value_of, goes_on, more_digits, begins};
 
 // A position in a text; it may lie past the end.
+// The text stands beside it: a cursor is a position, handed on by value. Not `reader::Cursor`, which reads kernels and refuses with a `Refusal`.
 #[derive(Clone, Copy)]
 pub struct Cursor {
     pub at: usize,
@@ -111,6 +112,7 @@ fn with_word(best: Best, n: usize, full: bool, word: u64) -> Best
 
 impl Cursor {
     // One word of a table; its number is how many words stand before it.
+    // A number and no enum: the table is the caller's, and `one_of` of specs/ tells which word by how many stand before it.
     #[tactic(auto, using(crate::proofs::ScanLaws::word_turns))]
     pub fn one_of(self, text: &[u8], table: &[u8]) -> Result<(u64, Cursor), Stop>
         ensures { told result ≡ (one_of (words table.now)).read text.now self.at }
@@ -183,6 +185,7 @@ pub fn radix(base: Base) -> u64
 }
 
 // The value of a digit; 16 for any other character.
+// 16 and no Option, as in `value_of`: no base has such a digit.
 #[tactic(auto, unfolding(crate::specs::Mirror::Digits::value_of, hex_text::specs::Digits::is_decimal, hex_text::specs::Digits::is_letter))]
 fn value(character: u8) -> u64
     ensures { result ≡ value_of character }

@@ -10,6 +10,7 @@ ghost use Rattle.frames.specs.Mirror.Frames.{line_read};
 use tally::{Case, ContentBuffers, Kind, TableBuffers};
 
 // One line's characters. After the first bad line nothing counts.
+// Two structs side by side: from structs within a struct whoever lent the slices would not get them back.
 #[tactic(auto, unfolding(crate::specs::Mirror::Frames::line_read, crate::specs::Mirror::Frames::frame_read))]
 pub fn take_line(
     line: &[u8],

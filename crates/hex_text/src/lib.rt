@@ -30,6 +30,7 @@ fn is_digit(character: u8) -> bool
 }
 
 // The value of a digit; 0 for any other character.
+// 0 and no Option, as in `digit_of`: `hex_bytes`, and so every clause over a line, has a byte for any two characters.
 #[tactic(auto, unfolding(crate::specs::Digits::digit_of, crate::specs::Digits::is_decimal, crate::specs::Digits::is_letter))]
 fn digit(character: u8) -> u8
     ensures { result ≡ digit_of character }
@@ -100,6 +101,8 @@ fn bytes_at<const N: usize>(line: &[u8], at: usize) -> [u8; N]
 }
 
 // The number of two bytes (uw) from byte `at` on.
+// Three and no generic one: `from_le_bytes` takes an array of the type's own length, and no const argument is computed from a type.
+// They share `bytes_at`. `as`: there is no `usize::from` of a `u32`.
 #[tactic(auto, using(crate::proofs::ByteLaws::le_number_2))]
 pub fn word(line: &[u8], at: u32) -> u16
     ensures { result ≡ number_at 2 (hex_bytes line.now) at }

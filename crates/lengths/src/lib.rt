@@ -56,6 +56,7 @@ fn addresses_good(base: u64, bytes: usize) -> bool
     if bytes == 0 {
         return true;
     }
+    // `as`: there is no `u64::from` of a `usize`
     let last = (bytes - 1) as u64;
     last <= u64::MAX - base
 }

@@ -22,6 +22,7 @@ fn scale_at(text: &[u8], cursor: Cursor, size: u64) -> Result<(u64, Cursor), Sto
 }
 
 // Block_size and Scale.
+// Here and below `as`, proved to keep the number: a `try_from` would have an Err that no value reaches.
 #[tactic(auto, using(crate::proofs::BoundLaws::gather_bounds), unfolding(crate::specs::Mirror::Braces::gather_braces, crate::specs::Mirror::Braces::size_and_scale, formats::specs::Format::pair, formats::specs::Format::through, formats::specs::Format::blank))]
 pub fn gather_braces_at(text: &[u8], cursor: Cursor) -> Result<((u8, u16), Cursor), Stop>
     ensures { told result ≡ gather_braces.read text.now cursor.at }

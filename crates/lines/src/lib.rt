@@ -83,6 +83,7 @@ fn scatter_at(text: &[u8], cursor: Cursor, pred: u16) -> Result<(Instruction, Cu
     let (scale, cursor) = line_parts::scatter_braces_at(text, cursor)?;
     let scatter = Scatter {
         control: Control { exec, pred },
+        // `as`, proved to keep the number: a `try_from` would have an Err that no value reaches.
         channels: (letters + 1) as u8,
         scale,
         address,
@@ -119,6 +120,7 @@ fn raw_send_at(text: &[u8], cursor: Cursor, pred: u16) -> Result<(Instruction, C
 fn body_at(text: &[u8], cursor: Cursor, pred: u16, name: u64) -> Result<(Instruction, Cursor), Stop>
     ensures { told result ≡ (body pred name).read text.now cursor.at }
 {
+    // by the name's number, as `body` is
     match name {
         0 => shl_at(text, cursor, pred),
         1 => gather_at(text, cursor, pred),

@@ -57,6 +57,7 @@ fn put_register_size(line: &[u8], case: Case) -> Case
 }
 
 // A frame that begins with a byte, of a kind that may come once.
+// By the byte: `once_read` answers for any, and one that is no kind makes a bad line.
 #[tactic(auto, unfolding(crate::specs::Mirror::Once::once_read))]
 pub fn take_once(line: &[u8], code: u8, contents: &mut ContentBuffers<'_>, case: Case) -> Case
     ensures frame { once result (contents_of contents.new) ≡ once_read code (hex_bytes line.now) (once case (contents_of contents.old)) }

@@ -12,6 +12,7 @@ use formats::{Cursor, Stop};
 use operand_fields::{General, Operand};
 
 // Where an operand stands: it says how its region is written.
+// Two and not `region_rules`' three: a scalar's region is written as a source's.
 #[derive(Clone, Copy)]
 enum Role {
     Source,
@@ -19,6 +20,7 @@ enum Role {
 }
 
 // The region's word of three codes.
+// Here and below `as`, proved to keep the number: a `try_from` would have an Err that no value reaches.
 fn region_word(v: u64, w: u64, h: u64) -> u16
     requires { (v < 8) × (w < 8) × (h < 8) }
     ensures { result ≡ v + 16 * w + 256 * h }

@@ -132,6 +132,7 @@ impl Tests<'_> {
     }
 }
 
+// That the tests are of this control is a fact and no type: each instruction holds its own, as `checked_shl` and the like read it.
 #[tactic(auto, unfolding(crate::specs::Checked::checked_shl, crate::specs::Checked::shl_dst, crate::specs::Checked::shl_src0, crate::specs::Checked::shl_src1, crate::specs::Plans::tested, crate::specs::Plans::shl_plan))]
 fn check_shl(tests: Tests<'_>, instruction: Shl) -> Result<Plan, Refusal>
     requires { tests.control ≡ instruction.control }
@@ -168,6 +169,7 @@ fn check_gather(
     let payload = tests.raw(3, TypeRule::Dword, needed, instruction.destination)?;
     Ok(Plan {
         bytes: payloads::block_bytes(instruction.access.num_blocks),
+        // `as`: the number is small (`start_small`), and a `try_from` would have an Err that no value reaches
         start: surface_table::surface_start(surface_lengths, surface) as u32,
         length: u32::from(surface_table::surface_length(surface_lengths, surface)),
         ..tests.plan(Operation::Gather, left, right, payload)

@@ -19,6 +19,8 @@ pub fn predicate_id(pred: u16) -> u16
     pred % 4096
 }
 
+// A code and no enum: `predicate_combine` of specs/ gives the number of every word, 3 among them, which `predicate_reserved` refuses.
+// `as`, proved to keep the number: a `try_from` would have an Err that no value reaches.
 #[tactic(auto, unfolding(crate::specs::Predicate::predicate_combine, bits::specs::Bits::bit_field))]
 pub fn predicate_combine(pred: u16) -> u8
     ensures { result ≡ predicate_combine pred }

@@ -10,6 +10,7 @@ ghost use Rattle.reader.specs.Reading.{whole_at, stored_at};
 use refusal::Refusal;
 
 // A position in the kernel; it may lie past the end.
+// The kernel stands beside it and not in it: a cursor is a position, handed on by value.
 #[derive(Clone, Copy)]
 pub struct Cursor {
     pub at: usize,

@@ -9,6 +9,7 @@ ghost use Rattle.refusal.specs.Details.{operand_detail};
 ghost use Rattle.refusal.specs.Numbers.{rule_number, operand_number, number_of, detail_of};
 
 // An operand by its place in field order, from 1; a pair by channel and lane.
+// `None` is a variant, and no Option stands around: `detail_of`, `operand_detail` and `values_of` give a Detail of every refusal.
 #[derive(Clone, Copy)]
 pub enum Detail {
     None,

@@ -22,6 +22,7 @@ pub enum Role {
 }
 
 // The stride of a code; Null is 0 too.
+// 0 for Null and for a code that is none, as `stride_of` of specs/ has it: a row or a lane then takes no step.
 #[tactic(auto, unfolding(crate::specs::RegionWord::stride_of))]
 pub fn stride_of(code: u16) -> u8
     ensures { result ≡ stride_of code }

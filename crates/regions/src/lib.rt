@@ -122,6 +122,7 @@ fn two_registers(register_size: u8, first: u64, end: u64) -> bool
 }
 
 // Whether the elements of all lanes lie in their variable and in two adjacent registers.
+// Size of a register, role, operand and variable one by one, as the definitions `elements_good` and `element_of` take them.
 pub fn elements_good(
     register_size: u8,
     role: Role,

@@ -13,6 +13,7 @@ pub enum Place {
 }
 
 // The sum of the two may be too large for a usize.
+// `reader::whole` and `cell_reads::has_room` are alike: this crate stands on no other, and one line is no reason to.
 #[tactic(auto, unfolding(crate::specs::Show::is_inside))]
 fn inside(bytes: &[u8], start: usize, count: usize) -> bool
     ensures { result ≡ is_inside bytes.now start count }
@@ -43,6 +44,7 @@ fn asked<'a>(registers: &'a [u8], memory: &'a [u8], which: Place) -> &'a [u8]
 }
 
 // A part of the registers or of the memory; an empty part where it runs over the end.
+// A part and, beside it, a number, and no Result: `shown` gives an empty part and `shown_number` 7.
 #[tactic(auto, unfolding(crate::specs::Show::shown))]
 pub fn show<'a>(
     registers: &'a [u8],

@@ -34,6 +34,7 @@ fn every_surface_good(surfaces: &[u16]) -> bool
 }
 
 // Whether the table and the length of the surface buffer keep the sizes.
+// `as`: the number is 8 at most, and a `try_from` would have an Err that no value reaches.
 #[tactic(auto, unfolding(crate::specs::Surfaces::surfaces_good))]
 pub fn surfaces_good(bytes: usize, surfaces: &[u16]) -> bool
     ensures { result ≡ surfaces_good bytes (surface_table surfaces) }

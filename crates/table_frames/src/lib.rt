@@ -11,6 +11,7 @@ use tally::{Case, Kind};
 // The elements of a predicate whose frame has no count byte.
 const OLD_COUNT: u8 = 32;
 
+// The slices one by one and no TableBuffers: each contract would owe besides that the other tables stay.
 #[tactic(auto, unfolding(crate::specs::Mirror::Repeated::variable_read))]
 pub fn put_variable(
     line: &[u8],
@@ -85,6 +86,7 @@ pub fn put_surface(line: &[u8], bytes: &mut [u8], lengths: &mut [u16], case: Cas
     if !hex_text::store(line, 1, bytes, at) {
         return case.good_line(false);
     }
+    // `as`: the number is 1,024 at most, and a `try_from` would have an Err that no value reaches
     lengths[place] = size as u16;
     case.good_line(true)
         .with_met(Kind::Surface, place + 1)

@@ -104,6 +104,7 @@ pub struct ContentBuffers<'a> {
 
 // Those of the frames that repeat: types, start bytes and element counts of the variables; bits and element counts of the predicates; the bytes of
 // all surfaces, one after the other, and the length of each.
+// Slice beside slice and no records: a run whose slices differ in length answers 13 (`variables_good`, `predicates_good`).
 #[derive(Drop)]
 pub struct TableBuffers<'a> {
     pub types: &'a mut [u8],
@@ -116,6 +117,7 @@ pub struct TableBuffers<'a> {
 }
 
 // The same tables, lent to be read.
+// A struct of its own: a field's reference is either `&` or `&mut`.
 #[derive(Clone, Copy)]
 pub struct TableViews<'a> {
     pub types: &'a [u8],
@@ -210,6 +212,8 @@ impl Case {
     }
 
     // How many frames with this byte were met; none if it has no place.
+    // Those that end in `_at` are by any byte, as `met_of`, `length_of`, `counted`, `sized` and `taint_length` are: their clauses hold of bytes that are no
+    // kind. `met` and `length` differ in their array alone; a choice of it would be no shorter.
     #[tactic(auto, unfolding(crate::specs::Mirror::Lines::met_of))]
     pub fn met_at(self, code: u8) -> usize
         ensures { result ≡ met_of code self }

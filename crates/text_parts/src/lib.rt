@@ -39,6 +39,7 @@ pub fn hexadecimal_at(
     formats::ended(cursor.number(text, Base::Hexadecimal, 0, high), text, end)
 }
 
+// Here and below `as`, proved to keep the number: a `try_from` would have an Err that no value reaches.
 #[tactic(auto, using(crate::proofs::BoundLaws::raw_bounds), unfolding(crate::specs::Mirror::Raw::raw, crate::specs::Mirror::Raw::raw_parts, formats::specs::Words::before, formats::specs::Format::pair, formats::specs::Format::through))]
 pub fn raw_at(text: &[u8], cursor: Cursor) -> Result<(Raw, Cursor), Stop>
     ensures { told result ≡ raw.read text.now cursor.at }
