@@ -29,11 +29,6 @@ use Rattle.gather.specs.Mirror.Guarded.{gather_fits, gather_guarded}
 use Rattle.gather.specs.Mirror.FromRoom.{shape_of, room_lane}
 use Rattle.gather.proofs.RoomLaws.{room-lane-is}
 
--- the test as code asks it
-pub fits_told : (p : Plan) (exec : Exec) (l r : Bool) → exec ≡ exec_of p.control.exec → l ≡ elements_fit 4 p.left exec.size → r ≡ elements_fit 4 p.right exec.size → (l && r) ≡ gather_fits p
-unfolding gather_fits
-fits_told p exec l r e f g = rw (f, g, e)
-
 module _ (mask : ℕ) (p : Plan) (b surfaces : Buffer) where
   pub guard-refuses : gather_fits p ≡ false → gather_guarded mask p b surfaces ≡ refused 7 detail.None
   unfolding gather_guarded

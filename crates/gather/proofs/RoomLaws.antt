@@ -21,16 +21,6 @@ use Rattle.gather.specs.Mirror.FromRoom.{shape_of, room_address, bytes_read, dwo
 use Rattle.gather.proofs.CountLaws.{count_small, read_below}
 use Rattle.gather.proofs.DwordLaws.{dword-is}
 
--- the shape, as code makes it
-pub shape-told : (p : Plan) (exec : Exec) (layout : Layout) → exec ≡ exec_of p.control.exec → layout ≡ layout_of p.left p.right exec.size → record { layout = layout; start = p.start; length = p.length; block = p.bytes } ≡ shape_of p
-shape-told p exec layout e l = rw (l, e)
-
--- what the calls for a lane that is on answered is what it writes
-module _ (room surfaces : Buffer) (s : Shape) (at lane : ℕ) (on : Bool) where
-  pub lane-gathered : (address count : ℕ) (doubtful : Bool) (b b' : lent.Buffer) → Becomes b b' (written_all (dword_writes surfaces (s.start + address) count doubtful at) (held b)) → on ≡ true → doubtful ≡ either_staged room.taint s.layout lane → address ≡ room_address room.bytes s.layout lane → count ≡ bytes_read s address → Becomes b b' (written_all (cond on (room_writes room surfaces s at lane) []) (held b))
-  unfolding room_writes
-  lane-gathered address count doubtful b b' made taken d a n = rw (taken, ← d, ← a, ← n) made
-
 module _ (p : Plan) (fit : gather_fits p ≡ true) where
   abbrev lanes : ℕ
   lanes = exec_size p.control.exec

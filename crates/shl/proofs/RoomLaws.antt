@@ -21,11 +21,6 @@ use Rattle.shl_effect.specs.Shl.{shl_value, shl_mark, shl_lane}
 use Rattle.shl.specs.Mirror.FromRoom.{shape_of, room_value, room_writes, room_lane}
 use Rattle.shl.specs.Mirror.Guarded.{shl_fits}
 
--- the test as code asks it
-pub fits_told : (p : Plan) (exec : Exec) (l r : Bool) → exec ≡ exec_of p.control.exec → l ≡ elements_fit 4 p.left exec.size → r ≡ elements_fit 4 p.right exec.size → (l && r && leb p.payload.size 4) ≡ shl_fits p
-unfolding shl_fits
-fits_told p exec l r e f g = rw (f, g, e)
-
 module _ (p : Plan) (fit : shl_fits p ≡ true) where
   parts : (elements_fit 4 p.left (exec_size p.control.exec) ≡ true) × (elements_fit 4 p.right (exec_size p.control.exec) ≡ true) × (leb p.payload.size 4 ≡ true)
   unfolding shl_fits
