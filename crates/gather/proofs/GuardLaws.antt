@@ -1,5 +1,5 @@
 -- A plan that does not fit writes nothing, and one that fits has the effect of its definition.
-use Rattle.std.proofs.Common.{◌≡◌, ℕ, Bool, true, false, not, ◌&&◌, sym, refl, ap, ◌∙◌}
+use Rattle.std.proofs.Common.{◌≡◌, ℕ, Bool, true, false, not, sym, refl, ap, ◌∙◌}
 use borrow.Author.Tests.{not-true, not-false}
 use Rattle.little_endian.specs.LittleEndian.{Bytes}
 use Rattle.cells.specs.declared.Buffer as lent
@@ -13,14 +13,13 @@ use Rattle.refusal.specs.declared.Refusal.TheVariants as refusal
 use Rattle.cells.specs.Effect.{refused, RegistersDone}
 use Rattle.cells.proofs.EffectLaws.{unless-refused, unless-passed, registers-refused}
 use Rattle.cells.proofs.LaneLaws.{lanes-alike}
-use Rattle.exec_byte.specs.Exec.{exec_size, exec_of}
+use Rattle.exec_byte.specs.Exec.{exec_size}
 use Rattle.channels.specs.Lanes.{lane_on}
-use Rattle.exec_byte.specs.declared.Exec.{Exec}
 use Rattle.channels.specs.declared.Lanes.{Lanes}
 use Rattle.channels.specs.Mirror.Prepared.{lanes_of, is_on}
 use Rattle.plan.specs.Plan.{Plan}
 use Rattle.staging.specs.Lanes.{lanes_on}
-use Rattle.staging.specs.Mirror.Room.{elements_fit, both_staged}
+use Rattle.staging.specs.Mirror.Room.{both_staged}
 use Rattle.staging.proofs.LanesOnLaws.{lanes-on-are, prepared-lanes-are}
 use Rattle.gather.specs.declared.Shape.{Shape}
 use Rattle.gather_effect.specs.Gather.{gather_lane, gather_effect}

@@ -1,14 +1,9 @@
 -- Where the offsets fit, the room holds them as the registers had them: what a lane writes by the room is what the definition says.
-use Rattle.std.proofs.Common.{◌≡◌, ℕ, ◌+◌, ◌<◌, ◌≤◌, Bool, true, cond, [], get_or, arith}
+use Rattle.std.proofs.Common.{◌≡◌, ℕ, ◌<◌, ◌≤◌, true, get_or, arith}
 use Rattle.little_endian.specs.LittleEndian.{Bytes}
-use Rattle.cells.specs.declared.Buffer as lent
 use Rattle.cells.specs.Buffer.{Buffer}
-use Rattle.cells.specs.Lent.{held, Becomes}
-use Rattle.cells.specs.Writes.{written_all}
-use Rattle.exec_byte.specs.Exec.{exec_size, exec_of}
-use Rattle.exec_byte.specs.declared.Exec.{Exec}
+use Rattle.exec_byte.specs.Exec.{exec_size}
 use Rattle.plan.specs.Plan.{Plan}
-use Rattle.staging.specs.declared.Layout.{Layout}
 use Rattle.staging.specs.Sources.{element_value, either_tainted}
 use Rattle.staging.specs.Mirror.Room.{layout_of, elements_fit, both_staged, either_staged}
 use Rattle.cells.proofs.BoolLaws.{both_true}
@@ -17,7 +12,7 @@ use Rattle.staging.proofs.RoomLaws.{both_first, both-second, both-either}
 use Rattle.gather.specs.declared.Shape.{Shape}
 use Rattle.gather_effect.specs.Gather.{gather_address, gather_lane}
 use Rattle.gather.specs.Mirror.Guarded.{gather_fits}
-use Rattle.gather.specs.Mirror.FromRoom.{shape_of, room_address, bytes_read, dword_writes, room_writes, room_lane}
+use Rattle.gather.specs.Mirror.FromRoom.{shape_of, room_address, bytes_read, room_writes, room_lane}
 use Rattle.gather.proofs.CountLaws.{count_small, read_below}
 use Rattle.gather.proofs.DwordLaws.{dword-is}
 

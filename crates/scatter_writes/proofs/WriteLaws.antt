@@ -1,19 +1,16 @@
 -- Where the loops that write begin, in the words of `Writes`; and where a channel's data begin.
-use Prim.Native.Nat.{ℕ, ◌+◌, ◌*◌, ◌-◌, ◌<◌}
+use Prim.Native.Nat.{ℕ, ◌+◌, ◌*◌, ◌-◌}
 use mathlib.Core.Path.{◌≡◌, ap}
-use mathlib.Core.Bool.{Bool, true, false, cond}
-use mathlib.Core.List.{List, []}
+use mathlib.Core.Bool.{Bool, false}
+use mathlib.Core.List.{List}
 use lib.ListN.{get_or}
-use Rattle.cells.specs.declared.Buffer as lent
 use Rattle.cells.specs.Buffer.{Buffer}
-use Rattle.cells.specs.Lent.{held, Becomes}
-use Rattle.cells.specs.Writes.{Write, written_all, copy_writes}
 use Rattle.cells.specs.Over.{among_from, each}
 use Rattle.cells.proofs.AmongLaws.{among-begun}
 use Rattle.bits.specs.Bits.{bit}
 use Rattle.payloads.specs.Needed.{enabled_below}
 use Rattle.scatter_pairs.specs.declared.Pairs.{Pairs}
-use Rattle.scatter_pairs.specs.Mirror.Search.{enabled_lanes, target_from}
+use Rattle.scatter_pairs.specs.Mirror.Search.{enabled_lanes}
 use Rattle.scatter_writes.specs.Mirror.Writes.{row_place, pair_writes, row_writes, all_writes}
 
 module _ (base : ℕ) (room : Buffer) where

@@ -1,15 +1,14 @@
 -- A lane worked out from the room, where both sources are staged and fit, is the lane worked out from the registers.
 use Prim.Native.Nat.{ℕ, ◌≤◌, ◌<◌}
 use mathlib.Core.Path.{◌≡◌, ap, ap₂}
-use mathlib.Core.Bool.{Bool, true, ◌&&◌}
+use mathlib.Core.Bool.{true}
 use native.Mathlib.Omega.{arith}
 use lib.Dec.{leb}
 use lib.ListN.{get_or}
 use borrow.Author.Tests.{leb-true}
 use Rattle.cells.specs.Buffer.{Buffer, mark_of}
 use Rattle.cells.specs.Writes.{number_writes}
-use Rattle.exec_byte.specs.Exec.{exec_size, exec_of}
-use Rattle.exec_byte.specs.declared.Exec.{Exec}
+use Rattle.exec_byte.specs.Exec.{exec_size}
 use Rattle.shift.proofs.ShiftLaws.{total-is}
 use Rattle.plan.specs.Plan.{Plan}
 use Rattle.staging.specs.Sources.{element_value}
