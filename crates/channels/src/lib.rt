@@ -31,6 +31,7 @@ pub struct Lanes {
 }
 
 // Bit n of a word, 0 past its end.
+#[tactic(auto, using(crate::proofs::BitLaws::bit_past), unfolding(bits::specs::Bits::bit))]
 pub fn bit_at(word: u32, n: usize) -> bool
     ensures { result ≡ bit word n }
 {
@@ -41,15 +42,16 @@ pub fn bit_at(word: u32, n: usize) -> bool
 fn some_bit(bits: u32, exec: Exec, value: bool) -> bool
     ensures { result ≡ some_below exec.size (λ (k : ℕ). beq (bit bits (k + exec.offset)) value) }
 {
-    let size = exec.size as usize;
-    let offset = exec.offset as usize;
+    let offset = usize::from(exec.offset);
+    // `any` over the range was tried: that proof didn't close.
     let mut found = false;
-    for k in 0..size {
+    for k in 0..usize::from(exec.size) {
         found |= bit_at(bits, k + offset) == value;
     }
     found
 }
 
+#[tactic(auto, unfolding(crate::specs::Lanes::inverted))]
 fn invert(inverse: bool, value: bool) -> bool
     ensures { result ≡ inverted inverse value }
 {
@@ -57,18 +59,18 @@ fn invert(inverse: bool, value: bool) -> bool
 }
 
 // Any and all, worked out: some bit is 1, no bit is 0.
+#[tactic(auto, unfolding(crate::specs::Mirror::Prepared::combined_predicate))]
 fn combine(exec: Exec, code: u8, inverse: bool, bits: u32) -> Predicate
     ensures { result ≡ combined_predicate exec code inverse bits }
 {
-    if code == ANY {
-        return Predicate::Uniform(invert(inverse, some_bit(bits, exec, true)));
+    match code {
+        ANY => Predicate::Uniform(invert(inverse, some_bit(bits, exec, true))),
+        ALL => Predicate::Uniform(invert(inverse, !some_bit(bits, exec, false))),
+        _ => Predicate::PerLane(bits, inverse),
     }
-    if code == ALL {
-        return Predicate::Uniform(invert(inverse, !some_bit(bits, exec, false)));
-    }
-    Predicate::PerLane(bits, inverse)
 }
 
+#[tactic(auto, unfolding(crate::specs::Mirror::Prepared::predicate_of))]
 fn predicate_of(exec: Exec, pred: u16, bits: u32) -> Predicate
     ensures { result ≡ predicate_of exec pred bits }
 {
@@ -85,6 +87,7 @@ fn predicate_of(exec: Exec, pred: u16, bits: u32) -> Predicate
 }
 
 // `bits` are those of the predicate that the pred word names; without one they do not matter.
+#[tactic(auto, unfolding(crate::specs::Mirror::Prepared::lanes_of))]
 pub fn lanes_of(exec: u8, pred: u16, mask: u32, bits: u32) -> Lanes
     ensures { result ≡ lanes_of exec pred mask bits }
 {
@@ -96,6 +99,7 @@ pub fn lanes_of(exec: u8, pred: u16, mask: u32, bits: u32) -> Lanes
     }
 }
 
+#[tactic(auto, unfolding(crate::specs::Mirror::Prepared::agrees_at))]
 fn agrees_at(predicate: Predicate, place: usize) -> bool
     ensures { result ≡ agrees_at predicate place }
 {
@@ -107,20 +111,14 @@ fn agrees_at(predicate: Predicate, place: usize) -> bool
 
 impl Lanes {
     // Whether a lane is on; one at or past the size is not.
+    #[tactic(auto, unfolding(crate::specs::Mirror::Prepared::is_on))]
     pub fn on(self, lane: usize) -> bool
         ensures { result ≡ is_on self lane }
     {
-        let size = self.exec.size as usize;
-        let offset = self.exec.offset as usize;
-        let predicate = self.predicate;
-        if lane < size {
-            let place = lane + offset;
-            if self.exec.unmasked {
-                return agrees_at(predicate, place);
-            }
-            bit_at(self.mask, place) & agrees_at(predicate, place)
-        } else {
-            false
+        if lane >= usize::from(self.exec.size) {
+            return false;
         }
+        let place = lane + usize::from(self.exec.offset);
+        (self.exec.unmasked || bit_at(self.mask, place)) && agrees_at(self.predicate, place)
     }
 }

@@ -1,14 +1,9 @@
 -- Where the offsets fit, the room holds them as the registers had them: what a lane writes by the room is what the definition says.
-use Rattle.std.proofs.Common.{◌≡◌, ℕ, ◌+◌, ◌<◌, ◌≤◌, Bool, true, cond, [], get_or, arith}
+use Rattle.std.proofs.Common.{◌≡◌, ℕ, ◌<◌, ◌≤◌, true, get_or, arith}
 use Rattle.little_endian.specs.LittleEndian.{Bytes}
-use Rattle.cells.specs.declared.Buffer as lent
 use Rattle.cells.specs.Buffer.{Buffer}
-use Rattle.cells.specs.Lent.{held, Becomes}
-use Rattle.cells.specs.Writes.{written_all}
-use Rattle.exec_byte.specs.Exec.{exec_size, exec_of}
-use Rattle.exec_byte.specs.declared.Exec.{Exec}
+use Rattle.exec_byte.specs.Exec.{exec_size}
 use Rattle.plan.specs.Plan.{Plan}
-use Rattle.staging.specs.declared.Layout.{Layout}
 use Rattle.staging.specs.Sources.{element_value, either_tainted}
 use Rattle.staging.specs.Mirror.Room.{layout_of, elements_fit, both_staged, either_staged}
 use Rattle.cells.proofs.BoolLaws.{both_true}
@@ -17,19 +12,9 @@ use Rattle.staging.proofs.RoomLaws.{both_first, both-second, both-either}
 use Rattle.gather.specs.declared.Shape.{Shape}
 use Rattle.gather_effect.specs.Gather.{gather_address, gather_lane}
 use Rattle.gather.specs.Mirror.Guarded.{gather_fits}
-use Rattle.gather.specs.Mirror.FromRoom.{shape_of, room_address, bytes_read, dword_writes, room_writes, room_lane}
+use Rattle.gather.specs.Mirror.FromRoom.{shape_of, room_address, bytes_read, room_writes, room_lane}
 use Rattle.gather.proofs.CountLaws.{count_small, read_below}
 use Rattle.gather.proofs.DwordLaws.{dword-is}
-
--- the shape, as code makes it
-pub shape-told : (p : Plan) (exec : Exec) (layout : Layout) → exec ≡ exec_of p.control.exec → layout ≡ layout_of p.left p.right exec.size → record { layout = layout; start = p.start; length = p.length; block = p.bytes } ≡ shape_of p
-shape-told p exec layout e l = rw (l, e)
-
--- what the calls for a lane that is on answered is what it writes
-module _ (room surfaces : Buffer) (s : Shape) (at lane : ℕ) (on : Bool) where
-  pub lane-gathered : (address count : ℕ) (doubtful : Bool) (b b' : lent.Buffer) → Becomes b b' (written_all (dword_writes surfaces (s.start + address) count doubtful at) (held b)) → on ≡ true → doubtful ≡ either_staged room.taint s.layout lane → address ≡ room_address room.bytes s.layout lane → count ≡ bytes_read s address → Becomes b b' (written_all (cond on (room_writes room surfaces s at lane) []) (held b))
-  unfolding room_writes
-  lane-gathered address count doubtful b b' made taken d a n = rw (taken, ← d, ← a, ← n) made
 
 module _ (p : Plan) (fit : gather_fits p ≡ true) where
   abbrev lanes : ℕ

@@ -20,13 +20,12 @@ use refusal::Refusal;
 use staging::Layout;
 
 // Whether the offsets have room, and are dwords at most.
+#[tactic(auto, unfolding(crate::specs::Mirror::Guarded::gather_fits))]
 fn fits(plan: Plan) -> bool
     ensures { result ≡ gather_fits (plan_of plan) }
 {
     let lanes = exec_byte::split(plan.control.exec).size;
-    let left = plan.left;
-    let right = plan.right;
-    staging::elements_fit(4, left, lanes) & staging::elements_fit(4, right, lanes)
+    staging::elements_fit(4, plan.left, lanes) && staging::elements_fit(4, plan.right, lanes)
 }
 
 // What a lane asks of the plan: how its offsets stand in the room, where the surface begins among all surfaces, its length, and the bytes of a
@@ -42,17 +41,16 @@ struct Shape {
 fn shape_of(plan: Plan) -> Shape
     ensures { result ≡ shape_of (plan_of plan) }
 {
-    let left = plan.left;
-    let right = plan.right;
     let lanes = exec_byte::split(plan.control.exec).size;
     Shape {
-        layout: staging::layout_of(left, right, lanes),
+        layout: staging::layout_of(plan.left, plan.right, lanes),
         start: plan.start,
         length: plan.length,
         block: plan.bytes,
     }
 }
 
+// The numbers cast to a narrower type, here and in bytes_read, fit: a TryFrom would answer an Err that never comes.
 fn low_dword(number: u64) -> u32
     ensures { result ≡ number % 4294967296 }
 {
@@ -60,6 +58,7 @@ fn low_dword(number: u64) -> u32
 }
 
 // The sum of a lane's two offsets, modulo 2^32.
+#[tactic(auto, unfolding(crate::specs::Mirror::FromRoom::room_address, gather_effect::specs::Gather::gather_address))]
 fn address_of(room: View<'_>, layout: Layout, lane: u8) -> u32
     ensures { result ≡ room_address room.entry.bytes.now layout lane }
 {
@@ -100,26 +99,23 @@ fn write_dword(
     }
 }
 
-// What a lane does: nothing where it is off.
+// What a lane that is on does.
+#[tactic(auto, unfolding(crate::specs::Mirror::FromRoom::room_writes))]
 fn gather_lane(
     shape: Shape,
-    on: bool,
     at: u32,
     lane: u8,
     room: View<'_>,
     surfaces: View<'_>,
     registers: &mut Buffer<'_>,
 )
-    ensures { Becomes registers.old registers.new (written_all (if on then room_writes (viewed room.entry) (viewed surfaces.entry) shape at lane else []) (held registers.old)) }
+    ensures { Becomes registers.old registers.new (written_all (room_writes (viewed room.entry) (viewed surfaces.entry) shape at lane) (held registers.old)) }
 {
-    if on {
-        let layout = shape.layout;
-        let doubtful = staging::either_taint(room, layout, lane);
-        let address = address_of(room, layout, lane);
-        let count = bytes_read(shape, address);
-        let from = (shape.start as usize) + (address as usize);
-        write_dword(surfaces, from, count, doubtful, registers, at);
-    }
+    let doubtful = staging::either_taint(room, shape.layout, lane);
+    let address = address_of(room, shape.layout, lane);
+    let count = bytes_read(shape, address);
+    let from = (shape.start as usize) + (address as usize);
+    write_dword(surfaces, from, count, doubtful, registers, at);
 }
 
 // The lanes in order, of offsets in the room.
@@ -136,9 +132,9 @@ fn gather_lanes(
 {
     for lane in 0..shape.layout.lanes {
         let index = usize::from(lane);
-        let on = lanes.on(index);
-        let at = positions[index];
-        gather_lane(shape, on, at, lane, room, surfaces, registers);
+        if lanes.on(index) {
+            gather_lane(shape, positions[index], lane, room, surfaces, registers);
+        }
     }
 }
 
@@ -162,13 +158,16 @@ pub fn gather(
         return Err(Refusal::Outside);
     }
     let shape = shape_of(plan);
-    let control = plan.control;
-    let lanes = channels::lanes_of(control.exec, control.pred, mask, plan.bits);
-    let positions = plan.payload.at;
-    let left = plan.left;
-    let right = plan.right;
-    let room = staging::stage_both(registers.view(), left, right, shape.layout.lanes);
+    let lanes = channels::lanes_of(plan.control.exec, plan.control.pred, mask, plan.bits);
+    let room = staging::stage_both(registers.view(), plan.left, plan.right, shape.layout.lanes);
     holds_bytes(surfaces.bytes);
-    gather_lanes(shape, lanes, &positions, room.view(), surfaces, registers);
+    gather_lanes(
+        shape,
+        lanes,
+        &plan.payload.at,
+        room.view(),
+        surfaces,
+        registers,
+    );
     Ok(())
 }

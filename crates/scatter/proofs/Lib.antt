@@ -1,4 +1,3 @@
-pub mod PlanLaws
 pub mod TargetLaws
 pub mod OrderLaws
 pub mod NeededLaws

@@ -1,11 +1,9 @@
 -- "10 over all lanes; 11 over all; 12 over all", then the writes: what each test's answer leaves of the effect from the room.
 use Rattle.std.proofs.Common.{◌≡◌, ℕ, Bool, true, false, List, [], sym, refl, ap, ◌∙◌}
-use Rattle.refusal.specs.declared.Detail.{Detail}
 use Rattle.refusal.specs.declared.Detail.TheVariants as detail
 use Rattle.std.specs.Prelude.{Result, Ok, Err}
 use Rattle.refusal.specs.declared.Refusal.{Refusal}
 use Rattle.refusal.specs.declared.Refusal.TheVariants as refusal
-use Rattle.refusal.specs.Details.{is_some}
 use Rattle.cells.specs.declared.Buffer as lent
 use Rattle.cells.specs.Buffer.{Buffer}
 use Rattle.cells.specs.Lent.{held, Becomes}

@@ -2,7 +2,7 @@
 
 #![tactic(auto)]
 
-ghost use Rattle.std.specs.Prelude.{◌≡◌, ◌≤◌, true, slice_index};
+ghost use Rattle.std.specs.Prelude.{◌≡◌, ◌≤◌, true};
 ghost use Rattle.cells.specs.Lent.{viewed};
 ghost use Rattle.staging.specs.Staged.{in_room};
 ghost use Rattle.cells.specs.Effect.{MemoryDone};
@@ -12,7 +12,6 @@ ghost use Rattle.scatter.specs.Mirror.FromRoom.{layout_for, pairs_of, sources_st
 
 use cells::{Buffer, View};
 use channels::Lanes;
-use operands::Elements;
 use plan::Plan;
 use refusal::Refusal;
 use scatter_pairs::{Pairs, Rule, Targets};
@@ -21,9 +20,11 @@ use staging::{Layout, Room};
 fn layout_for(plan: Plan) -> Layout
     ensures { result ≡ layout_for (plan_of plan) }
 {
-    let left = plan.left;
-    let right = plan.right;
-    staging::layout_of(left, right, exec_byte::split(plan.control.exec).size)
+    staging::layout_of(
+        plan.left,
+        plan.right,
+        exec_byte::split(plan.control.exec).size,
+    )
 }
 
 fn pairs_of(plan: Plan) -> Pairs
@@ -45,6 +46,7 @@ struct LaneSums {
 }
 
 // The sum of a lane's address and its element offset, modulo 2^64.
+#[tactic(auto, unfolding(crate::specs::Mirror::FromRoom::lane_sum))]
 fn lane_sum(room: View<'_>, layout: Layout, lane: u8) -> u64
     ensures { result ≡ lane_sum room.entry.bytes.now layout lane }
 {
@@ -101,35 +103,26 @@ fn from_room(
 }
 
 // Whether the lanes are no more than 16, nor the dwords from a channel's data to the next channel's, and the elements of both addresses have room.
+#[tactic(auto, unfolding(crate::specs::Mirror::Guarded::scatter_fits))]
 fn fits(plan: Plan) -> bool
     ensures { result ≡ scatter_fits (plan_of plan) }
 {
     let lanes = exec_byte::split(plan.control.exec).size;
-    let left = plan.left;
-    let right = plan.right;
-    ((lanes <= 16) & (plan.stride <= 16))
-        & (staging::elements_fit(8, left, lanes) & staging::elements_fit(8, right, lanes))
-}
-
-// The register byte where an operand begins.
-fn first_byte(elements: Elements) -> u32
-    ensures { result ≡ slice_index elements.at 0 }
-{
-    let at = elements.at;
-    at[0]
+    lanes <= 16
+        && plan.stride <= 16
+        && staging::elements_fit(8, plan.left, lanes)
+        && staging::elements_fit(8, plan.right, lanes)
 }
 
 // All sources: the addresses' elements, and the dwords of Src that the enabled channels need.
+#[tactic(auto, unfolding(crate::specs::Mirror::FromRoom::sources_staged))]
 fn stage_sources(registers: View<'_>, plan: Plan) -> Room
     ensures { in_room result ≡ sources_staged (viewed registers.entry) (plan_of plan) }
 {
     let lanes = exec_byte::split(plan.control.exec).size;
-    let left = plan.left;
-    let right = plan.right;
-    let source = plan.payload;
-    let from = first_byte(source) as usize;
+    let from = plan.payload.at[0] as usize;
     let needed = payloads::scatter_needed(plan.stride, plan.control.exec, plan.channels) as usize;
-    staging::stage_with_data(registers, left, right, lanes, from, needed)
+    staging::stage_with_data(registers, plan.left, plan.right, lanes, from, needed)
 }
 
 // A scatter of a plan that fits.
@@ -143,8 +136,7 @@ fn scatter_fitting(
     requires { scatter_fits (plan_of plan) ≡ true }
     ensures { MemoryDone (scatter_guarded (window base memory.old.bytes.now) mask (plan_of plan) (viewed registers.entry)) result memory.old memory.new }
 {
-    let control = plan.control;
-    let lanes = channels::lanes_of(control.exec, control.pred, mask, plan.bits);
+    let lanes = channels::lanes_of(plan.control.exec, plan.control.pred, mask, plan.bits);
     let layout = layout_for(plan);
     let room = stage_sources(registers, plan);
     let view = room.view();

@@ -1,7 +1,6 @@
 -- The turns of a loop that counts the enabled channels below one.
-use Prim.Native.Nat.{ℕ, ◌+◌, ◌/◌, ◌%◌, ◌^◌, ◌≤◌}
+use Prim.Native.Nat.{ℕ, ◌+◌, ◌/◌, ◌%◌, ◌^◌}
 use mathlib.Core.Path.{◌≡◌, sym, ap, ◌∙◌}
-use native.Mathlib.Omega.{arith}
 use Rattle.payloads.specs.Needed.{enabled_below}
 use Rattle.payloads.proofs.ChannelLaws.{enabled-next}
 

@@ -1,24 +1,17 @@
--- Where the loops that write begin, in the words of `Writes`; and what one pair writes.
-use Prim.Native.Nat.{ℕ, ◌+◌, ◌*◌, ◌-◌, ◌<◌}
+-- Where the loops that write begin, in the words of `Writes`; and where a channel's data begin.
+use Prim.Native.Nat.{ℕ, ◌+◌, ◌*◌, ◌-◌}
 use mathlib.Core.Path.{◌≡◌, ap}
-use mathlib.Core.Bool.{Bool, true, false, cond}
-use mathlib.Core.List.{List, []}
+use mathlib.Core.Bool.{Bool, false}
+use mathlib.Core.List.{List}
 use lib.ListN.{get_or}
-use Rattle.cells.specs.declared.Buffer as lent
 use Rattle.cells.specs.Buffer.{Buffer}
-use Rattle.cells.specs.Lent.{held, Becomes}
-use Rattle.cells.specs.Writes.{Write, written_all, copy_writes}
 use Rattle.cells.specs.Over.{among_from, each}
 use Rattle.cells.proofs.AmongLaws.{among-begun}
 use Rattle.bits.specs.Bits.{bit}
 use Rattle.payloads.specs.Needed.{enabled_below}
 use Rattle.scatter_pairs.specs.declared.Pairs.{Pairs}
-use Rattle.scatter_pairs.specs.Mirror.Search.{enabled_lanes, target_from}
+use Rattle.scatter_pairs.specs.Mirror.Search.{enabled_lanes}
 use Rattle.scatter_writes.specs.Mirror.Writes.{row_place, pair_writes, row_writes, all_writes}
-
-pub pair-written : (base : ℕ) (room : Buffer) (begin sum asked c lane address to : ℕ) (b b' : lent.Buffer) → Becomes b b' (written_all (copy_writes room (begin + 4 * lane) to 4) (held b)) → asked ≡ sum → address ≡ target_from asked c → to ≡ address - base → Becomes b b' (written_all (pair_writes base room begin sum c lane) (held b))
-unfolding pair_writes
-pair-written base room begin sum asked c lane address to b b' made told a t = rw (← told, ← a, ← t) made
 
 module _ (base : ℕ) (room : Buffer) where
   pub row-begun : (begin : ℕ) (on : List Bool) (sums : List ℕ) (lanes c : ℕ) → each (λ i. pair_writes base room begin (get_or sums i 0) c i) (among_from (λ k. get_or on k false) 0 (lanes - 0)) ≡ row_writes base room begin on sums lanes c
@@ -28,10 +21,6 @@ module _ (base : ℕ) (room : Buffer) where
   pub rows-begun : (s : Pairs) (on : List Bool) (sums : List ℕ) → each (λ c. row_writes base room (row_place s c) on sums s.lanes c) (among_from (bit s.channels) 0 (4 - 0)) ≡ all_writes base room s on sums
   unfolding all_writes
   rows-begun s on sums = ap (each (λ c. row_writes base room (row_place s c) on sums s.lanes c)) (among-begun (bit s.channels) 4)
-
-  -- a channel that is enabled
-  pub channel-written : (s : Pairs) (on : List Bool) (sums : List ℕ) (c begin : ℕ) (asked : Bool) (b b' : lent.Buffer) → asked ≡ bit s.channels c → asked ≡ true → begin ≡ row_place s c → Becomes b b' (written_all (row_writes base room begin on sums s.lanes c) (held b)) → Becomes b b' (written_all (cond (bit s.channels c) (row_writes base room (row_place s c) on sums s.lanes c) []) (held b))
-  channel-written s on sums c begin asked b b' told taken there made = rw (← told, taken, ← there) made
 
 pub row_told : (s : Pairs) (c below r : ℕ) → below ≡ enabled_below s.channels c → r ≡ s.first + 4 * (below * s.stride) → r ≡ row_place s c
 unfolding row_place

@@ -29,51 +29,46 @@ fn row_place(pairs: Pairs, channel: u8) -> usize
     requires { channel ≤ 4 }
     ensures { (result ≡ row_place pairs channel) × (result ≤ 8589934592) }
 {
-    let below = rank(pairs.channels, channel) as usize;
-    (pairs.first as usize) + 4 * (below * (pairs.stride as usize))
+    let below = usize::from(rank(pairs.channels, channel));
+    (pairs.first as usize) + 4 * (below * usize::from(pairs.stride))
 }
 
-// The byte of memory at an address; 0 before the base.
+// The byte of memory at an address; 0 before the base. A usize has 64 bits: a TryFrom would answer an Err that never comes.
 fn memory_place(base: u64, address: u64) -> usize
     ensures { result ≡ address - base }
 {
     address.saturating_sub(base) as usize
 }
 
-fn write_lane(
-    room: View<'_>,
-    begin: usize,
-    targets: Targets<'_>,
-    base: u64,
+// A channel, the byte of the room where its data begin, and the base of the memory that they go to.
+#[derive(Clone, Copy)]
+struct Row {
     channel: u8,
-    lane: u8,
-    memory: &mut Buffer<'_>,
-)
-    requires { begin ≤ 8589934592 }
-    ensures { Becomes memory.old memory.new (written_all (cond (get_or targets.entry.on.now lane false) (pair_writes base (viewed room.entry) begin (get_or targets.entry.sums.now lane 0) channel lane) []) (held memory.old)) }
+    begin: usize,
+    base: u64,
+}
+
+#[tactic(auto, unfolding(crate::specs::Mirror::Writes::pair_writes))]
+fn write_lane(room: View<'_>, row: Row, targets: Targets<'_>, lane: u8, memory: &mut Buffer<'_>)
+    requires { row.begin ≤ 8589934592 }
+    ensures { Becomes memory.old memory.new (written_all (cond (get_or targets.entry.on.now lane false) (pair_writes row.base (viewed room.entry) row.begin (get_or targets.entry.sums.now lane 0) row.channel lane) []) (held memory.old)) }
 {
     if targets.on_at(lane) {
-        let from = begin + 4 * (lane as usize);
-        let sum = targets.sum_at(lane);
-        let to = memory_place(base, scatter_pairs::target_from(sum, channel));
+        let from = row.begin + 4 * usize::from(lane);
+        let to = memory_place(
+            row.base,
+            scatter_pairs::target_from(targets.sum_at(lane), row.channel),
+        );
         cell_writes::copy_dword(room, from, memory, to);
     }
 }
 
-fn write_row(
-    room: View<'_>,
-    begin: usize,
-    targets: Targets<'_>,
-    lanes: u8,
-    base: u64,
-    channel: u8,
-    memory: &mut Buffer<'_>,
-)
-    requires { begin ≤ 8589934592 }
-    ensures { Becomes memory.old memory.new (written_all (row_writes base (viewed room.entry) begin targets.entry.on.now targets.entry.sums.now lanes channel) (held memory.old)) }
+fn write_row(room: View<'_>, row: Row, targets: Targets<'_>, lanes: u8, memory: &mut Buffer<'_>)
+    requires { row.begin ≤ 8589934592 }
+    ensures { Becomes memory.old memory.new (written_all (row_writes row.base (viewed room.entry) row.begin targets.entry.on.now targets.entry.sums.now lanes row.channel) (held memory.old)) }
 {
     for lane in 0..lanes {
-        write_lane(room, begin, targets, base, channel, lane, memory);
+        write_lane(room, row, targets, lane, memory);
     }
 }
 
@@ -89,8 +84,12 @@ fn write_channel(
     ensures { Becomes memory.old memory.new (written_all (cond (bit pairs.channels channel) (row_writes base (viewed room.entry) (row_place pairs channel) targets.entry.on.now targets.entry.sums.now pairs.lanes channel) []) (held memory.old)) }
 {
     if pairs.has_channel(channel) {
-        let begin = row_place(pairs, channel);
-        write_row(room, begin, targets, pairs.lanes, base, channel, memory);
+        let row = Row {
+            channel,
+            begin: row_place(pairs, channel),
+            base,
+        };
+        write_row(room, row, targets, pairs.lanes, memory);
     }
 }
 

@@ -1,4 +1,3 @@
 pub mod RoomLaws
-pub mod LaneLaws
 pub mod GuardLaws
 pub mod SoundLaws

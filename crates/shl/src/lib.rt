@@ -19,15 +19,14 @@ use refusal::Refusal;
 use staging::Layout;
 
 // Whether the sources have room, and are small enough to be shifted.
+#[tactic(auto, unfolding(crate::specs::Mirror::Guarded::shl_fits))]
 fn fits(plan: Plan) -> bool
     ensures { result ≡ shl_fits (plan_of plan) }
 {
     let lanes = exec_byte::split(plan.control.exec).size;
-    let left = plan.left;
-    let right = plan.right;
-    staging::elements_fit(4, left, lanes)
-        & staging::elements_fit(4, right, lanes)
-        & (plan.payload.size <= 4)
+    staging::elements_fit(4, plan.left, lanes)
+        && staging::elements_fit(4, plan.right, lanes)
+        && plan.payload.size <= 4
 }
 
 // What a lane asks of the plan: how its sources stand in the room, the sign of the first, and the size of the destination. A gather's shape shares
@@ -42,16 +41,15 @@ struct Shape {
 fn shape_of(plan: Plan) -> Shape
     ensures { result ≡ shape_of (plan_of plan) }
 {
-    let left = plan.left;
-    let right = plan.right;
     let lanes = exec_byte::split(plan.control.exec).size;
     Shape {
-        layout: staging::layout_of(left, right, lanes),
-        signed: left.signed,
+        layout: staging::layout_of(plan.left, plan.right, lanes),
+        signed: plan.left.signed,
         size: plan.payload.size,
     }
 }
 
+#[tactic(auto, unfolding(crate::specs::Mirror::FromRoom::room_value))]
 fn lane_value(room: View<'_>, shape: Shape, lane: u8) -> u64
     ensures { result ≡ room_value room.entry.bytes.now shape lane }
 {
@@ -62,14 +60,14 @@ fn lane_value(room: View<'_>, shape: Shape, lane: u8) -> u64
 }
 
 // A lane that is off writes nothing.
+#[tactic(auto, unfolding(crate::specs::Mirror::FromRoom::room_writes))]
 fn write_lane(shape: Shape, on: bool, at: u32, lane: u8, room: View<'_>, registers: &mut Buffer<'_>)
     ensures { Becomes registers.old registers.new (written_all (cond on (room_writes (viewed room.entry) shape at lane) []) (held registers.old)) }
 {
     if on {
         let value = lane_value(room, shape, lane);
         let tainted = staging::either_taint(room, shape.layout, lane);
-        let place = at as usize;
-        cell_writes::set_number(registers, place, shape.size, value, tainted);
+        cell_writes::set_number(registers, at as usize, shape.size, value, tainted);
     }
 }
 
@@ -86,9 +84,14 @@ fn write_lanes(
 {
     for lane in 0..shape.layout.lanes {
         let index = usize::from(lane);
-        let on = lanes.on(index);
-        let at = positions[index];
-        write_lane(shape, on, at, lane, room, registers);
+        write_lane(
+            shape,
+            lanes.on(index),
+            positions[index],
+            lane,
+            room,
+            registers,
+        );
     }
 }
 
@@ -100,12 +103,8 @@ pub fn shl(plan: Plan, mask: u32, registers: &mut Buffer<'_>) -> Result<(), Refu
         return Err(Refusal::Outside);
     }
     let shape = shape_of(plan);
-    let control = plan.control;
-    let lanes = channels::lanes_of(control.exec, control.pred, mask, plan.bits);
-    let positions = plan.payload.at;
-    let left = plan.left;
-    let right = plan.right;
-    let room = staging::stage_both(registers.view(), left, right, shape.layout.lanes);
-    write_lanes(shape, lanes, &positions, room.view(), registers);
+    let lanes = channels::lanes_of(plan.control.exec, plan.control.pred, mask, plan.bits);
+    let room = staging::stage_both(registers.view(), plan.left, plan.right, shape.layout.lanes);
+    write_lanes(shape, lanes, &plan.payload.at, room.view(), registers);
     Ok(())
 }

@@ -27,10 +27,11 @@ pub struct Layout {
 }
 
 // Whether the lanes are no more than 32, and their elements have at most so many bytes each.
+#[tactic(auto, unfolding(crate::specs::Mirror::Room::elements_fit))]
 pub fn elements_fit(size: u8, elements: Elements, lanes: u8) -> bool
     ensures { result ≡ elements_fit size elements lanes }
 {
-    (lanes <= 32) & (elements.size <= size)
+    lanes <= 32 && elements.size <= size
 }
 
 pub fn layout_of(first: Elements, second: Elements, lanes: u8) -> Layout
@@ -43,19 +44,22 @@ pub fn layout_of(first: Elements, second: Elements, lanes: u8) -> Layout
     }
 }
 
+#[tactic(auto, unfolding(crate::specs::Mirror::Room::first_place))]
 fn first_place(layout: Layout, lane: u8) -> u32
     ensures { result ≡ first_place layout lane }
 {
-    (lane as u32) * (layout.first as u32)
+    u32::from(lane) * u32::from(layout.first)
 }
 
+#[tactic(auto, unfolding(crate::specs::Mirror::Room::second_place))]
 fn second_place(layout: Layout, lane: u8) -> u32
     ensures { result ≡ second_place layout lane }
 {
-    (layout.lanes as u32) * (layout.first as u32) + (lane as u32) * (layout.second as u32)
+    u32::from(layout.lanes) * u32::from(layout.first) + u32::from(lane) * u32::from(layout.second)
 }
 
 // Where a scatter's data begin.
+#[tactic(auto, unfolding(crate::specs::Mirror::Room::second_place, crate::specs::Mirror::Room::data_place))]
 pub fn data_place(layout: Layout) -> u32
     ensures { result ≡ data_place layout }
 {
@@ -66,18 +70,17 @@ pub fn data_place(layout: Layout) -> u32
 fn position_of(elements: Elements, lane: u8) -> usize
     ensures { result ≡ get_or elements.at lane 0 }
 {
-    let at = elements.at;
-    let index = lane as usize;
-    if index < 32 { at[index] as usize } else { 0 }
+    elements.at.get(usize::from(lane)).copied().unwrap_or(0) as usize
 }
 
 // The byte of the room where a lane's element goes.
 fn place_of(elements: Elements, base: u32, lane: u8) -> usize
     ensures { result ≡ base + lane * elements.size }
 {
-    (base as usize) + (lane as usize) * (elements.size as usize)
+    (base as usize) + usize::from(lane) * usize::from(elements.size)
 }
 
+#[tactic(auto, unfolding(crate::specs::Mirror::Room::stage_lane))]
 fn stage_lane(registers: View<'_>, elements: Elements, lane: u8, base: u32, room: &mut Buffer<'_>)
     ensures { Becomes room.old room.new (written_all (stage_lane (viewed registers.entry) elements base lane) (held room.old)) }
 {
@@ -86,8 +89,7 @@ fn stage_lane(registers: View<'_>, elements: Elements, lane: u8, base: u32, room
         cell_writes::set_number(room, place, elements.size, elements.value, false);
     } else {
         let from = position_of(elements, lane);
-        let size = elements.size as usize;
-        cell_writes::copy(registers, from, room, place, size);
+        cell_writes::copy(registers, from, room, place, usize::from(elements.size));
     }
 }
 
@@ -118,6 +120,7 @@ fn stage_sources(
 }
 
 // Both sources of an instruction, in a room of zeros.
+#[tactic(auto, unfolding(crate::specs::Mirror::Room::both_staged))]
 pub fn stage_both(registers: View<'_>, first: Elements, second: Elements, lanes: u8) -> Room
     ensures { in_room result ≡ both_staged (viewed registers.entry) first second lanes }
 {
@@ -134,6 +137,7 @@ pub fn stage_both(registers: View<'_>, first: Elements, second: Elements, lanes:
 }
 
 // Both sources, and so many register bytes from a position on: a scatter's data.
+#[tactic(auto, unfolding(crate::specs::Mirror::Room::data_staged))]
 pub fn stage_with_data(
     registers: View<'_>,
     first: Elements,
@@ -144,9 +148,8 @@ pub fn stage_with_data(
 ) -> Room
     ensures { in_room result ≡ data_staged (viewed registers.entry) first second lanes from count }
 {
-    let layout = layout_of(first, second, lanes);
+    let to = data_place(layout_of(first, second, lanes)) as usize;
     let mut room = stage_both(registers, first, second, lanes);
-    let to = data_place(layout) as usize;
     let mut buffer = Buffer {
         bytes: &mut room.bytes,
         taint: &mut room.taint,
@@ -168,6 +171,7 @@ impl Room {
 }
 
 // A lane's element of the first source, in the room.
+#[tactic(auto, unfolding(crate::specs::Mirror::Room::first_number))]
 pub fn first_number(room: View<'_>, layout: Layout, lane: u8) -> u64
     ensures { result ≡ first_number room.entry.bytes.now layout lane }
 {
@@ -175,6 +179,7 @@ pub fn first_number(room: View<'_>, layout: Layout, lane: u8) -> u64
 }
 
 // A lane's element of the second.
+#[tactic(auto, unfolding(crate::specs::Mirror::Room::second_number))]
 pub fn second_number(room: View<'_>, layout: Layout, lane: u8) -> u64
     ensures { result ≡ second_number room.entry.bytes.now layout lane }
 {
@@ -186,11 +191,12 @@ pub fn second_number(room: View<'_>, layout: Layout, lane: u8) -> u64
 }
 
 // Whether a byte of either is tainted.
+#[tactic(auto, unfolding(crate::specs::Mirror::Room::either_staged))]
 pub fn either_taint(room: View<'_>, layout: Layout, lane: u8) -> bool
     ensures { result ≡ either_staged room.entry.taint.now layout lane }
 {
     let first = first_place(layout, lane) as usize;
     let second = second_place(layout, lane) as usize;
     cell_reads::any_tainted(room.taint, first, layout.first)
-        | cell_reads::any_tainted(room.taint, second, layout.second)
+        || cell_reads::any_tainted(room.taint, second, layout.second)
 }

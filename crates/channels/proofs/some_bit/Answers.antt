@@ -16,4 +16,4 @@ loop-k-init c = refl
 pub loop-k-preserved : goal.loop-k-preserved
 loop-k-preserved c =
     let a = c.args in
-    turn (λ (k : ℕ). beq (bit a.bits (k + a.exec.offset)) a.value) c.loop-k.k _ _ c.loop-k.invariant (ap (λ (b : Bool). beq b a.value) c.bit_at.ensures)
+    turn (λ (k : ℕ). beq (bit a.bits (k + c.from-offset.result)) a.value) c.loop-k.k _ _ c.loop-k.invariant (ap (λ (b : Bool). beq b a.value) c.bit_at.ensures)

@@ -1,5 +1,5 @@
 -- `gather::gather` meets its contract: refused where the plan does not fit, else all lanes are gathered from the room.
-use Rattle.std.proofs.Common.{sym, ◌∙◌, arith}
+use Rattle.std.proofs.Common.{sym, ◌∙◌}
 use borrow.Author.Tests.{not-false}
 use Rattle.gather.proofs.RoomLaws.{few-told}
 use Rattle.gather.proofs.GuardLaws.{gather-refused, gather-done}

@@ -12,7 +12,7 @@ loop-lane-init c = leads-begun _ _ _ (ap (each _) (among-begun _ _))
 pub loop-lane-preserved : goal.loop-lane-preserved
 unfolding room_lane
 loop-lane-preserved c =
-    lanes-lead _ _ c.loop-lane.lane _ _ _ _ _ _ c.loop-lane-test.true (rw c.from-index.ensures at c.on-on.ensures) (rw c.from-index.ensures at c.write_lane.ensures) c.loop-lane.invariant
+    lanes-lead _ _ c.loop-lane.lane _ _ _ _ _ _ c.loop-lane-test.true (rw c.from-index.ensures at c.on.ensures) (rw c.from-index.ensures at c.write_lane.ensures) c.loop-lane.invariant
 
 pub returns : goal.returns
 returns c = lanes-led _ _ c.loop-lane.lane _ _ _ _ c.loop-lane-test.false c.loop-lane.invariant
