@@ -2,7 +2,7 @@
 
 #![tactic(auto)]
 
-ghost use Rattle.std.specs.Prelude.{◌≡◌, ℕ, List, ◌+◌, ◌≤◌, length};
+ghost use Rattle.std.specs.Prelude.{◌≡◌, ℕ, List, cond, None, Some};
 ghost use Rattle.little_endian.specs.LittleEndian.{number_at};
 ghost use Rattle.reader.specs.Reply.{reply};
 ghost use Rattle.reader.specs.Reading.{whole_at, stored_at};
@@ -24,9 +24,9 @@ pub trait Stored: Copy {
 
     const WIDTH: usize;
 
-    fn stored_at(kernel: &[u8], at: usize) -> Self
-        requires { at + WIDTH ≤ length kernel.now }
-        ensures { result ≡ value_at kernel.now at };
+    // That number, if they are all there.
+    fn stored_at(kernel: &[u8], at: usize) -> Option<Self>
+        ensures { result ≡ cond (whole_at WIDTH kernel.now at) (Some (value_at kernel.now at)) None };
 }
 
 impl Stored for u8 {
@@ -36,9 +36,13 @@ impl Stored for u8 {
 
     const WIDTH: usize = 1;
 
-    #[tactic(auto, unfolding(little_endian::specs::LittleEndian::number_at))]
-    fn stored_at(kernel: &[u8], at: usize) -> u8 {
-        kernel[at]
+    #[tactic(auto, unfolding(little_endian::specs::LittleEndian::number_at, crate::specs::Reading::whole_at))]
+    fn stored_at(kernel: &[u8], at: usize) -> Option<u8> {
+        if whole(kernel, at, 1) {
+            Some(kernel[at])
+        } else {
+            None
+        }
     }
 }
 
@@ -49,9 +53,13 @@ impl Stored for u16 {
 
     const WIDTH: usize = 2;
 
-    #[tactic(auto, unfolding(little_endian::specs::LittleEndian::number_at))]
-    fn stored_at(kernel: &[u8], at: usize) -> u16 {
-        u16::from_le_bytes([kernel[at], kernel[at + 1]])
+    #[tactic(auto, unfolding(little_endian::specs::LittleEndian::number_at, crate::specs::Reading::whole_at))]
+    fn stored_at(kernel: &[u8], at: usize) -> Option<u16> {
+        if whole(kernel, at, 2) {
+            Some(u16::from_le_bytes([kernel[at], kernel[at + 1]]))
+        } else {
+            None
+        }
     }
 }
 
@@ -62,9 +70,13 @@ impl Stored for u32 {
 
     const WIDTH: usize = 4;
 
-    #[tactic(auto, unfolding(little_endian::specs::LittleEndian::number_at))]
-    fn stored_at(kernel: &[u8], at: usize) -> u32 {
-        u32::from_le_bytes([kernel[at], kernel[at + 1], kernel[at + 2], kernel[at + 3]])
+    #[tactic(auto, unfolding(little_endian::specs::LittleEndian::number_at, crate::specs::Reading::whole_at))]
+    fn stored_at(kernel: &[u8], at: usize) -> Option<u32> {
+        if whole(kernel, at, 4) {
+            Some(u32::from_le_bytes([kernel[at], kernel[at + 1], kernel[at + 2], kernel[at + 3]]))
+        } else {
+            None
+        }
     }
 }
 
@@ -82,10 +94,8 @@ impl Cursor {
     pub fn read<T: Stored>(self, kernel: &[u8]) -> Result<(T, Cursor), Refusal>
         ensures { reply result ≡ stored_at T.WIDTH T.value_at kernel.now self.at }
     {
-        if !whole(kernel, self.at, T::WIDTH) {
-            return Err(Refusal::Ends);
-        }
+        let value = T::stored_at(kernel, self.at).ok_or(Refusal::Ends)?;
         let at = self.at + T::WIDTH;
-        Ok((T::stored_at(kernel, self.at), Cursor { at }))
+        Ok((value, Cursor { at }))
     }
 }

@@ -11,6 +11,7 @@ ghost use Rattle.step.specs.Borrowed.{state_of, Goes, Answers};
 ghost use Rattle.step.specs.Step.{plan_effect, step_at, after};
 ghost use Rattle.step.specs.Mirror.Fits.{Fits};
 
+use cells::{Buffer, View};
 use plan::{Operation, Plan};
 use refusal::Refusal;
 use tables::Tables;
@@ -42,29 +43,30 @@ fn perform(room: &mut Room<'_>, constants: Constants, plan: Plan) -> Result<(), 
     ensures answer { let e = plan_effect constants (plan_of plan) (state_of room.old) in (number_given result ≡ e.number) × (detail_given result ≡ e.detail) }
     ensures room { Goes room.old room.new (after (plan_effect constants (plan_of plan) (state_of room.old)) (state_of room.old)) }
 {
-    let registers = &mut *room.registers;
-    let register_taint = &mut *room.register_taint;
+    let mut registers = Buffer {
+        bytes: &mut *room.registers,
+        taint: &mut *room.register_taint,
+    };
     match plan.operation {
-        Operation::Shl => shl::shl(plan, constants.mask, registers, register_taint),
-        Operation::Gather => gather::gather(
-            plan,
-            constants.mask,
-            registers,
-            register_taint,
-            room.surfaces,
-            room.surface_taint,
-        ),
+        Operation::Shl => shl::shl(plan, constants.mask, &mut registers),
+        Operation::Gather => {
+            let surfaces = View {
+                bytes: room.surfaces,
+                taint: room.surface_taint,
+            };
+            gather::gather(plan, constants.mask, &mut registers, surfaces)
+        }
         Operation::Scatter => {
-            let memory = &mut *room.memory;
-            let memory_taint = &mut *room.memory_taint;
+            let mut memory = Buffer {
+                bytes: &mut *room.memory,
+                taint: &mut *room.memory_taint,
+            };
             scatter::scatter(
                 plan,
                 constants.mask,
                 constants.base,
-                registers,
-                register_taint,
-                memory,
-                memory_taint,
+                registers.view(),
+                &mut memory,
             )
         }
     }

@@ -1,5 +1,5 @@
 -- `answering::run_case` meets its contract.
-use Rattle.std.proofs.Common.{arith}
+use Rattle.std.proofs.Common.{rules, arith}
 use Rattle.answering.proofs.CutLaws.{setup-cut, run-cut}
 use Rattle.answering.proofs.run_case.Goals as goal
 
@@ -12,4 +12,4 @@ returns c =
     c.length.ensures c.met-variables.ensures c.met-predicates.ensures c.met.ensures
     c.first-7.ensures c.first.ensures c.first-2.ensures c.first-3.ensures c.first-4.ensures c.first-5.ensures c.first-6.ensures)
     (λ k. omega (arith, c.type_inv.kernel k))
-    c.run.ensures.outcome
+    (search rules)
