@@ -14,7 +14,7 @@ use Rattle.tally.specs.declared.Case.{Case}
 use Rattle.tally.specs.Mirror.Reading.{contents, Tables, tables}
 use Rattle.tally.specs.Mirror.Lines.{met_of, length_of}
 use Rattle.tally.specs.Mirror.Verdicts.{taint_length}
-use Rattle.step.specs.State.{Setup, setup, State, state}
+use Rattle.step.specs.State.{setup, State, state}
 use Rattle.run.specs.Run.{Outcome, run}
 use Rattle.run.proofs.Within.{run-within}
 use Rattle.answering.specs.Mirror.Setting.{setup_of, taint_of, state_of}
@@ -60,16 +60,14 @@ kernel-bytes : (c : Case) (kernel : List ℕ) (t : Tables) → Bytes kernel → 
 unfolding setup_of
 kernel-bytes c kernel t b = bytes_take (length_of 7 c) kernel b
 
--- the run over what is cut; its answer is small
-pub run-cut : (c : Case) (kernel : List ℕ) (t : Tables) (x : Setup) (s : State) (o : Outcome) → x ≡ setup_of c kernel t → Bytes kernel → o ≡ run x s →
-    (o ≡ run (setup_of c kernel t) s) × (o.answer.completed ≤ 4096) × (o.answer.position ≤ 4096)
-run-cut c kernel t x s o e b h =
-    let r = setup_of c kernel t in
-    let g : o ≡ run r s = h ∙ ap (λ (y : Setup). run y s) e in
-    let w = run-within r s (kernel-bytes c kernel t b) in
-    let p : o.answer.completed ≡ (run r s).answer.completed = ap (λ (y : Outcome). y.answer.completed) g in
-    let q : o.answer.position ≡ (run r s).answer.position = ap (λ (y : Outcome). y.answer.position) g in
-    (g, omega (arith, p, w.before, w.inside), omega (arith, q, w.inside))
+-- the answer of a run over what is cut is small
+pub run-small : (c : Case) (kernel : List ℕ) (t : Tables) (s : State) (o : Outcome) → Bytes kernel → o ≡ run (setup_of c kernel t) s →
+    (o.answer.completed ≤ 4096) × (o.answer.position ≤ 4096)
+run-small c kernel t s o b g =
+    let w = run-within (setup_of c kernel t) s (kernel-bytes c kernel t b) in
+    let p : o.answer.completed ≡ (run (setup_of c kernel t) s).answer.completed = ap (λ (y : Outcome). y.answer.completed) g in
+    let q : o.answer.position ≡ (run (setup_of c kernel t) s).answer.position = ap (λ (y : Outcome). y.answer.position) g in
+    (omega (arith, p, w.before, w.inside), omega (arith, q, w.inside))
 
 pub state-cut : (c : Case) (registers memory kernel register_taint surface_taint memory_taint surfaces : List ℕ) (file window file_taint window_taint bytes marks : ℕ) (t u v w x : List ℕ) →
     length registers ≡ 4096 → length memory ≡ 4096 → length register_taint ≡ 4096 → length memory_taint ≡ 4096 →

@@ -8,8 +8,9 @@ ghost use Rattle.tally.specs.Mirror.Lent.{tables_seen};
 ghost use Rattle.tally.specs.Mirror.Reading.{contents, reading};
 ghost use Rattle.tally.specs.Mirror.Verdicts.{number_of, position_of};
 ghost use Rattle.output.specs.Mirror.Page.{page, written};
-ghost use Rattle.output.specs.Output.{buffer_lines, output_bytes};
-ghost use Rattle.step.specs.Borrowed.{lent};
+ghost use Rattle.output.specs.Mirror.Lent.{lines_of};
+ghost use Rattle.output.specs.Output.{output_bytes};
+ghost use Rattle.step.specs.Borrowed.{state_of, Goes};
 ghost use Rattle.run.specs.Answer.{answer_of, number_told};
 ghost use Rattle.run.specs.Run.{outcome, run};
 ghost use Rattle.answering.specs.Mirror.Setting.{taint_of, setup_of};
@@ -18,6 +19,7 @@ ghost use Rattle.answering.specs.Mirror.Puts.{Puts};
 ghost use Rattle.answering.specs.Mirror.Bench.{good_output, case_output};
 
 use line_blocks::first;
+use output::Contents;
 use predicate_table::Predicates;
 use refusal::Detail;
 use run::Answer;
@@ -51,18 +53,10 @@ fn taint_or_zeros<const N: usize>(kind: Kind, case: Case, taint: [u8; N]) -> [u8
 }
 
 // The run, over tables and a kernel that are cut to what was read.
-fn run_case<'a>(
-    case: Case,
-    kernel: &[u8],
-    tables: TableViews<'_>,
-    surfaces: &'a [u8],
-    surface_taint: &'a [u8],
-    registers: &'a mut [u8],
-    register_taint: &'a mut [u8],
-    memory: &'a mut [u8],
-    memory_taint: &'a mut [u8],
-) -> Answer
-    ensures { let s = lent registers register_taint surfaces surface_taint memory memory_taint in (outcome (answer_of result) s.exit ≡ run (setup_of case kernel.now (tables_seen tables.entry)) s.entry) × (result.completed ≤ 4096) × (result.position ≤ 4096) }
+fn run_case(case: Case, kernel: &[u8], tables: TableViews<'_>, room: &mut Room<'_>) -> Answer
+    ensures outcome { outcome (answer_of result) (state_of room.new) ≡ run (setup_of case kernel.now (tables_seen tables.entry)) (state_of room.old) }
+    ensures small { (result.completed ≤ 4096) × (result.position ≤ 4096) }
+    ensures room { Goes room.old room.new (state_of room.new) }
 {
     let constants = Constants {
         base: case.settings.base,
@@ -83,45 +77,22 @@ fn run_case<'a>(
         },
         surface_lengths: first(tables.surface_lengths, case.met(Kind::Surface)),
     };
-    let mut room = Room {
-        registers,
-        register_taint,
-        memory,
-        memory_taint,
-        surfaces,
-        surface_taint,
-    };
-    run::run(
-        first(kernel, case.length(Kind::Kernel)),
-        filled,
-        constants,
-        &mut room,
-    )
+    let length = case.length(Kind::Kernel);
+    run::run(first(kernel, length), filled, constants, room)
 }
 
 // The 40 line and the buffers.
-fn write_lines(
-    out: &mut [u8],
-    answer: Answer,
-    base: u64,
-    registers: &[u8],
-    memory: &[u8],
-    register_taint: &[u8],
-    memory_taint: &[u8],
-) -> usize
+fn write_lines(out: &mut [u8], answer: Answer, contents: Contents<'_>) -> usize
     requires { (answer.completed ≤ 4096) × (answer.position ≤ 4096) }
-    ensures { page out.new result ≡ written (output_bytes (number_told answer.refusal) answer.completed answer.position (buffer_lines base registers.now memory.now register_taint.now memory_taint.now)) (page out.old 0) }
+    ensures { page out.new result ≡ written (output_bytes (number_told answer.refusal) answer.completed answer.position (lines_of contents.entry)) (page out.old 0) }
 {
+    // Both casts keep the number: it is at most 4,096.
     output::write(
         out,
         answer.number(),
         answer.completed as u16,
         answer.position as u32,
-        base,
-        registers,
-        memory,
-        register_taint,
-        memory_taint,
+        contents,
     )
 }
 
@@ -130,38 +101,29 @@ fn run_and_write(
     case: Case,
     kernel: &[u8],
     tables: TableViews<'_>,
-    surfaces: &[u8],
-    surface_taint: &[u8],
-    registers: &mut [u8],
-    register_taint: &mut [u8],
-    memory: &mut [u8],
-    memory_taint: &mut [u8],
+    room: &mut Room<'_>,
     form: Form,
     out: &mut [u8],
 ) -> usize
-    ensures { let s = lent registers register_taint surfaces surface_taint memory memory_taint in Puts (outcome_text form case.settings.base (run (setup_of case kernel.now (tables_seen tables.entry)) s.entry)) out.old out.new result }
+    ensures { Puts (outcome_text form case.settings.base (run (setup_of case kernel.now (tables_seen tables.entry)) (state_of room.old))) out.old out.new result }
 {
-    let answer = run_case(
-        case,
-        kernel,
-        tables,
-        surfaces,
-        surface_taint,
-        registers,
-        register_taint,
-        memory,
-        memory_taint,
-    );
+    let answer = run_case(case, kernel, tables, room);
     match form {
-        Form::Lines => write_lines(
-            out,
-            answer,
-            case.settings.base,
-            registers,
-            memory,
-            register_taint,
-            memory_taint,
-        ),
+        Form::Lines => {
+            // Reborrowed first: two views right out of the room's fields are not covered by the borrow checker.
+            let registers = &mut *room.registers;
+            let memory = &mut *room.memory;
+            let register_taint = &mut *room.register_taint;
+            let memory_taint = &mut *room.memory_taint;
+            let contents = Contents {
+                base: case.settings.base,
+                registers,
+                memory,
+                register_taint,
+                memory_taint,
+            };
+            write_lines(out, answer, contents)
+        }
         Form::Verdict => verdict_line::put_verdict(
             out,
             answer.number(),
@@ -180,6 +142,7 @@ fn write_refusal(unfit: Unfit, form: Form, out: &mut [u8]) -> usize
     let position = unfit.position();
     match form {
         Form::Lines => output::put_answer(out, 0, number, 0, position),
+        // `as usize`: there is no `usize::from` of a `u32`.
         Form::Verdict => verdict_line::put_verdict(out, number, 0, position as usize, Detail::None),
     }
 }
@@ -206,22 +169,18 @@ fn answer_good(
         .taint_length(Kind::RegisterTaint, Kind::Registers)
         .min(4096);
     let window_taint = case.taint_length(Kind::MemoryTaint, Kind::Memory).min(4096);
-    run_and_write(
-        case,
-        kernel,
-        tables,
-        first(tables.surface_bytes, case.length(Kind::Surface)),
-        first(
+    let mut room = Room {
+        registers: &mut registers[..file],
+        register_taint: &mut register_taint[..file_taint],
+        memory: &mut memory[..window],
+        memory_taint: &mut memory_taint[..window_taint],
+        surfaces: first(tables.surface_bytes, case.length(Kind::Surface)),
+        surface_taint: first(
             &surface_taint,
             case.taint_length(Kind::SurfaceTaint, Kind::Surface),
         ),
-        &mut registers[..file],
-        &mut register_taint[..file_taint],
-        &mut memory[..window],
-        &mut memory_taint[..window_taint],
-        form,
-        out,
-    )
+    };
+    run_and_write(case, kernel, tables, &mut room, form, out)
 }
 
 // The whole answer to a case and the buffers that it was read into, to the output buffer's start, and how many bytes it has.

@@ -6,7 +6,18 @@ ghost use Rattle.std.specs.Prelude.{◌≡◌, [], ◌∷◌, ◌++◌, ◌+◌,
 ghost use Rattle.hex_text.specs.Bytes.{hex_of};
 ghost use Rattle.hex_text.specs.Storing.{placed};
 ghost use Rattle.output.specs.Mirror.Page.{page, written};
-ghost use Rattle.output.specs.Output.{answer_line, content_line, memory_line, buffer_lines, output_bytes};
+ghost use Rattle.output.specs.Mirror.Lent.{lines_of};
+ghost use Rattle.output.specs.Output.{answer_line, content_line, memory_line, output_bytes};
+
+// What a run left in the caller's buffers: the registers, the memory with its base, and the taint of both.
+#[derive(Clone, Copy)]
+pub struct Contents<'a> {
+    pub base: u64,
+    pub registers: &'a [u8],
+    pub memory: &'a [u8],
+    pub register_taint: &'a [u8],
+    pub memory_taint: &'a [u8],
+}
 
 // A character to place `at`, if there is one, and the place behind it. `format_writers` has its own: there a place past the buffer's end becomes
 // the end (`wrote`), here it stays (`page`).
@@ -88,21 +99,13 @@ fn put_memory(out: &mut [u8], at: usize, base: u64, memory: &[u8]) -> usize
     put(out, last, b'\n')
 }
 
-fn put_buffers(
-    out: &mut [u8],
-    at: usize,
-    base: u64,
-    registers: &[u8],
-    memory: &[u8],
-    register_taint: &[u8],
-    memory_taint: &[u8],
-) -> usize
-    ensures { page out.new result ≡ written (buffer_lines base registers.now memory.now register_taint.now memory_taint.now) (page out.old at) }
+fn put_buffers(out: &mut [u8], at: usize, contents: Contents<'_>) -> usize
+    ensures { page out.new result ≡ written (lines_of contents.entry) (page out.old at) }
 {
-    let first = put_content(out, at, 1, registers);
-    let second = put_memory(out, first, base, memory);
-    let third = put_content(out, second, 8, register_taint);
-    put_content(out, third, 10, memory_taint)
+    let first = put_content(out, at, 1, contents.registers);
+    let second = put_memory(out, first, contents.base, contents.memory);
+    let third = put_content(out, second, 8, contents.register_taint);
+    put_content(out, third, 10, contents.memory_taint)
 }
 
 // The whole output, to the buffer's start, and how many bytes it has; what does not fit is lost.
@@ -112,25 +115,13 @@ pub fn write(
     number: u8,
     completed: u16,
     position: u32,
-    base: u64,
-    registers: &[u8],
-    memory: &[u8],
-    register_taint: &[u8],
-    memory_taint: &[u8],
+    contents: Contents<'_>,
 ) -> usize
-    ensures { page out.new result ≡ written (output_bytes number completed position (buffer_lines base registers.now memory.now register_taint.now memory_taint.now)) (page out.old 0) }
+    ensures { page out.new result ≡ written (output_bytes number completed position (lines_of contents.entry)) (page out.old 0) }
 {
     let at = put_answer(out, 0, number, completed, position);
     if matches!(number, 13 | 14) {
         return at;
     }
-    put_buffers(
-        out,
-        at,
-        base,
-        registers,
-        memory,
-        register_taint,
-        memory_taint,
-    )
+    put_buffers(out, at, contents)
 }

@@ -38,6 +38,7 @@ pub fn put_verdict(
 ) -> usize
     ensures { (wrote result out.new ≡ written out.old 0 (verdict_line number completed position detail)) × (length (verdict_line number completed position detail) ≤ 67) }
 {
+    // Kept: `as u64`, since there is no `u64::from` of a `usize`; 64 bits hold each.
     let a = format_writers::put_number(out, 0, Base::Decimal, u64::from(number));
     let b = format_writers::put_word(out, a, b" |", 0);
     let c = format_writers::put_number(out, b, Base::Decimal, completed as u64);
