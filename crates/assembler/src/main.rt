@@ -128,8 +128,7 @@ fn assemble_block<W: Write>(
     Err(Failure::Unwritten)
 }
 
-// Block by block to the input's end, or to a read or a write that fails. `listing` has such a loop too: one driver of both would be no plainer, since it would
-// take a closure that holds the writer and every buffer, and a promise about each call of it.
+// Block by block to the input's end, or to a read or a write that fails.
 fn assemble_input<R: Read, W: Write>(
     reader: &mut R,
     writer: &mut W,
@@ -137,17 +136,15 @@ fn assemble_input<R: Read, W: Write>(
     line: &mut [u8],
     out: &mut [u8],
 ) -> Result<(), Failure> {
-    let mut begun = Begun::nothing();
-    for _turn in 0..u64::MAX {
-        let count = reader.read(block).map_err(|_| Failure::Unread)?;
-        if count == 0 {
-            // the last line may lack its 0x0a
-            let end = line_blocks::last_end(b"\n", begun);
-            assemble_block(writer, end, line, out, begun)?;
-            return Ok(());
-        }
-        begun = assemble_block(writer, &block[..count], line, out, begun)?;
-    }
+    let begun = streams::each_block(
+        reader,
+        block,
+        Begun::nothing(),
+        |block: &[u8], begun: Begun| { assemble_block(writer, block, line, out, begun) },
+    )?;
+    // the last line may lack its 0x0a
+    let end = line_blocks::last_end(b"\n", begun);
+    assemble_block(writer, end, line, out, begun)?;
     Ok(())
 }
 

@@ -124,16 +124,10 @@ fn raw_send(numbers: &[u8]) -> Instruction {
 
 // The second number is the opcode. The first is the buffer's length, which is no part of the instruction.
 pub(crate) fn instruction(numbers: &[u8]) -> Instruction {
-    let opcode = byte(numbers, 1);
-    if opcode == 0x24 {
-        return shl(numbers);
-    }
-    if opcode == 0x78 {
-        return gather(numbers);
-    }
-    if opcode == 0x4e {
-        scatter(numbers)
-    } else {
-        raw_send(numbers)
+    match byte(numbers, 1) {
+        0x24 => shl(numbers),
+        0x78 => gather(numbers),
+        0x4e => scatter(numbers),
+        _ => raw_send(numbers),
     }
 }

@@ -12,7 +12,8 @@ ghost use Rattle.std.specs.Prelude.{◌≡◌, ◌≤◌, ◌<◌, length};
 
 use std::io;
 
-// The number that a lower-case hex digit stands for.
+// The number that a lower-case hex digit stands for. `plan_tests` has it too: `streams` and `hex_text` are no place for a digit that takes every character, a line's
+// end among them, to a number, and these two programs share no other crate.
 fn digit(glyph: u8) -> u8
     ensures { result < 16 }
 {
@@ -69,19 +70,11 @@ fn answer_line(rt: &impl Print, line: &[u8]) -> io::Result<()> {
     }
 }
 
-// Where the next line starts.
-fn next_line(text: &[u8], at: usize) -> usize
-    requires { at < length text.now }
-    ensures { (at < result) × (result ≤ length text.now) }
-{
-    (line_blocks::line_end(text, at) + 1).min(text.len())
-}
-
 fn answer_lines(rt: &impl Print, text: &[u8]) -> io::Result<()> {
     let mut at = 0;
     // from line to line: std splits no slice
     while at < text.len() {
-        let next = next_line(text, at);
+        let next = streams::next_line(text, at);
         answer_line(rt, &text[at..next])?;
         at = next;
     }

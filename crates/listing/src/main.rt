@@ -115,11 +115,7 @@ fn take_line(line: &[u8], begun: Begun, kernel: &mut [u8], out: &mut [u8], at: u
     requires line_len_bound { length line.now ≤ 2 * length kernel.old }
     ensures { (take result.out out.new ++ listed_from (take result.size kernel.new) 0 ≡ take at out.old ++ row_listed (row line.now begun.used begun.long)) × (result.out ≤ length out.new) }
 {
-    match load(
-        line_blocks::first(line, begun.used),
-        begun.long,
-        kernel,
-    ) {
+    match load(line_blocks::first(line, begun.used), begun.long, kernel) {
         Some(size) => Taken { size, out: at },
         None => Taken {
             size: 0,
@@ -234,8 +230,7 @@ fn list_block<W: Write>(
     Err(Failure::Unwritten)
 }
 
-// Block by block to the input's end, or to a read or a write that fails. `assembler` has such a loop too: one driver of both would be no plainer, since it would
-// take a closure that holds the writer and every buffer, and a promise about each call of it.
+// Block by block to the input's end, or to a read or a write that fails.
 fn list_input<R: Read, W: Write>(
     reader: &mut R,
     writer: &mut W,
@@ -246,17 +241,17 @@ fn list_input<R: Read, W: Write>(
 ) -> Result<(), Failure>
     requires { length line.old ≤ 2 * length kernel.old }
 {
-    let mut begun = Begun::nothing();
-    for _turn in 0..u64::MAX {
-        let count = reader.read(block).map_err(|_| Failure::Unread)?;
-        if count == 0 {
-            // the last line may lack its 0x0a
-            let end = line_blocks::last_end(b"\n", begun);
-            list_block(writer, end, line, kernel, out, begun)?;
-            return Ok(());
-        }
-        begun = list_block(writer, &block[..count], line, kernel, out, begun)?;
-    }
+    let begun = streams::each_block(
+        reader,
+        block,
+        Begun::nothing(),
+        |block: &[u8], begun: Begun|
+            requires { length line.now ≤ 2 * length kernel.now }
+        { list_block(writer, block, line, kernel, out, begun) },
+    )?;
+    // the last line may lack its 0x0a
+    let end = line_blocks::last_end(b"\n", begun);
+    list_block(writer, end, line, kernel, out, begun)?;
     Ok(())
 }
 

@@ -19,45 +19,17 @@ fn answer_line(
     predicates: &[u8],
     surfaces: &[u8],
 ) -> io::Result<()> {
-    if line.len() == 0 {
-        return Ok(());
+    match line {
+        [b'#', ..] => output::text(rt, line),
+        [b'c', numbers @ ..] => answers::lanes(rt, numbers),
+        [b't', numbers @ ..] => {
+            answers::tables(rt, register_size, numbers, variables, predicates, surfaces)
+        }
+        [b'k', numbers @ ..] => {
+            answers::instruction(rt, register_size, numbers, variables, predicates, surfaces)
+        }
+        _ => Ok(()),
     }
-    let kind = line[0];
-    if kind == b'#' {
-        return output::text(rt, line);
-    }
-    if kind == b'c' {
-        return answers::lanes(rt, &line[1..]);
-    }
-    if kind == b't' {
-        return answers::tables(
-            rt,
-            register_size,
-            &line[1..],
-            variables,
-            predicates,
-            surfaces,
-        );
-    }
-    if kind == b'k' {
-        return answers::instruction(
-            rt,
-            register_size,
-            &line[1..],
-            variables,
-            predicates,
-            surfaces,
-        );
-    }
-    Ok(())
-}
-
-// Where the next line starts.
-fn next_line(text: &[u8], at: usize) -> usize
-    requires { at < length text.now }
-    ensures { (at < result) × (result ≤ length text.now) }
-{
-    (line_blocks::line_end(text, at) + 1).min(text.len())
 }
 
 // Where the numbers of a table's latest line start, which is behind its letter.
@@ -87,7 +59,7 @@ fn answer_lines(rt: &impl Print, text: &[u8]) -> io::Result<()> {
     let mut surfaces = 0;
     // from line to line: std splits no slice
     while at < text.len() {
-        let next = next_line(text, at);
+        let next = streams::next_line(text, at);
         variables = latest(text, at, b'v', variables);
         predicates = latest(text, at, b'p', predicates);
         surfaces = latest(text, at, b's', surfaces);

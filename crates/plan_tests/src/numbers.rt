@@ -1,7 +1,8 @@
 // The little-endian numbers that stand in a line of lower-case hex, and tables of them. Positions count bytes; past the end all is 0.
 ghost use Rattle.std.specs.Prelude.{◌≡◌, ◌≤◌, ◌<◌, length};
 
-// The number that a lower-case hex digit stands for.
+// The number that a lower-case hex digit stands for. `codec_tests` has it too: `streams` and `hex_text` are no place for a digit that takes every character, a line's
+// end among them, to a number, and these two programs share no other crate.
 fn digit(glyph: u8) -> u8
     ensures { result < 16 }
 {

@@ -1,5 +1,5 @@
 -- What the code works out, modulo 2^64, is the exact shift: once over all sizes of at most four bytes.
-use Rattle.std.proofs.Common.{◌≡◌, ℕ, suc, ◌+◌, ◌-◌, ◌*◌, ◌%◌, ◌^◌, ◌<◌, ◌≤◌, Bool, true, false, ◌&&◌, leb, pos, ◌*ℤ◌, sym, refl, ◌∙◌, true≢false, mod-eq_of_lt, arith, le-leb, leb-true}
+use Rattle.std.proofs.Common.{◌≡◌, ℕ, suc, ◌+◌, ◌-◌, ◌*◌, ◌%◌, ◌^◌, ◌<◌, ◌≤◌, Bool, true, false, ◌&&◌, leb, pos, ◌*ℤ◌, sym, ◌∙◌, mod-eq_of_lt, arith, le-leb}
 use Rattle.shift.specs.Exact.{span, lowest, exactly, modulo, shifted}
 use Rattle.shift.specs.Mirror.Total.{total_shift}
 use Rattle.shift.proofs.SpanLaws.{power-some, span-some, span_small, span-whole, span-twice}
@@ -44,15 +44,6 @@ product-shifted signed size x count destination r all small e a =
 pub total-is : (signed : Bool) (size x count destination : ℕ) → size ≤ 4 → destination ≤ 4 → total_shift signed size x count destination ≡ shifted signed size x count destination
 unfolding total_shift
 total-is signed size x count destination s d = rw (le-leb size 4 s, le-leb destination 4 d)
-
-pub small-told : (size destination : ℕ) → (leb size 4 && leb destination 4) ≡ true → (size ≤ 4) × (destination ≤ 4)
-small-told size destination e =
-    let told = true-each (leb size 4) (leb destination 4) e in
-    (leb-true size 4 told.0, leb-true destination 4 told.1)
-  where
-    true-each : (s t : Bool) → (s && t) ≡ true → (s ≡ true) × (t ≡ true)
-    true-each true t x = (refl, x)
-    true-each false t x = absurd (true≢false (sym x))
 
 -- the result fits its destination
 pub shifted-small : (signed : Bool) (size x count destination : ℕ) → shifted signed size x count destination < span destination

@@ -21,7 +21,7 @@ fn residue(signed: bool, size: u8, value: u64) -> u64
 {
     let all = span_of(size);
     let low = value % all;
-    if signed & (all <= 2 * low) {
+    if signed && all <= 2 * low {
         low.wrapping_sub(all)
     } else {
         low
@@ -40,7 +40,7 @@ fn small_shift(signed: bool, size: u8, value: u64, count: u64, destination: u8) 
 pub fn shift(signed: bool, size: u8, value: u64, count: u64, destination: u8) -> u64
     ensures { result ≡ total_shift signed size value count destination }
 {
-    if (size <= 4) & (destination <= 4) {
+    if size <= 4 && destination <= 4 {
         small_shift(signed, size, value, count, destination)
     } else {
         0

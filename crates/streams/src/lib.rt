@@ -2,8 +2,9 @@
 
 #![tactic(auto)]
 
-ghost use Rattle.std.specs.Prelude.{◌≤◌, ◌<◌, ℕ, length, take, IfOk, OnErr};
+ghost use Rattle.std.specs.Prelude.{◌≡◌, ◌+◌, ◌≤◌, ◌<◌, ℕ, min, length, take, drop, IfOk, OnErr};
 ghost use Rattle.std.specs.Io.KnownBytes.{Consumes, IsAtEnd};
+ghost use Rattle.line_blocks.specs.Mirror.Rows.{line_length};
 
 use std::io::Read;
 use std::{fmt, io};
@@ -47,4 +48,39 @@ pub fn read_full<R: Read>(reader: &mut R, buffer: &mut [u8]) -> io::Result<usize
         done += count;
     }
     Ok(done)
+}
+
+// Hands a reader's bytes block by block to a step, which goes on from what the step before it gave, until the input ends or a read or a step fails.
+pub fn each_block<R: Read, S: Copy, F: FnMut(&[u8], S) -> Result<S, Failure>>(
+    reader: &mut R,
+    block: &mut [u8],
+    start: S,
+    mut step: F,
+) -> Result<S, Failure>
+    requires { F.IsAlwaysCallable step }
+    ensures { IfOk result (λ _. 0 < length block.new → IsAtEnd (R.remaining reader.new)) }
+{
+    let mut state = start;
+    for _turn in 0..u64::MAX {
+        let count = reader.read(block).map_err(|_| Failure::Unread)?;
+        if count == 0 {
+            return Ok(state);
+        }
+        state = step(&block[..count], state)?;
+    }
+    Err(Failure::Unread)
+}
+
+// Where the line behind the one at a place starts: behind its 0x0a, or at the text's end.
+pub fn next_line(text: &[u8], at: usize) -> usize
+    requires { at < length text.now }
+    ensures start { result ≡ min (at + line_length (drop at text.now) + 1) (length text.now) }
+    ensures inside { (at < result) × (result ≤ length text.now) }
+{
+    let end = line_blocks::line_end(text, at);
+    if end < text.len() {
+        end + 1
+    } else {
+        text.len()
+    }
 }
