@@ -82,6 +82,7 @@ fn run_case(case: Case, kernel: &[u8], tables: TableViews<'_>, room: &mut Room<'
 }
 
 // The 40 line and the buffers.
+// `as`: both numbers are 4,096 at most, as the contract asks, and a `try_from` would have an Err that no value reaches.
 fn write_lines(out: &mut [u8], answer: Answer, contents: Contents<'_>) -> usize
     requires { (answer.completed ≤ 4096) × (answer.position ≤ 4096) }
     ensures { page out.new result ≡ written (output_bytes (number_told answer.refusal) answer.completed answer.position (lines_of contents.entry)) (page out.old 0) }
@@ -135,6 +136,7 @@ fn run_and_write(
 }
 
 // A case that is not run: its number and position.
+// By the form, here and above, and no closure or trait: `outcome_text` and `refusal_text` are over `Form`.
 fn write_refusal(unfit: Unfit, form: Form, out: &mut [u8]) -> usize
     ensures { Puts (refusal_text form (number_of unfit) (position_of unfit)) out.old out.new result }
 {

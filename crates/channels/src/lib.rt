@@ -11,6 +11,7 @@ ghost use Rattle.channels.specs.Mirror.Prepared.{combined_predicate, predicate_o
 
 use exec_byte::Exec;
 
+// Codes and no enum: `combined_predicate` is over any code.
 const ANY: u8 = 1;
 
 const ALL: u8 = 2;

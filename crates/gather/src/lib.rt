@@ -88,6 +88,7 @@ fn write_dword(
     requires { count ≤ 4 }
     ensures { Becomes registers.old registers.new (written_all (dword_writes (viewed surfaces.entry) from count doubtful at) (held registers.old)) }
 {
+    // `as`: there is no `usize::from` of a `u32`, here and below
     let place = at as usize;
     if doubtful {
         let value = cell_reads::number_at(surfaces.bytes, from, count);

@@ -73,6 +73,7 @@ fn put_bytes(out: &mut [u8], at: usize, bytes: &[u8]) -> usize
 }
 
 // The 40 line.
+// A number and no Refusal: 14, and the 13 of a case that is not run, are refusals of no run.
 pub fn put_answer(out: &mut [u8], at: usize, number: u8, completed: u16, position: u32) -> usize
     ensures { page out.new result ≡ written (answer_line number completed position) (page out.old at) }
 {
@@ -82,6 +83,7 @@ pub fn put_answer(out: &mut [u8], at: usize, number: u8, completed: u16, positio
     put(out, last, b'\n')
 }
 
+// The kind's byte, as in `content_line`.
 fn put_content(out: &mut [u8], at: usize, kind: u8, bytes: &[u8]) -> usize
     ensures { page out.new result ≡ written (content_line kind bytes.now) (page out.old at) }
 {

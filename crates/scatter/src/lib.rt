@@ -39,6 +39,7 @@ fn pairs_of(plan: Plan) -> Pairs
 }
 
 // What is worked out once for each lane: whether it is on, and the sum of its address and its element offset.
+// Two arrays, as `Targets` has two slices: `WorkedOut`, `first_breaking` and `all_writes` are over two lists.
 #[derive(Clone, Copy)]
 struct LaneSums {
     on: [bool; 16],
@@ -90,6 +91,7 @@ fn from_room(
             lane: pair.lane,
         });
     }
+    // `as`: there is no `u64::from` of a `usize`
     let length = memory.bytes.len() as u64;
     let outside = scatter_pairs::first_breaking(Rule::Inside { base, length }, pairs, targets);
     if let Some(pair) = outside {
@@ -115,6 +117,7 @@ fn fits(plan: Plan) -> bool
 }
 
 // All sources: the addresses' elements, and the dwords of Src that the enabled channels need.
+// `as`: there is no `usize::from` of a `u32`.
 #[tactic(auto, unfolding(crate::specs::Mirror::FromRoom::sources_staged))]
 fn stage_sources(registers: View<'_>, plan: Plan) -> Room
     ensures { in_room result ≡ sources_staged (viewed registers.entry) (plan_of plan) }

@@ -25,6 +25,7 @@ fn rank(channels: u8, channel: u8) -> u8
 }
 
 // The byte of the room where the data of a channel begin.
+// `as`: there is no `usize::from` of a `u32`.
 fn row_place(pairs: Pairs, channel: u8) -> usize
     requires { channel ≤ 4 }
     ensures { (result ≡ row_place pairs channel) × (result ≤ 8589934592) }

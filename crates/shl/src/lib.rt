@@ -19,6 +19,7 @@ use refusal::Refusal;
 use staging::Layout;
 
 // Whether the sources have room, and are small enough to be shifted.
+// Each instruction has a test of its own: sizes, lanes and what else is asked differ (`shl_fits`, `gather_fits`, `scatter_fits`).
 #[tactic(auto, unfolding(crate::specs::Mirror::Guarded::shl_fits))]
 fn fits(plan: Plan) -> bool
     ensures { result ≡ shl_fits (plan_of plan) }
@@ -67,6 +68,7 @@ fn write_lane(shape: Shape, on: bool, at: u32, lane: u8, room: View<'_>, registe
     if on {
         let value = lane_value(room, shape, lane);
         let tainted = staging::either_taint(room, shape.layout, lane);
+        // `as`: there is no `usize::from` of a `u32`
         cell_writes::set_number(registers, at as usize, shape.size, value, tainted);
     }
 }

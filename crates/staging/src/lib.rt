@@ -67,6 +67,7 @@ pub fn data_place(layout: Layout) -> u32
 }
 
 // The register byte of a lane's element; 0 past the last lane.
+// `as`: there is no `usize::from` of a `u32`, here and below.
 fn position_of(elements: Elements, lane: u8) -> usize
     ensures { result ≡ get_or elements.at lane 0 }
 {

@@ -29,6 +29,7 @@ fn put_detail(out: &mut [u8], at: usize, detail: Detail) -> usize
 }
 
 // The line, to the buffer's start, and how many characters it has; what does not fit is lost.
+// A number and no Refusal: 14, and the 13 of a case that is not run, are refusals of no run.
 pub fn put_verdict(
     out: &mut [u8],
     number: u8,
