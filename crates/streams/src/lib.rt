@@ -73,9 +73,9 @@ pub fn each_block<R: Read, S: Copy, F: FnMut(&[u8], S) -> Result<S, Failure>>(
 
 // Where the line behind the one at a place starts: behind its 0x0a, or at the text's end.
 pub fn next_line(text: &[u8], at: usize) -> usize
-    requires { at < length text.now }
     ensures start { result ≡ min (at + line_length (drop at text.now) + 1) (length text.now) }
-    ensures inside { (at < result) × (result ≤ length text.now) }
+    ensures inside { result ≤ length text.now }
+    ensures on { at < length text.now → at < result }
 {
     let end = line_blocks::line_end(text, at);
     if end < text.len() {
