@@ -77,7 +77,7 @@ impl Draft {
         draft
     }
 
-    #[tactic(auto, using(refusal::proofs::RuleLaws::number_some), unfolding(crate::specs::Mirror::Draft::with_field, crate::specs::Mirror::Draft::with_bytes, fields::specs::Layout::field_bytes, fields::specs::Layout::field_refusal, little_endian::specs::LittleEndian::bytes_of))]
+    #[tactic(auto, using(refusal::proofs::RuleLaws::number_some), unfolding(crate::specs::Mirror::Draft::with_field, crate::specs::Mirror::Draft::with_bytes, fields::specs::Layout::field_bytes, fields::specs::Layout::field_refusal, fields::specs::Rules::judged, little_endian::specs::LittleEndian::bytes_of))]
     fn with_field(self, field: Field) -> Result<Draft, Refusal>
         ensures { outcome result ≡ with_field field self }
     {

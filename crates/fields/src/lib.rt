@@ -2,7 +2,7 @@
 
 #![tactic(auto)]
 
-ghost use Rattle.std.specs.Prelude.{◌≡◌, ℕ, List};
+ghost use Rattle.std.specs.Prelude.{◌≡◌, ℕ, List, Ok, Err, cond};
 ghost use Rattle.fields.specs.Tags.{tag_of};
 ghost use Rattle.fields.specs.Rules.{judged, exec_good, scatter_exec_good, channels_good, source_count_good, predicate_good, region_good, class_good, tag_good, tag_refusal, byte_refusal, word_refusal};
 ghost use Rattle.fields.specs.Reading.{judged_read, byte_field_at, word_field_at, dword_field_at};
@@ -68,10 +68,9 @@ pub enum Field {
     Lacking(u32),
 }
 
-// The refusal of a number that is not good.
-#[tactic(auto, unfolding(crate::specs::Rules::judged))]
-pub fn judge(good: bool, refusal: Refusal) -> Result<(), Refusal>
-    ensures { number_given result ≡ judged good (number_of refusal) }
+// The refusal of what is not good.
+pub fn judge<E: Copy>(good: bool, refusal: E) -> Result<(), E>
+    ensures { result ≡ cond good (Ok tt) (Err refusal) }
 {
     if good { Ok(()) } else { Err(refusal) }
 }
@@ -206,7 +205,7 @@ impl FieldRule for WordRule {
 
     ghost reads = { word_reads };
 
-    #[tactic(auto, unfolding(crate::specs::Rules::word_refusal))]
+    #[tactic(auto, unfolding(crate::specs::Rules::word_refusal, crate::specs::Rules::judged))]
     fn judge(self, v: u16) -> Result<(), Refusal> {
         match self {
             WordRule::Free => Ok(()),

@@ -1,6 +1,6 @@
 -- The enabled channels of a scatter, counted one after the other, and the stride between their data.
 use Prim.Native.Nat.{ℕ, zero, suc, ◌+◌, ◌/◌, ◌%◌, ◌^◌, ◌≤◌}
-use mathlib.Core.Path.{◌≡◌, refl}
+use mathlib.Core.Path.{◌≡◌, refl, sym, ap, ◌∙◌}
 use native.Mathlib.Numerals.{add-one}
 use native.Mathlib.Omega.{arith}
 use Rattle.exec_byte.specs.Exec.{exec_size}
@@ -13,6 +13,9 @@ enabled-none channels = refl
 pub enabled-next : (channels c : ℕ) → enabled_below channels (c + 1) ≡ enabled_below channels c + channels / 2 ^ c % 2
 unfolding enabled_below
 enabled-next channels c = rw (add-one c)
+
+pub enabled_turn : (channels k count : ℕ) → count ≡ enabled_below channels k → count + channels / 2 ^ k % 2 ≡ enabled_below channels (k + 1)
+enabled_turn channels k count e = ap (λ (n : ℕ). n + channels / 2 ^ k % 2) e ∙ sym (enabled-next channels k)
 
 pub enabled-at-most : (channels n : ℕ) → enabled_below channels n ≤ n
 unfolding enabled_below

@@ -2,7 +2,7 @@
 
 #![tactic(auto)]
 
-ghost use Rattle.std.specs.Prelude.{◌≡◌};
+ghost use Rattle.std.specs.Prelude.{◌≡◌, ◌≤◌};
 ghost use Rattle.payloads.specs.Needed.{elements_needed, enabled_below, channel_stride, scatter_needed, registers_needed, block_bytes};
 
 // The bytes of all ExecSize elements, of the type with this code.
@@ -13,11 +13,17 @@ pub fn elements_needed(exec: u8, code: u8) -> u32
     u32::from(exec_byte::split(exec).size) * u32::from(element_types::size_of(code))
 }
 
-#[tactic(auto, unfolding(crate::specs::Needed::enabled_below))]
-fn enabled_channels(channels: u8) -> u8
-    ensures { result ≡ enabled_below channels 4 }
+// The number of enabled channels below one.
+#[tactic(auto, using(crate::proofs::ChannelLaws::enabled_turn), unfolding(crate::specs::Needed::enabled_below))]
+pub fn enabled_below(channels: u8, channel: u8) -> u8
+    requires { channel ≤ 8 }
+    ensures { result ≡ enabled_below channels channel }
 {
-    channels % 2 + channels / 2 % 2 + channels / 4 % 2 + channels / 8 % 2
+    let mut count = 0;
+    for k in 0..channel {
+        count += (channels >> k) % 2;
+    }
+    count
 }
 
 // The dwords from a channel's data to the next channel's.
@@ -36,7 +42,7 @@ pub fn scatter_needed(stride: u8, exec: u8, channels: u8) -> u32
 {
     let size = u32::from(exec_byte::split(exec).size);
     let dword = u32::from(element_types::size_of(element_types::UD));
-    let enabled = u32::from(enabled_channels(channels));
+    let enabled = u32::from(enabled_below(channels, 4));
     (enabled.saturating_sub(1) * u32::from(stride) + size) * dword
 }
 
