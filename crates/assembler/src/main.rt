@@ -5,41 +5,60 @@
 ghost use Rattle.std.specs.Prelude.{◌≡◌, ◌++◌, ◌+◌, ◌≤◌, ◌<◌, length, IfOk};
 ghost use Rattle.hex_text.specs.Bytes.{hex_of};
 ghost use Rattle.format_writers.specs.Writing.{wrote, written};
+ghost use Rattle.format_writers.specs.Pages.{Writes};
 ghost use Rattle.line_blocks.specs.LinesOf.{line_end};
 ghost use Rattle.assembler.specs.Assembling.{column_line, assembled_line};
 ghost use Rattle.assembler.specs.Mirror.Parts.{Goes, Passes};
 
+use format_writers::Page;
 use formats::Base;
 use line_blocks::Begun;
 use std::io::{Read, Write};
 use streams::Failure;
 
 // The line of a refusal.
-fn put_column(out: &mut [u8], at: usize, column: u64) -> usize
-    ensures { wrote result out.new ≡ written out.old at (column_line column) }
+fn write_column(page: &mut Page<'_>, column: u64)
+    ensures { Writes page.old page.new (column_line column) }
 {
-    let a = format_writers::put_word(out, at, b"! 16 |", 0);
-    let b = format_writers::put_number(out, a, Base::Decimal, column);
-    format_writers::put_word(out, b, b"\n|", 0)
+    page.word(b"! 16 |", 0);
+    page.number(Base::Decimal, column);
+    page.word(b"\n|", 0);
 }
 
-// Bytes in hex. An empty word is written first, which gives the place, the buffer's end at most.
-fn put_bytes(out: &mut [u8], at: usize, bytes: &[u8]) -> usize
-    ensures { wrote result out.new ≡ written out.old at (hex_of bytes.now) }
+// Bytes in hex. An empty word is written first, so that a place past the buffer's end becomes the end.
+fn write_bytes(page: &mut Page<'_>, bytes: &[u8])
+    ensures { Writes page.old page.new (hex_of bytes.now) }
 {
-    let mut to = format_writers::put_word(out, at, b"|", 0);
+    page.word(b"|", 0);
     for byte in bytes {
-        to = format_writers::put_byte(out, to, *byte);
+        page.byte(*byte);
     }
-    to
 }
 
 // Bytes in hex, with the line's end.
+fn write_encoding(page: &mut Page<'_>, bytes: &[u8])
+    ensures { Writes page.old page.new (hex_of bytes.now ++ line_end) }
+{
+    write_bytes(page, bytes);
+    page.word(b"\n|", 0);
+}
+
+// A refusal's line at a place of the output buffer, and the place past it.
+fn put_column(out: &mut [u8], at: usize, column: u64) -> usize
+    ensures { wrote result out.new ≡ written out.old at (column_line column) }
+{
+    let mut page = Page { out, at };
+    write_column(&mut page, column);
+    page.at
+}
+
+// An encoding's line there.
 fn put_encoding(out: &mut [u8], at: usize, bytes: &[u8]) -> usize
     ensures { wrote result out.new ≡ written out.old at (hex_of bytes.now ++ line_end) }
 {
-    let a = put_bytes(out, at, bytes);
-    format_writers::put_word(out, a, b"\n|", 0)
+    let mut page = Page { out, at };
+    write_encoding(&mut page, bytes);
+    page.at
 }
 
 // No encoding is longer than the buffer here, so that what is refused is refused by 16.

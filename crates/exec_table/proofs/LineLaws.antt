@@ -14,7 +14,10 @@ use Rattle.formats.specs.Text.{text}
 use Rattle.formats.specs.Words.{words, word_at}
 use Rattle.formats.specs.Numerals.{digits, digits_of}
 use Rattle.format_writers.specs.Writing.{wrote, written}
-use Rattle.format_writers.proofs.WritingLaws.{wrote_then, wrote_none, wrote-text}
+use Rattle.format_writers.specs.declared.Page.{Page}
+use Rattle.format_writers.specs.Pages.{Writes}
+use Rattle.format_writers.proofs.WritingLaws.{wrote_none, wrote-text}
+use Rattle.format_writers.proofs.PageLaws.{writes_then}
 use Rattle.exec_byte.specs.declared.Exec.{Exec}
 use Rattle.bits.specs.Bits.{bit, bit_field}
 use Rattle.bits.specs.Below.{every_below}
@@ -51,9 +54,9 @@ pub no_lines : (l : List ℕ) → wrote 0 l ≡ written l 0 (lines_below 0)
 unfolding lines_below
 no_lines l = wrote_none l [] 0 (omega arith) refl
 
-pub one_more_line : (l m n : List ℕ) (to e byte : ℕ) → wrote to m ≡ written l 0 (lines_below byte) → wrote e n ≡ written m to (entry_line byte) → wrote e n ≡ written l 0 (lines_below (byte + 1))
+pub one_more_line : {a b c : Page} (byte : ℕ) → Writes a b (lines_below byte) → Writes b c (entry_line byte) → Writes a c (lines_below (byte + 1))
 unfolding lines_below
-one_more_line l m n to e byte p q = rw (add-one byte) (wrote_then l 0 (lines_below byte) (entry_line byte) to m e n p q)
+one_more_line byte p q = rw (add-one byte) (writes_then p q)
 
 -- ---- how long
 

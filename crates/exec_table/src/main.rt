@@ -4,47 +4,57 @@
 
 ghost use Rattle.std.specs.Prelude.{◌≡◌, ◌≤◌, length};
 ghost use Rattle.format_writers.specs.Writing.{wrote, written};
+ghost use Rattle.format_writers.specs.Pages.{Writes};
 ghost use Rattle.exec_table.specs.ExecLines.{meaning_text, entry_line, exec_lines};
 
 use exec_byte::Exec;
+use format_writers::Page;
 use formats::Base;
 
 // The rest of a byte's line.
-fn put_meaning(out: &mut [u8], at: usize, exec: Exec) -> usize
-    ensures { wrote result out.new ≡ written out.old at (meaning_text exec) }
+fn put_meaning(page: &mut Page<'_>, exec: Exec)
+    ensures { Writes page.old page.new (meaning_text exec) }
 {
     if exec.reserved {
-        return format_writers::put_word(out, at, b"reserved\n|", 0);
+        page.word(b"reserved\n|", 0);
+        return;
     }
     let size = u64::from(exec.size);
     let offset = u64::from(exec.offset);
-    let a = format_writers::put_number(out, at, Base::Decimal, size);
-    let b = format_writers::put_word(out, a, b" |", 0);
-    let c = format_writers::put_number(out, b, Base::Decimal, offset);
+    page.number(Base::Decimal, size);
+    page.word(b" |", 0);
+    page.number(Base::Decimal, offset);
     if exec.unmasked {
-        format_writers::put_word(out, c, b" NM\n|", 0)
+        page.word(b" NM\n|", 0);
     } else {
-        format_writers::put_word(out, c, b"\n|", 0)
+        page.word(b"\n|", 0);
     }
 }
 
-fn put_entry(out: &mut [u8], at: usize, byte: u8) -> usize
-    ensures { wrote result out.new ≡ written out.old at (entry_line byte) }
+fn put_entry(page: &mut Page<'_>, byte: u8)
+    ensures { Writes page.old page.new (entry_line byte) }
 {
-    let a = format_writers::put_byte(out, at, byte);
-    let b = format_writers::put_word(out, a, b" |", 0);
-    put_meaning(out, b, exec_byte::split(byte))
+    page.byte(byte);
+    page.word(b" |", 0);
+    put_meaning(page, exec_byte::split(byte));
 }
 
 #[tactic(auto, using(crate::proofs::LineLaws::no_lines))]
+fn put_lines(page: &mut Page<'_>)
+    requires { page.old.at ≡ 0 }
+    ensures { Writes page.old page.new exec_lines }
+{
+    for byte in 0..=u8::MAX {
+        put_entry(page, byte);
+    }
+}
+
 fn put_table(out: &mut [u8]) -> usize
     ensures { wrote result out.new ≡ written out.old 0 exec_lines }
 {
-    let mut to = 0;
-    for byte in 0..=u8::MAX {
-        to = put_entry(out, to, byte);
-    }
-    to
+    let mut page = Page { out, at: 0 };
+    put_lines(&mut page);
+    page.at
 }
 
 // What is handed on to be written.

@@ -1,4 +1,5 @@
 pub mod StartLaws
 pub mod WritingLaws
+pub mod PageLaws
 pub mod DigitLaws
 pub mod Edges

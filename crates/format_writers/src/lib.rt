@@ -1,4 +1,4 @@
-// Texts written into a lent buffer: a word of a table, a number of a base, a byte. What does not fit is lost.
+// Texts written into a lent buffer, one after another: a word of a table, a number of a base, a byte. What does not fit is lost.
 
 #![tactic(auto)]
 
@@ -8,29 +8,15 @@ ghost use Rattle.hex_text.specs.Bytes.{hex_of};
 ghost use Rattle.formats.specs.Words.{words, word_at};
 ghost use Rattle.formats.specs.Numerals.{digits_of};
 ghost use Rattle.formats.specs.Numbers.{radix_of};
-ghost use Rattle.format_writers.specs.Writing.{wrote, written};
+ghost use Rattle.format_writers.specs.Pages.{Writes};
 
 use formats::Base;
 
-// A text at `at` and after, as much as the buffer has room for, and the place past it, the buffer's end at most.
-fn put_text(out: &mut [u8], at: usize, text: &[u8]) -> usize
-    ensures { wrote result out.new ≡ written out.old at text.now }
-{
-    let from = at.min(out.len());
-    let count = (out.len() - from).min(text.len());
-    out[from..from + count].copy_from_slice(&text[..count]);
-    from + count
-}
-
-// A character at `at`, if the buffer goes so far, and the place past it, the buffer's end at most.
-fn put_character(out: &mut [u8], at: usize, character: u8) -> usize
-    ensures { wrote result out.new ≡ written out.old at (character ∷ []) }
-{
-    if at < out.len() {
-        out[at] = character;
-        return at + 1;
-    }
-    out.len()
+// A lent buffer, and the place in it where the next text is written.
+#[derive(Drop)]
+pub struct Page<'a> {
+    pub out: &'a mut [u8],
+    pub at: usize,
 }
 
 // The first word of a table; empty if it has none.
@@ -72,41 +58,63 @@ fn word(table: &[u8], index: u64) -> &[u8]
     first_word(rest)
 }
 
-// Word `index` of the table, at `at` and after, and the place past it.
-pub fn put_word(out: &mut [u8], at: usize, table: &[u8], index: u64) -> usize
-    ensures { wrote result out.new ≡ written out.old at (word_at (words table.now) index) }
-{
-    put_text(out, at, word(table, index))
-}
-
-fn put_digit(out: &mut [u8], at: usize, d: u8) -> usize
-    ensures { wrote result out.new ≡ written out.old at (character_of d ∷ []) }
-{
-    put_character(out, at, hex_text::character(d))
-}
-
-fn put_digits(out: &mut [u8], at: usize, base: u64, n: u64) -> usize
-    requires { (2 ≤ base) × (base ≤ 16) }
-    ensures { wrote result out.new ≡ written out.old at (digits_of base n) }
-{
-    if n < base {
-        return put_digit(out, at, n as u8);
+impl Page<'_> {
+    fn text(&mut self, text: &[u8])
+        ensures { Writes self.old self.new text.now }
+    {
+        let from = self.at.min(self.out.len());
+        let count = (self.out.len() - from).min(text.len());
+        self.out[from..from + count].copy_from_slice(&text[..count]);
+        self.at = from + count;
     }
-    let e = put_digits(out, at, base, n / base);
-    put_digit(out, e, (n % base) as u8)
-}
 
-// A number, at `at` and after, and the place past it.
-pub fn put_number(out: &mut [u8], at: usize, base: Base, n: u64) -> usize
-    ensures { wrote result out.new ≡ written out.old at (digits_of (radix_of base) n) }
-{
-    put_digits(out, at, formats::radix(base), n)
-}
+    fn character(&mut self, character: u8)
+        ensures { Writes self.old self.new (character ∷ []) }
+    {
+        if self.at < self.out.len() {
+            self.out[self.at] = character;
+            self.at += 1;
+        } else {
+            self.at = self.out.len();
+        }
+    }
 
-// A byte's two hex digits, at `at` and after, and the place past them.
-pub fn put_byte(out: &mut [u8], at: usize, byte: u8) -> usize
-    ensures { wrote result out.new ≡ written out.old at (hex_of (byte ∷ [])) }
-{
-    let a = put_digit(out, at, byte / 16);
-    put_digit(out, a, byte % 16)
+    // Word `index` of the table.
+    pub fn word(&mut self, table: &[u8], index: u64)
+        ensures { Writes self.old self.new (word_at (words table.now) index) }
+    {
+        self.text(word(table, index));
+    }
+
+    fn digit(&mut self, d: u8)
+        ensures { Writes self.old self.new (character_of d ∷ []) }
+    {
+        self.character(hex_text::character(d));
+    }
+
+    fn digits(&mut self, base: u64, n: u64)
+        requires { (2 ≤ base) × (base ≤ 16) }
+        ensures { Writes self.old self.new (digits_of base n) }
+    {
+        if n < base {
+            self.digit(n as u8);
+        } else {
+            self.digits(base, n / base);
+            self.digit((n % base) as u8);
+        }
+    }
+
+    pub fn number(&mut self, base: Base, n: u64)
+        ensures { Writes self.old self.new (digits_of (radix_of base) n) }
+    {
+        self.digits(formats::radix(base), n);
+    }
+
+    // A byte's two hex digits.
+    pub fn byte(&mut self, byte: u8)
+        ensures { Writes self.old self.new (hex_of (byte ∷ [])) }
+    {
+        self.digit(byte / 16);
+        self.digit(byte % 16);
+    }
 }

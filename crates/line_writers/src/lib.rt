@@ -1,11 +1,11 @@
-// An instruction's line, written into a lent buffer. What does not fit is lost.
+// An instruction's line, written into a page. What does not fit is lost.
 
 #![tactic(auto)]
 
 ghost use Rattle.std.specs.Prelude.{◌≡◌, ◌++◌};
 ghost use Rattle.decoder.specs.declared.Instruction.TheVariants as instruction;
 ghost use Rattle.formats.specs.Words.{words, word_at, after};
-ghost use Rattle.format_writers.specs.Writing.{wrote, written};
+ghost use Rattle.format_writers.specs.Pages.{Writes};
 ghost use Rattle.control_texts.specs.Mirror.Predicate.{zeros, predicate};
 ghost use Rattle.operand_texts.specs.Mirror.Region.{source_region, destination_region_from, destination_region};
 ghost use Rattle.operand_texts.specs.Mirror.Operand.{as_general, source, destination};
@@ -17,15 +17,16 @@ ghost use Rattle.lines.specs.Mirror.Line.{names, line};
 
 use decoder::{Gather, Instruction, RawSend, Scatter, Shl};
 use field_groups::Message;
+use format_writers::Page;
 use operand_fields::{General, Operand, Raw};
 
-fn put_source_region(out: &mut [u8], at: usize, region: u16) -> usize
-    ensures { wrote result out.new ≡ written out.old at (source_region.print region) }
+fn put_source_region(page: &mut Page<'_>, region: u16)
+    ensures { Writes page.old page.new (source_region.print region) }
 {
     let word = u64::from(region);
-    let a = format_writers::put_word(out, at, b"<n;|<0;|<1;|<2;|<4;|<8;|<16;|<32;|", word % 16);
-    let b = format_writers::put_word(out, a, b"n,|0,|1,|2,|4,|8,|16,|32,|", word / 16 % 16);
-    format_writers::put_word(out, b, b"n>|0>|1>|2>|4>|8>|16>|32>|", word / 256 % 16)
+    page.word(b"<n;|<0;|<1;|<2;|<4;|<8;|<16;|<32;|", word % 16);
+    page.word(b"n,|0,|1,|2,|4,|8,|16,|32,|", word / 16 % 16);
+    page.word(b"n>|0>|1>|2>|4>|8>|16>|32>|", word / 256 % 16);
 }
 
 // How a destination's region begins, by its number in the table: V, or H alone where V and W are Null and H is not.
@@ -39,49 +40,42 @@ fn region_opening(word: u64) -> u64
     }
 }
 
-fn put_destination_region(out: &mut [u8], at: usize, region: u16) -> usize
-    ensures { wrote result out.new ≡ written out.old at (destination_region.print region) }
+fn put_destination_region(page: &mut Page<'_>, region: u16)
+    ensures { Writes page.old page.new (destination_region.print region) }
 {
     let word = u64::from(region);
     let first = region_opening(word);
-    let a = format_writers::put_word(
-        out,
-        at,
-        b"<n;|<0;|<1;|<2;|<4;|<8;|<16;|<32;|<0>|<1>|<2>|<4>|<8>|<16>|<32>|",
-        first,
-    );
+    page.word(b"<n;|<0;|<1;|<2;|<4;|<8;|<16;|<32;|<0>|<1>|<2>|<4>|<8>|<16>|<32>|", first);
     if first < 8 {
-        let b = format_writers::put_word(out, a, b"n,|0,|1,|2,|4,|8,|16,|32,|", word / 16 % 16);
-        format_writers::put_word(out, b, b"n>|0>|1>|2>|4>|8>|16>|32>|", word / 256 % 16)
-    } else {
-        a
+        page.word(b"n,|0,|1,|2,|4,|8,|16,|32,|", word / 16 % 16);
+        page.word(b"n>|0>|1>|2>|4>|8>|16>|32>|", word / 256 % 16);
     }
 }
 
 // A General operand before its region, `v300(1,2)`.
-fn put_general(out: &mut [u8], at: usize, g: General) -> usize
-    ensures { wrote result out.new ≡ written out.old at (general_text g) }
+fn put_general(page: &mut Page<'_>, g: General)
+    ensures { Writes page.old page.new (general_text g) }
 {
     let index = u64::from(g.index);
     let row = u64::from(g.row);
     let column = u64::from(g.column);
-    let a = format_writers::put_word(out, at, b"v|", 0);
-    let b = part_writers::put_decimal(out, a, b"(|", index);
-    let d = part_writers::put_decimal(out, b, b",|", row);
-    part_writers::put_decimal(out, d, b")|", column)
+    page.word(b"v|", 0);
+    part_writers::put_decimal(page, b"(|", index);
+    part_writers::put_decimal(page, b",|", row);
+    part_writers::put_decimal(page, b")|", column);
 }
 
-fn put_source(out: &mut [u8], at: usize, o: Operand) -> usize
-    ensures { wrote result out.new ≡ written out.old at (source.print o) }
+fn put_source(page: &mut Page<'_>, o: Operand)
+    ensures { Writes page.old page.new (source.print o) }
 {
     match o {
         Operand::General(g) => {
-            let a = put_general(out, at, g);
-            put_source_region(out, a, g.region)
+            put_general(page, g);
+            put_source_region(page, g.region);
         }
         Operand::Immediate(i) => {
-            let a = format_writers::put_word(out, at, b"v|0x|", 1);
-            part_writers::put_immediate(out, a, i)
+            page.word(b"v|0x|", 1);
+            part_writers::put_immediate(page, i);
         }
     }
 }
@@ -101,28 +95,28 @@ fn as_general(o: Operand) -> General
     }
 }
 
-fn put_destination(out: &mut [u8], at: usize, o: Operand) -> usize
-    ensures { wrote result out.new ≡ written out.old at (destination.print o) }
+fn put_destination(page: &mut Page<'_>, o: Operand)
+    ensures { Writes page.old page.new (destination.print o) }
 {
     let g = as_general(o);
-    let a = put_general(out, at, g);
-    put_destination_region(out, a, g.region)
+    put_general(page, g);
+    put_destination_region(page, g.region);
 }
 
-fn put_spaced_source(out: &mut [u8], at: usize, o: Operand) -> usize
-    ensures { wrote result out.new ≡ written out.old at ((after source space).print o) }
+fn put_spaced_source(page: &mut Page<'_>, o: Operand)
+    ensures { Writes page.old page.new ((after source space).print o) }
 {
-    let a = put_source(out, at, o);
-    format_writers::put_word(out, a, b" |", 0)
+    put_source(page, o);
+    page.word(b" |", 0);
 }
 
-fn put_scalar_and_raws(out: &mut [u8], at: usize, scalar: Operand, first: Raw, second: Raw) -> usize
-    ensures { wrote result out.new ≡ written out.old at (scalar_and_raws.print (scalar, (first, second))) }
+fn put_scalar_and_raws(page: &mut Page<'_>, scalar: Operand, first: Raw, second: Raw)
+    ensures { Writes page.old page.new (scalar_and_raws.print (scalar, (first, second))) }
 {
-    let a = put_spaced_source(out, at, scalar);
-    let b = part_writers::put_raw(out, a, first);
-    let d = format_writers::put_word(out, b, b" |", 0);
-    part_writers::put_raw(out, d, second)
+    put_spaced_source(page, scalar);
+    part_writers::put_raw(page, first);
+    page.word(b" |", 0);
+    part_writers::put_raw(page, second);
 }
 
 fn carries_nothing(size: u64, scale: u64) -> bool
@@ -132,132 +126,124 @@ fn carries_nothing(size: u64, scale: u64) -> bool
 }
 
 // Block_size and Scale of a gather.
-fn put_gather_braces(out: &mut [u8], at: usize, size: u8, scale: u16) -> usize
-    ensures { wrote result out.new ≡ written out.old at (gather_braces.print (size, scale)) }
+fn put_gather_braces(page: &mut Page<'_>, size: u8, scale: u16)
+    ensures { Writes page.old page.new (gather_braces.print (size, scale)) }
 {
     let first = u64::from(size);
     let second = u64::from(scale);
     if carries_nothing(first, second) {
-        return format_writers::put_word(out, at, b"| {|", 0);
+        page.word(b"| {|", 0);
+        return;
     }
-    let a = format_writers::put_word(out, at, b"| {|", 1);
-    let b = part_writers::put_decimal(out, a, b",|", first);
-    part_writers::put_decimal(out, b, b"}|", second)
+    page.word(b"| {|", 1);
+    part_writers::put_decimal(page, b",|", first);
+    part_writers::put_decimal(page, b"}|", second);
 }
 
 // Scale of a scatter.
-fn put_scatter_braces(out: &mut [u8], at: usize, scale: u16) -> usize
-    ensures { wrote result out.new ≡ written out.old at (scatter_braces.print scale) }
+fn put_scatter_braces(page: &mut Page<'_>, scale: u16)
+    ensures { Writes page.old page.new (scatter_braces.print scale) }
 {
     if scale == 0 {
-        return format_writers::put_word(out, at, b"| {|", 0);
+        page.word(b"| {|", 0);
+        return;
     }
-    let a = format_writers::put_word(out, at, b"| {|", 1);
-    part_writers::put_decimal(out, a, b"}|", u64::from(scale))
+    page.word(b"| {|", 1);
+    part_writers::put_decimal(page, b"}|", u64::from(scale));
 }
 
-fn put_shl(out: &mut [u8], at: usize, x: Shl) -> usize
-    ensures { wrote result out.new ≡ written out.old at ((shl x.control.pred).print (instruction.Shl x)) }
+fn put_shl(page: &mut Page<'_>, x: Shl)
+    ensures { Writes page.old page.new ((shl x.control.pred).print (instruction.Shl x)) }
 {
     let to = x.destination;
     let from = x.source;
     let count = x.count;
-    let a = control_writers::put_exec(out, at, x.control.exec);
-    let b = put_destination(out, a, to);
-    let d = format_writers::put_word(out, b, b" |", 0);
-    let e = put_spaced_source(out, d, from);
-    put_source(out, e, count)
+    control_writers::put_exec(page, x.control.exec);
+    put_destination(page, to);
+    page.word(b" |", 0);
+    put_spaced_source(page, from);
+    put_source(page, count);
 }
 
-fn put_surface(out: &mut [u8], at: usize, number: u8) -> usize
-    ensures { wrote result out.new ≡ written out.old at (surface.print number) }
+fn put_surface(page: &mut Page<'_>, number: u8)
+    ensures { Writes page.old page.new (surface.print number) }
 {
-    let a = format_writers::put_word(out, at, b"T|", 0);
-    part_writers::put_decimal(out, a, b" |", u64::from(number))
+    page.word(b"T|", 0);
+    part_writers::put_decimal(page, b" |", u64::from(number));
 }
 
-fn put_gather(out: &mut [u8], at: usize, x: Gather) -> usize
-    ensures { wrote result out.new ≡ written out.old at ((gather x.control.pred).print (instruction.Gather x)) }
+fn put_gather(page: &mut Page<'_>, x: Gather)
+    ensures { Writes page.old page.new ((gather x.control.pred).print (instruction.Gather x)) }
 {
     let offset = x.offset;
-    let a = format_writers::put_word(out, at, b"1 |2 |4 |", u64::from(x.access.num_blocks));
-    let b = control_writers::put_exec(out, a, x.control.exec);
-    let d = put_surface(out, b, x.access.surface);
-    let e = put_scalar_and_raws(out, d, offset, x.element_offset, x.destination);
-    put_gather_braces(out, e, x.access.block_size, x.access.scale)
+    page.word(b"1 |2 |4 |", u64::from(x.access.num_blocks));
+    control_writers::put_exec(page, x.control.exec);
+    put_surface(page, x.access.surface);
+    put_scalar_and_raws(page, offset, x.element_offset, x.destination);
+    put_gather_braces(page, x.access.block_size, x.access.scale);
 }
 
 // Word k of the letters is of the channels k + 1.
-fn put_scatter(out: &mut [u8], at: usize, x: Scatter) -> usize
-    ensures { wrote result out.new ≡ written out.old at ((scatter x.control.pred).print (instruction.Scatter x)) }
+fn put_scatter(page: &mut Page<'_>, x: Scatter)
+    ensures { Writes page.old page.new ((scatter x.control.pred).print (instruction.Scatter x)) }
 {
     let address = x.address;
     let letters = u64::from(x.channels).saturating_sub(1);
-    let a = format_writers::put_word(
-        out,
-        at,
-        b"R |G |RG |B |RB |GB |RGB |A |RA |GA |RGA |BA |RBA |GBA |RGBA |",
-        letters,
-    );
-    let b = control_writers::put_scatter_exec(out, a, x.control.exec);
-    let d = put_scalar_and_raws(out, b, address, x.element_offset, x.source);
-    put_scatter_braces(out, d, x.scale)
+    page.word(b"R |G |RG |B |RB |GB |RGB |A |RA |GA |RGA |BA |RBA |GBA |RGBA |", letters);
+    control_writers::put_scatter_exec(page, x.control.exec);
+    put_scalar_and_raws(page, address, x.element_offset, x.source);
+    put_scatter_braces(page, x.scale);
 }
 
-fn put_message(out: &mut [u8], at: usize, m: Message) -> usize
-    ensures { wrote result out.new ≡ written out.old at (message.print (m.extended, (m.num_src, m.num_dst))) }
+fn put_message(page: &mut Page<'_>, m: Message)
+    ensures { Writes page.old page.new (message.print (m.extended, (m.num_src, m.num_dst))) }
 {
     let extended = u64::from(m.extended);
     let sources = u64::from(m.num_src);
     let destinations = u64::from(m.num_dst);
-    let a = part_writers::put_hexadecimal(out, at, b" |", extended);
-    let b = part_writers::put_decimal(out, a, b" |", sources);
-    part_writers::put_decimal(out, b, b" |", destinations)
+    part_writers::put_hexadecimal(page, b" |", extended);
+    part_writers::put_decimal(page, b" |", sources);
+    part_writers::put_decimal(page, b" |", destinations);
 }
 
-fn put_raw_send(out: &mut [u8], at: usize, x: RawSend) -> usize
-    ensures { wrote result out.new ≡ written out.old at ((raw_send x.control.pred).print (instruction.RawSend x)) }
+fn put_raw_send(page: &mut Page<'_>, x: RawSend)
+    ensures { Writes page.old page.new ((raw_send x.control.pred).print (instruction.RawSend x)) }
 {
     let descriptor = x.descriptor;
-    let a = format_writers::put_word(out, at, b" |c |", u64::from(x.modifiers));
-    let b = control_writers::put_exec(out, a, x.control.exec);
-    let d = put_message(out, b, x.message);
-    put_scalar_and_raws(out, d, descriptor, x.source, x.destination)
+    page.word(b" |c |", u64::from(x.modifiers));
+    control_writers::put_exec(page, x.control.exec);
+    put_message(page, x.message);
+    put_scalar_and_raws(page, descriptor, x.source, x.destination);
 }
 
 // The predicate and the name.
-fn put_opening(out: &mut [u8], at: usize, pred: u16, name: u64) -> usize
-    ensures { wrote result out.new ≡ written out.old at (predicate.print pred ++ word_at (words names) name) }
+fn put_opening(page: &mut Page<'_>, pred: u16, name: u64)
+    ensures { Writes page.old page.new (predicate.print pred ++ word_at (words names) name) }
 {
-    let a = control_writers::put_predicate(out, at, pred);
-    format_writers::put_word(
-        out,
-        a,
-        b"SHL |GATHER_SCALED.|SVM_SCATTER4_SCALED.|raw_send|",
-        name,
-    )
+    control_writers::put_predicate(page, pred);
+    page.word(b"SHL |GATHER_SCALED.|SVM_SCATTER4_SCALED.|raw_send|", name);
 }
 
-// The line of an instruction, at `at` and after, and the place past it.
-pub fn put_line(out: &mut [u8], at: usize, instruction: Instruction) -> usize
-    ensures { wrote result out.new ≡ written out.old at (line.print instruction) }
+// The line of an instruction.
+pub fn put_line(page: &mut Page<'_>, instruction: Instruction)
+    ensures { Writes page.old page.new (line.print instruction) }
 {
     match instruction {
         Instruction::Shl(x) => {
-            let a = put_opening(out, at, x.control.pred, 0);
-            put_shl(out, a, x)
+            put_opening(page, x.control.pred, 0);
+            put_shl(page, x);
         }
         Instruction::Gather(x) => {
-            let a = put_opening(out, at, x.control.pred, 1);
-            put_gather(out, a, x)
+            put_opening(page, x.control.pred, 1);
+            put_gather(page, x);
         }
         Instruction::Scatter(x) => {
-            let a = put_opening(out, at, x.control.pred, 2);
-            put_scatter(out, a, x)
+            put_opening(page, x.control.pred, 2);
+            put_scatter(page, x);
         }
         Instruction::RawSend(x) => {
-            let a = put_opening(out, at, x.control.pred, 3);
-            put_raw_send(out, a, x)
+            put_opening(page, x.control.pred, 3);
+            put_raw_send(page, x);
         }
     }
 }

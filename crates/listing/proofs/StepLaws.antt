@@ -15,7 +15,9 @@ use Rattle.formats.specs.Numerals.{digits_of}
 use Rattle.formats.specs.Numbers.{number}
 use Rattle.format_writers.specs.Writing.{wrote, written}
 use Rattle.formats.proofs.ShortLaws.{digits-most}
-use Rattle.format_writers.proofs.WritingLaws.{wrote_then}
+use Rattle.format_writers.specs.declared.Page.{Page}
+use Rattle.format_writers.specs.Pages.{Writes}
+use Rattle.format_writers.proofs.PageLaws.{writes_then}
 use Rattle.decoder.specs.declared.Instruction.{Instruction}
 use Rattle.decoder.specs.Decoding.{instruction_at}
 use Rattle.decoder.proofs.Laws.{accepted-within}
@@ -30,18 +32,14 @@ use Rattle.listing.proofs.DecodedLaws.{decoded-prints}
 abbrev feed : List ℕ
 feed = 0x0a ∷ 0x7c ∷ []
 
-pub refusal-written : (l m₁ m₂ m₃ m₄ m₅ : List ℕ) (at e₁ e₂ e₃ e₄ e₅ number position : ℕ) →
-    wrote e₁ m₁ ≡ written l at (word_at (words (text "! |")) 0) → wrote e₂ m₂ ≡ written m₁ e₁ (digits_of 10 number) → wrote e₃ m₃ ≡ written m₂ e₂ (word_at (words (text " |")) 0) →
-    wrote e₄ m₄ ≡ written m₃ e₃ (digits_of 10 position) → wrote e₅ m₅ ≡ written m₄ e₄ (word_at (words feed) 0) → wrote e₅ m₅ ≡ written l at (refusal_line number position)
+pub refusal-written : {a b c d e f : Page} (number position : ℕ) → Writes a b (word_at (words (text "! |")) 0) → Writes b c (digits_of 10 number) →
+    Writes c d (word_at (words (text " |")) 0) → Writes d e (digits_of 10 position) → Writes e f (word_at (words feed) 0) → Writes a f (refusal_line number position)
 unfolding refusal_line words word_at
-refusal-written l m₁ m₂ m₃ m₄ m₅ at e₁ e₂ e₃ e₄ e₅ number position p₁ p₂ p₃ p₄ p₅ =
-    wrote_then l at (text "! ") (digits_of 10 number ++ (text " " ++ (digits_of 10 position ++ line_end))) e₁ m₁ e₅ m₅ p₁
-    (wrote_then m₁ e₁ (digits_of 10 number) (text " " ++ (digits_of 10 position ++ line_end)) e₂ m₂ e₅ m₅ p₂
-    (wrote_then m₂ e₂ (text " ") (digits_of 10 position ++ line_end) e₃ m₃ e₅ m₅ p₃ (wrote_then m₃ e₃ (digits_of 10 position) line_end e₄ m₄ e₅ m₅ p₄ p₅)))
+refusal-written number position p q r s t = writes_then p (writes_then q (writes_then r (writes_then s t)))
 
-pub line-written : (l m n t : List ℕ) (at e d : ℕ) → wrote e m ≡ written l at t → wrote d n ≡ written m e (word_at (words feed) 0) → wrote d n ≡ written l at (t ++ line_end)
+pub line-written : {a b c : Page} {t : List ℕ} → Writes a b t → Writes b c (word_at (words feed) 0) → Writes a c (t ++ line_end)
 unfolding words word_at
-line-written l m n t at e d p q = wrote_then l at t line_end e m d n p q
+line-written p q = writes_then p q
 
 -- ---- how long it is
 

@@ -4,6 +4,7 @@
 
 ghost use Rattle.std.specs.Prelude.{◌≡◌, ◌||◌, ◌++◌, ◌+◌, ◌*◌, ◌≤◌, ◌<◌, ltb, length, take, is_some, unwrap_or, IfOk};
 ghost use Rattle.format_writers.specs.Writing.{wrote, written};
+ghost use Rattle.format_writers.specs.Pages.{Writes};
 ghost use Rattle.lines.specs.Mirror.Line.{line};
 ghost use Rattle.line_blocks.specs.LinesOf.{line_end};
 ghost use Rattle.line_blocks.specs.Mirror.Rows.{row};
@@ -11,28 +12,47 @@ ghost use Rattle.listing.specs.Listing.{refusal_line, step_text, step_next, list
 ghost use Rattle.listing.specs.Mirror.Parts.{is_kernel_in, kernel_in, row_listed, Goes, Passes};
 
 use decoder::Instruction;
+use format_writers::Page;
 use formats::Base;
 use line_blocks::Begun;
 use std::io::{Read, Write};
 use streams::Failure;
 
 // The line of a refusal.
-fn put_refusal(out: &mut [u8], at: usize, number: u64, position: u64) -> usize
-    ensures { wrote result out.new ≡ written out.old at (refusal_line number position) }
+fn write_refusal(page: &mut Page<'_>, number: u64, position: u64)
+    ensures { Writes page.old page.new (refusal_line number position) }
 {
-    let a = format_writers::put_word(out, at, b"! |", 0);
-    let b = format_writers::put_number(out, a, Base::Decimal, number);
-    let c = format_writers::put_word(out, b, b" |", 0);
-    let d = format_writers::put_number(out, c, Base::Decimal, position);
-    format_writers::put_word(out, d, b"\n|", 0)
+    page.word(b"! |", 0);
+    page.number(Base::Decimal, number);
+    page.word(b" |", 0);
+    page.number(Base::Decimal, position);
+    page.word(b"\n|", 0);
 }
 
 // The line of an instruction, with its end.
+fn write_instruction(page: &mut Page<'_>, instruction: Instruction)
+    ensures { Writes page.old page.new (line.print instruction ++ line_end) }
+{
+    line_writers::put_line(page, instruction);
+    page.word(b"\n|", 0);
+}
+
+// A refusal's line at a place of the output buffer, and the place past it.
+fn put_refusal(out: &mut [u8], at: usize, number: u64, position: u64) -> usize
+    ensures { wrote result out.new ≡ written out.old at (refusal_line number position) }
+{
+    let mut page = Page { out, at };
+    write_refusal(&mut page, number, position);
+    page.at
+}
+
+// An instruction's line there.
 fn put_instruction(out: &mut [u8], at: usize, instruction: Instruction) -> usize
     ensures { wrote result out.new ≡ written out.old at (line.print instruction ++ line_end) }
 {
-    let a = line_writers::put_line(out, at, instruction);
-    format_writers::put_word(out, a, b"\n|", 0)
+    let mut page = Page { out, at };
+    write_instruction(&mut page, instruction);
+    page.at
 }
 
 // How much of the output buffer is used, and where listing goes on.

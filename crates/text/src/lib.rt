@@ -4,12 +4,14 @@
 
 ghost use Rattle.std.specs.Prelude.{◌≡◌, ◌≤◌, true, length, OnOk};
 ghost use Rattle.reader.specs.Reply.{done, outcome};
-ghost use Rattle.lines.specs.Mirror.Line.{line_fits};
+ghost use Rattle.format_writers.specs.Writing.{wrote, written};
+ghost use Rattle.lines.specs.Mirror.Line.{line, line_fits};
 ghost use Rattle.text.specs.Printing.{fields_judged, printed_in, printed_into};
 ghost use Rattle.text.specs.Assembling.{number_of, column_of, assembly_of, assembled_in, assembled_into};
 ghost use Rattle.text.specs.declared.Unassembled.TheVariants.{NoLine, Encoding};
 
 use decoder::Instruction;
+use format_writers::Page;
 use refusal::Refusal;
 
 // Why a text is not assembled.
@@ -69,6 +71,15 @@ fn judge(instruction: Instruction, bytes: &mut [u8]) -> Result<(), Refusal>
     Ok(())
 }
 
+// The line at the buffer's start, and the place past it.
+fn put_line(instruction: Instruction, out: &mut [u8]) -> usize
+    ensures { wrote result out.new ≡ written out.old 0 (line.print instruction) }
+{
+    let mut page = Page { out, at: 0 };
+    line_writers::put_line(&mut page, instruction);
+    page.at
+}
+
 // The line of an instruction whose fields are taken.
 fn put_taken(instruction: Instruction, buffer: &mut [u8]) -> Result<usize, Refusal>
     requires taken { done (tt {0}) ≡ fields_judged instruction }
@@ -77,7 +88,7 @@ fn put_taken(instruction: Instruction, buffer: &mut [u8]) -> Result<usize, Refus
     ensures line { buffer.new ≡ printed_into buffer.old instruction }
 {
     let mut text = [0u8; 128];
-    let end = line_writers::put_line(&mut text, 0, instruction);
+    let end = put_line(instruction, &mut text);
     if part_writers::put_whole(buffer, &text[..end]) {
         Ok(end)
     } else {

@@ -1,9 +1,7 @@
--- `control_writers::put_exec` meets its contract: its pieces are written one after another.
-use Rattle.format_writers.proofs.WritingLaws.{wrote-two}
+-- Its parts are written one after another.
+use Rattle.format_writers.proofs.PageLaws.{writes_two}
 use Rattle.control_writers.proofs.TextLaws.{exec-text}
 use Rattle.control_writers.proofs.put_exec.Goals as goal
 
 pub returns : goal.returns
-returns c =
-    wrote-two _ _ _ _ _ _ _ _ _ c.put_mask-a.ensures c.put_word.ensures
-    (exec-text _ _ _ _ c.split-e.ensures c.mask_place.ensures c.size_place.ensures)
+returns c = writes_two c.put_mask.ensures c.word.ensures (exec-text _ _ _ _ c.split-e.ensures c.mask_place.ensures c.size_place.ensures)

@@ -1,7 +1,7 @@
--- `control_writers::put_mask` meets its contract: its pieces are written one after another.
-use Rattle.format_writers.proofs.WritingLaws.{wrote-three}
+-- Its parts are written one after another.
+use Rattle.format_writers.proofs.PageLaws.{writes_three}
 use Rattle.control_writers.proofs.TextLaws.{mask-text}
 use Rattle.control_writers.proofs.put_mask.Goals as goal
 
 pub returns : goal.returns
-returns c = wrote-three _ _ _ _ _ _ _ _ _ _ _ _ c.put_word-a.ensures c.put_number-b.ensures c.put_word.ensures (mask-text _)
+returns c = writes_three c.word.ensures c.number.ensures c.word-2.ensures (mask-text _)

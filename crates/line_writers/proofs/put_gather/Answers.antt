@@ -1,8 +1,9 @@
--- `line_writers::put_gather` meets its contract: its pieces are written one after another.
-use Rattle.format_writers.proofs.WritingLaws.{wrote-five}
+-- Its parts are written one after another.
+use Rattle.format_writers.proofs.PageLaws.{writes_five}
 use Rattle.line_writers.proofs.TextLaws.{gather-text}
 use Rattle.line_writers.proofs.put_gather.Goals as goal
 
 pub returns : goal.returns
 returns c =
-    wrote-five _ _ _ _ _ _ _ _ _ _ _ _ _ _ _ _ _ _ c.put_word-a.ensures c.put_exec-b.ensures c.put_surface-d.ensures c.put_scalar_and_raws-e.ensures c.put_gather_braces.ensures (rw c.from.ensures (gather-text _ c.args.x))
+    writes_five c.word.ensures c.put_exec.ensures c.put_surface.ensures c.put_scalar_and_raws.ensures c.put_gather_braces.ensures
+    (rw c.from.ensures (gather-text _ c.args.x))

@@ -1,8 +1,6 @@
--- `line_writers::put_opening` meets its contract: its pieces are written one after another.
-use Rattle.std.proofs.Common.{refl}
-use Rattle.format_writers.proofs.WritingLaws.{wrote-two}
+-- Its parts are written one after another.
+use Rattle.format_writers.proofs.PageLaws.{writes_then}
 use Rattle.line_writers.proofs.put_opening.Goals as goal
 
 pub returns : goal.returns
-returns c =
-    wrote-two _ _ _ _ _ _ _ _ _ c.put_predicate-a.ensures c.put_word.ensures refl
+returns c = writes_then c.put_predicate.ensures c.word.ensures

@@ -1,8 +1,7 @@
--- `line_writers::put_spaced_source` meets its contract: its pieces are written one after another.
-use Rattle.format_writers.proofs.WritingLaws.{wrote-two}
+-- Its parts are written one after another.
+use Rattle.format_writers.proofs.PageLaws.{writes_two}
 use Rattle.line_writers.proofs.TextLaws.{spaced-source-text}
 use Rattle.line_writers.proofs.put_spaced_source.Goals as goal
 
 pub returns : goal.returns
-returns c =
-    wrote-two _ _ _ _ _ _ _ _ _ c.put_source-a.ensures c.put_word.ensures (spaced-source-text _)
+returns c = writes_two c.put_source.ensures c.word.ensures (spaced-source-text _)

@@ -1,7 +1,6 @@
--- `part_writers::put_decimal` meets its contract: its pieces are written one after another.
-use Rattle.std.proofs.Common.{refl}
-use Rattle.format_writers.proofs.WritingLaws.{wrote-two}
+-- Its parts are written one after another.
+use Rattle.format_writers.proofs.PageLaws.{writes_then}
 use Rattle.part_writers.proofs.put_decimal.Goals as goal
 
 pub returns : goal.returns
-returns c = wrote-two _ _ _ _ _ _ _ _ _ c.put_number-a.ensures c.put_word.ensures refl
+returns c = writes_then c.number.ensures c.word.ensures
