@@ -10,6 +10,7 @@ ghost use Rattle.exec_table.specs.ExecLines.{meaning_text, entry_line, exec_line
 use exec_byte::Exec;
 use format_writers::Page;
 use formats::Base;
+use streams::Failure;
 
 // The rest of a byte's line.
 fn put_meaning(page: &mut Page<'_>, exec: Exec)
@@ -70,6 +71,6 @@ fn main(rt: HostRuntime) {
     let mut out = [0u8; 4096];
     let bytes = output_bytes(&mut out);
     if rt.write_all(bytes).is_err() {
-        let _ = eprintln!(rt; "exec_table: standard output cannot be written");
+        let _ = eprintln!(rt; "exec_table: {}", Failure::Unwritten);
     }
 }
