@@ -1,11 +1,8 @@
 -- Words of contracts: the state behind the references that a function borrows, and what a step answers.
-use Rattle.std.specs.Prelude.{◌≡◌, ℕ, List, Result, Ok, Err}
-use Rattle.std.specs.Borrow.{MutBor}
-use denote.Triple.Both.{Both}
+use Rattle.std.specs.Prelude.{◌≡◌, ℕ, Result, Ok, Err}
 use Rattle.refusal.specs.declared.Detail.{Detail}
 use Rattle.refusal.specs.declared.Detail.TheVariants as detail
 use Rattle.refusal.specs.Numbers.{number_of, detail_of}
-use Rattle.tables.specs.Borrowed.{Slice}
 use Rattle.step.specs.declared.Room.{Room}
 use Rattle.step.specs.declared.Stopped.{Stopped}
 use Rattle.step.specs.State.{State, state}
@@ -43,15 +40,3 @@ pub record Answers (result : Result ℕ Stopped) (t : Stepped) : Type 0 where
   pub number : number_stopped result ≡ t.effect.number
   pub detail : detail_stopped result ≡ t.effect.detail
   pub next : next_of result ≡ t.next
-
--- a slice that a function may write, as an `ensures` names it
-abbrev pub MutSlice : Type 0
-MutSlice = Both (MutBor (List ℕ)) (MutBor (List ℕ))
-
--- the state in slices, at the function's entry and at its exit; the surfaces and their taint are lent to be read
-abbrev pub lent : MutSlice → MutSlice → Slice → Slice → MutSlice → MutSlice → Both State State
-lent registers register_taint surfaces surface_taint memory memory_taint =
-    record {
-      entry = state registers.entry.now register_taint.entry.now surfaces.entry.now surface_taint.entry.now memory.entry.now memory_taint.entry.now;
-      exit = state registers.exit.now register_taint.exit.now surfaces.entry.now surface_taint.entry.now memory.exit.now memory_taint.exit.now;
-    }

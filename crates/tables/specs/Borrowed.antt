@@ -1,17 +1,10 @@
--- Words of contracts: the tables that a function borrows, as the definitions have them; and a slice that it borrows.
-use Rattle.std.specs.Prelude.{ℕ, List}
-use Rattle.std.specs.Borrow.{Bor}
-use denote.Triple.Both.{Both}
+-- Words of contracts: the tables that a function borrows, as the definitions have them.
 use Rattle.predicate_table.specs.Borrowed.{predicates_of}
 use Rattle.surface_table.specs.Surfaces.{surfaces}
 use Rattle.tables.specs.declared.Variables as lent
 use Rattle.tables.specs.declared.Tables as all
 use Rattle.tables.specs.Variables.{Variables, variables}
 use Rattle.tables.specs.Tables.{Tables, tables}
-
--- a slice as an `ensures` names it: at the function's entry, and at its exit
-abbrev pub Slice : Type 0
-Slice = Both (Bor (List ℕ)) (Bor (List ℕ))
 
 abbrev pub variables_of : lent.Variables → Variables
 variables_of t = variables t.types.now t.starts.now t.counts.now
