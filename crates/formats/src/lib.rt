@@ -79,8 +79,8 @@ fn alike(text: &[u8], i: usize, table: &[u8], j: usize) -> bool
     in_word(table, j) && i < text.len() && text[i] == table[j]
 }
 
-// How many characters the text from `at` on has in common with the word from `from` on. A chain over two slices is no plainer: it would need the
-// word's end, which is searched from here on.
+// How many characters the text from `at` on has in common with the word from `from` on. By two places: over a chain (`zip`, `take_while`, `count`)
+// the proof didn't close.
 #[tactic(auto, using(crate::proofs::ScanLaws::alike_turns))]
 fn agreement(text: &[u8], at: usize, table: &[u8], from: usize) -> usize
     ensures { result ≡ common (drop at text.now) (word_of (drop from table.now)) }

@@ -89,7 +89,8 @@ pub fn last_end(end: &[u8], begun: Begun) -> &[u8]
     if begun.is_begun() { end } else { &end[..0] }
 }
 
-// The place of the first 0x0a of a text.
+// The place of the first 0x0a of a text. As `formats::word_end` for another character: the clauses are over `line_length` and `word_of`, and one
+// function would owe both a lemma.
 fn first_end(text: &[u8]) -> Option<usize>
     ensures { result ≡ position (λ b. b == 10) text.now }
 {
