@@ -120,6 +120,8 @@ fn work(block: &[u8], line: &mut [u8], out: &mut [u8], from: State) -> State
 }
 
 // A block, its output written whenever the buffer has little room, and at the end; the line begun then.
+// `listing` has such a loop over its own state and step: one function of both was not written, since `Passes` rests on `Goes` of every step, which a closure's
+// contract would have to say over buffers that it holds.
 fn assemble_block<W: Write>(
     writer: &mut W,
     block: &[u8],

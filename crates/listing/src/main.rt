@@ -219,6 +219,8 @@ fn work(block: &[u8], line: &mut [u8], kernel: &mut [u8], out: &mut [u8], from: 
 }
 
 // A block, its output written whenever the buffer has little room, and at the end; the line begun then.
+// `assembler` has such a loop over its own state and step: one function of both was not written, since `Passes` rests on `Goes` of every step, which a closure's
+// contract would have to say over buffers that it holds.
 fn list_block<W: Write>(
     writer: &mut W,
     block: &[u8],

@@ -2,7 +2,7 @@
 ghost use Rattle.std.specs.Prelude.{◌≡◌, ◌≤◌, ◌<◌, length};
 
 // The number that a lower-case hex digit stands for. `codec_tests` has it too: `streams` and `hex_text` are no place for a digit that takes every character, a line's
-// end among them, to a number, and these two programs share no other crate.
+// end among them, to a number, and no other crate that both use reads lines of tests.
 fn digit(glyph: u8) -> u8
     ensures { result < 16 }
 {
