@@ -1,7 +1,10 @@
 -- What was read, finished and answered.
-use Rattle.std.proofs.Common.{◌≡◌, refl, sym, ap, ◌∙◌, subst, Bool, true, false, cond, not, List, [], ℕ, ◌≤◌, arith, length, take, Option, None, Some, ◌⊎◌, inl, inr}
+use Rattle.std.proofs.Common.{◌≡◌, refl, sym, ap, ◌∙◌, subst, Bool, true, false, cond, not, List, [], ℕ, ◌≤◌, ◌<◌, arith, length, take, Option, None, Some, ◌⊎◌, inl, inr}
 use Rattle.std.proofs.KnownBytes.{Consumes-whole}
 use borrow.Author.Tests.{not-true, not-false}
+use Rattle.std.specs.Prelude.{Result, Ok, Err, IsErrAnd}
+use Rattle.std.specs.Borrow.{Bor}
+use Rattle.streams.specs.declared.Failure.{Failure}
 use Rattle.tally.specs.Mirror.Reading.{Reading}
 use Rattle.feeding.specs.Mirror.Feeding.{Machine, fed, finished}
 use Rattle.output.specs.Mirror.Page.{written}
@@ -15,8 +18,10 @@ use Rattle.answering.proofs.BenchLaws.{begun, text-output}
 use Rattle.case_file.specs.Forms.{case_file_text}
 use Rattle.case_file.proofs.Whole.{case-file-output}
 use Rattle.answered_input.specs.Program.{program_output, Answers, PartKnown}
+use Rattle.answered_input.specs.Results.{bytes_of}
 use Rattle.answered_input.specs.Mirror.Ended.{ended_output}
 use Rattle.answered_input.specs.Mirror.PutsAnswer.{PutsAnswer, PutsKnown}
+use Rattle.answered_input.proofs.NoneLaws.{output-some}
 
 -- whether the input has ended, as the function asks it
 pub unended-puts : (ended : Bool) (f : Form) (r : Reading) (out : List ℕ) → not ended ≡ true → Puts (ended_output ended f r) out out 0
@@ -67,6 +72,13 @@ module _ (f : Form) (line : List ℕ) (read done : Machine) (out after : List �
     pub read-known : (known left : Option (List ℕ)) → ReadsKnown known left true (begun line) read → PutsKnown known (case_file_text f) out after used
     read-known known left r = input-known known left f line read done true true out after used l r e (ended-puts true f done.reading out after used refl p) refl
 
+    -- the answer is never empty
+    pub read-some : Reads true (begun line) read → 32813 ≤ length out → 0 < used
+    read-some r room =
+        let k : case_output f done.reading ≡ case_file_text f (text_of r.calls) =
+        ap (λ (x : Machine). case_output f x.reading) (e ∙ ap finished r.text) ∙ text-output f (text_of r.calls) line l ∙ case-file-output f (text_of r.calls) in
+        subst (λ (n : ℕ). 0 < n) (sym (puts-count _ out after used room p ∙ ap (λ (t : List ℕ). length t) k)) (output-some f (text_of r.calls))
+
 -- or not
 module _ (f : Form) (line : List ℕ) (read : Machine) (out : List ℕ) (l : length line ≡ 16386) where
   pub unread-answered : Reads false (begun line) read → PutsAnswer (case_file_text f) out out 0
@@ -74,6 +86,11 @@ module _ (f : Form) (line : List ℕ) (read : Machine) (out : List ℕ) (l : len
 
   pub unread-known : (known left : Option (List ℕ)) → ReadsKnown known left false (begun line) read → PutsKnown known (case_file_text f) out out 0
   unread-known known left r = input-known known left f line read (finished read) false false out out 0 l r refl (unended-puts false f (finished read).reading out refl) refl
+
+-- an error that `?` hands on gives no bytes
+pub err-empty : (r : Result (Bor (List ℕ)) Failure) (e : Failure) → IsErrAnd r (λ (x : Failure). x ≡ e) → bytes_of r ≡ []
+err-empty (Ok bytes) e h = absurd h
+err-empty (Err x) e h = refl
 
 -- the part of a buffer of 32,813 bytes that was written
 module _ (output : List ℕ → List ℕ) (out after : List ℕ) (used : ℕ) (room : 32813 ≤ length out) (p : PutsAnswer output out after used) where

@@ -2,18 +2,23 @@
 
 #![tactic(auto)]
 
+ghost use Rattle.std.specs.Prelude.{◌≤◌, ◌<◌, length, IfOk};
 ghost use Rattle.case_file.specs.Forms.{case_file_text};
+ghost use Rattle.answered_input.specs.Program.{Answers, PartKnown};
+ghost use Rattle.answered_input.specs.Results.{count_of, bytes_of};
 ghost use Rattle.answered_input.specs.Mirror.PutsAnswer.{PutsAnswer, PutsKnown};
 
 use answering::{Form, Storage};
 use std::io::Read;
+use streams::Failure;
 use tally::{ContentBuffers, TableBuffers, TableViews};
 
-// The answer to an input, to the output buffer's start, and how many bytes it has: none if the input was not read to its end. What does not fit is
-// lost; 32,813 bytes hold all of it.
-pub fn answer_input<R: Read>(reader: &mut R, form: Form, out: &mut [u8]) -> usize
-    ensures some_calls { PutsAnswer (case_file_text form) out.old out.new result }
-    ensures known_bytes { PutsKnown (R.remaining reader.old) (case_file_text form) out.old out.new result }
+// The answer to an input that was read to its end, to the output buffer's start, and how many bytes it has. What does not fit is lost; 32,813 bytes hold
+// all of it.
+pub fn answer_input<R: Read>(reader: &mut R, form: Form, out: &mut [u8]) -> Result<usize, Failure>
+    ensures some_calls { PutsAnswer (case_file_text form) out.old out.new (count_of result) }
+    ensures known_bytes { PutsKnown (R.remaining reader.old) (case_file_text form) out.old out.new (count_of result) }
+    ensures never_none { 32813 ≤ length out.old → IfOk result (λ used. 0 < used) }
 {
     let mut line = [0u8; 16386];
     let mut storage = Storage {
@@ -50,10 +55,10 @@ pub fn answer_input<R: Read>(reader: &mut R, form: Form, out: &mut [u8]) -> usiz
     };
     let read = match input::read_all(reader, &mut line, &mut contents, &mut tables) {
         Ok(state) => state,
-        Err(_) => return 0,
+        Err(_) => return Err(Failure::Unread),
     };
     let state = feeding::finish(&line, &mut contents, &mut tables, read);
-    answering::answer(
+    Ok(answering::answer(
         state.case,
         storage,
         &kernel,
@@ -68,5 +73,16 @@ pub fn answer_input<R: Read>(reader: &mut R, form: Form, out: &mut [u8]) -> usiz
         },
         form,
         out,
-    )
+    ))
+}
+
+// The answer to an input, in a buffer that has room for all of it: what is handed on to be written.
+pub fn output_bytes<'a, R: Read>(reader: &mut R, form: Form, out: &'a mut [u8]) -> Result<&'a [u8], Failure>
+    requires { 32813 ≤ length out.old }
+    ensures some_calls { Answers (case_file_text form) (bytes_of result) }
+    ensures known_bytes { PartKnown (R.remaining reader.old) (case_file_text form) (bytes_of result) }
+    ensures never_empty { IfOk result (λ bytes. 0 < length bytes.now) }
+{
+    let used = answer_input(reader, form, out)?;
+    Ok(&out[..used])
 }

@@ -5,7 +5,7 @@ use Rattle.tally.specs.Mirror.Reading.{reading}
 use Rattle.answering.specs.Mirror.Puts.{Puts}
 use Rattle.answering.specs.Mirror.Bench.{case_output}
 use Rattle.std.proofs.Math.ListN.{length-replicate}
-use Rattle.answered_input.proofs.AnswersLaws.{read-answered, read-known, unread-answered, unread-known}
+use Rattle.answered_input.proofs.AnswersLaws.{read-answered, read-known, read-some, unread-answered, unread-known}
 use Rattle.answered_input.proofs.answer_input.Goals as goal
 
 pub returns-in-Err-clause-some_calls : goal.returns-in-Err-clause-some_calls
@@ -25,3 +25,8 @@ pub returns-clause-known_bytes : goal.returns-clause-known_bytes
 returns-clause-known_bytes g c =
     let h : Puts (case_output c.args.form (reading c.finish-state.result.case (contents_of c.finish-state.new.contents) (tables_of c.finish-state.new.tables))) c.args.out.now c.answer.new.out c.answer.result = search rules in
     read-known _ _ _ _ _ _ _ (length-replicate {A = ℕ} 16386 0) c.finish-state.ensures.machine h _ _ c.in-Ok.ensures.known_bytes
+
+pub returns-clause-never_none : goal.returns-clause-never_none
+returns-clause-never_none g c room =
+    let h : Puts (case_output c.args.form (reading c.finish-state.result.case (contents_of c.finish-state.new.contents) (tables_of c.finish-state.new.tables))) c.args.out.now c.answer.new.out c.answer.result = search rules in
+    read-some _ _ _ _ _ _ _ (length-replicate {A = ℕ} 16386 0) c.finish-state.ensures.machine h c.in-Ok.ensures.some_calls room
