@@ -26,7 +26,7 @@ fn set_byte_past(to: &mut Buffer<'_>, at: usize, k: usize, value: u8, tainted: b
     set_past(to.taint, at, k, u8::from(tainted));
 }
 
-// Four bytes that are there.
+// Four bytes that are there, one by one: over `copy_from_slice` the proof didn't close.
 fn set_four(bytes: &mut [u8], at: usize, four: [u8; 4])
     requires { at + 4 ≤ length bytes.old }
     ensures { bytes.new ≡ four_set bytes.old at four }
