@@ -1,8 +1,8 @@
 -- Four and eight bytes at once, where they lie inside: what a store of them writes.
 use Prim.Native.Nat.{ℕ, zero, suc, ◌+◌, ◌-◌, ◌*◌, ◌/◌, ◌%◌, ◌<◌}
-use mathlib.Core.Path.{◌≡◌, refl}
+use mathlib.Core.Path.{◌≡◌, refl, ap, ◌∙◌}
 use mathlib.Core.Bool.{Bool, true, false, ◌&&◌}
-use mathlib.Core.List.{List, ◌++◌}
+use mathlib.Core.List.{List, [], ◌∷◌, ◌++◌}
 use native.Mathlib.Omega.{arith}
 use mir.Val.{bool_byte}
 use lib.Dec.{leb}
@@ -13,6 +13,8 @@ use Rattle.cells.specs.declared.Buffer as lent
 use Rattle.cells.specs.Lent.{held, Becomes, Leads}
 use Rattle.cells.proofs.LentLaws.{leads-bytes, leads-taint}
 use Rattle.cells.specs.Writes.{Write, written, written_all, number_writes, copy_writes}
+use Rattle.std.specs.Int.{w32, to_le_bytes}
+use Rattle.cell_writes.specs.Mirror.FourSet.{four_set}
 use Rattle.cell_writes.specs.Mirror.CopyRoom.{copy_room, CopyRoom}
 use Rattle.cells.proofs.BoolLaws.{both_true}
 
@@ -109,3 +111,15 @@ module _ (l t l' t' : List ℕ) (at : ℕ) where
   pub four-marked : (b : Buffer) (from m n o r : ℕ) (e f g h : Bool) → l' ≡ set (set (set (set l at (get_or b.bytes from 0)) (at + 1) (get_or b.bytes (from + 1) 0)) (at + 2) (get_or b.bytes (from + 2) 0)) (at + 3) (get_or b.bytes (from + 3) 0) → t' ≡ set (set (set (set t at m) (at + 1) n) (at + 2) o) (at + 3) r → m ≡ mark_of e → e ≡ is_tainted (get_or b.taint from 0) → n ≡ mark_of f → f ≡ is_tainted (get_or b.taint (from + 1) 0) → o ≡ mark_of g → g ≡ is_tainted (get_or b.taint (from + 2) 0) → r ≡ mark_of h → h ≡ is_tainted (get_or b.taint (from + 3) 0) → buffer l' t' ≡ written_all (copy_writes b from at 4) (buffer l t)
   four-marked b from m n o r e f g h p q m₁ e₁ m₂ e₂ m₃ e₃ m₄ e₄ =
       four-copied l t l' t' at b from p (rw (← e₁, ← e₂, ← e₃, ← e₄, ← m₁, ← m₂, ← m₃, ← m₄) q)
+
+-- the bytes of a number's low dword, as the library takes them
+dword-bytes : (v : ℕ) → to_le_bytes w32 (v % 4294967296) ≡ v % 256 ∷ v / 256 % 256 ∷ v / 256 / 256 % 256 ∷ v / 256 / 256 / 256 % 256 ∷ []
+dword-bytes v =
+    let a : v % 4294967296 % 256 ≡ v % 256 = omega arith in
+    let b : v % 4294967296 / 256 % 256 ≡ v / 256 % 256 = omega arith in
+    let c : v % 4294967296 / 65536 % 256 ≡ v / 256 / 256 % 256 = omega arith in
+    let d : v % 4294967296 / 16777216 % 256 ≡ v / 256 / 256 / 256 % 256 = omega arith in
+    rw (a, b, c, d)
+
+pub dword-set : (l l' four : List ℕ) (at v : ℕ) → four ≡ to_le_bytes w32 (v % 4294967296) → l' ≡ four_set l at four → l' ≡ set (set (set (set l at (v % 256)) (at + 1) (v / 256 % 256)) (at + 2) (v / 256 / 256 % 256)) (at + 3) (v / 256 / 256 / 256 % 256)
+dword-set l l' four at v e h = h ∙ ap (λ (bytes : List ℕ). four_set l at bytes) (e ∙ dword-bytes v)

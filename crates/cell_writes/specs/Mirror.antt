@@ -1,1 +1,2 @@
 pub mod CopyRoom
+pub mod FourSet

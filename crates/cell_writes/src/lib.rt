@@ -6,6 +6,7 @@ ghost use Rattle.std.specs.Prelude.{◌≡◌, ◌+◌, ◌%◌, ◌≤◌, leng
 ghost use Rattle.cells.specs.Buffer.{mark_of};
 ghost use Rattle.cells.specs.Writes.{written, written_all, number_writes, copy_writes};
 ghost use Rattle.cells.specs.Lent.{viewed, held, Becomes};
+ghost use Rattle.cell_writes.specs.Mirror.FourSet.{four_set};
 ghost use Rattle.cell_writes.specs.Mirror.CopyRoom.{CopyRoom, copy_room};
 
 use cells::{Buffer, View};
@@ -25,28 +26,25 @@ fn set_byte_past(to: &mut Buffer<'_>, at: usize, k: usize, value: u8, tainted: b
     set_past(to.taint, at, k, u8::from(tainted));
 }
 
-// Four bytes that are there.
-fn set_four(bytes: &mut [u8], at: usize, first: u8, second: u8, third: u8, fourth: u8)
+// Four bytes that are there, one by one: over `copy_from_slice` the proof didn't close.
+fn set_four(bytes: &mut [u8], at: usize, four: [u8; 4])
     requires { at + 4 ≤ length bytes.old }
-    ensures { bytes.new ≡ set (set (set (set bytes.old at first) (at + 1) second) (at + 2) third) (at + 3) fourth }
+    ensures { bytes.new ≡ four_set bytes.old at four }
 {
-    bytes[at] = first;
-    bytes[at + 1] = second;
-    bytes[at + 2] = third;
-    bytes[at + 3] = fourth;
+    bytes[at] = four[0];
+    bytes[at + 1] = four[1];
+    bytes[at + 2] = four[2];
+    bytes[at + 3] = four[3];
 }
 
+// `as`, proved to keep the number: `try_from` would have an Err that no value reaches.
 fn set_dword(to: &mut Buffer<'_>, at: usize, value: u64, tainted: bool)
     requires { (at + 4 ≤ length to.old.bytes.now) × (at + 4 ≤ length to.old.taint.now) }
     ensures { Becomes to.old to.new (written_all (number_writes at 4 (mark_of tainted) value) (held to.old)) }
 {
-    let mark = u8::from(tainted);
-    let first = (value % 256) as u8;
-    let second = (value / 256 % 256) as u8;
-    let third = (value / 256 / 256 % 256) as u8;
-    let fourth = (value / 256 / 256 / 256 % 256) as u8;
-    set_four(to.bytes, at, first, second, third, fourth);
-    set_four(to.taint, at, mark, mark, mark, mark);
+    let dword = (value % 4294967296) as u32;
+    set_four(to.bytes, at, dword.to_le_bytes());
+    set_four(to.taint, at, [u8::from(tainted); 4]);
 }
 
 fn set_qword(to: &mut Buffer<'_>, at: usize, value: u64, tainted: bool)
@@ -91,19 +89,18 @@ fn copy_four(from: View<'_>, source_at: usize, to: &mut Buffer<'_>, at: usize)
 {
     let bytes = from.bytes;
     let taint = from.taint;
-    set_four(
-        to.bytes,
-        at,
+    let four = [
         bytes[source_at],
         bytes[source_at + 1],
         bytes[source_at + 2],
         bytes[source_at + 3],
-    );
+    ];
+    set_four(to.bytes, at, four);
     let first = u8::from(cell_reads::is_tainted(taint[source_at]));
     let second = u8::from(cell_reads::is_tainted(taint[source_at + 1]));
     let third = u8::from(cell_reads::is_tainted(taint[source_at + 2]));
     let fourth = u8::from(cell_reads::is_tainted(taint[source_at + 3]));
-    set_four(to.taint, at, first, second, third, fourth);
+    set_four(to.taint, at, [first, second, third, fourth]);
 }
 
 fn copy_fours(from: View<'_>, source_at: usize, to: &mut Buffer<'_>, at: usize, count: usize)
@@ -148,7 +145,7 @@ pub fn copy(from: View<'_>, source_at: usize, to: &mut Buffer<'_>, at: usize, co
     }
 }
 
-// Four bytes of one buffer to another, each with its taint.
+// Four bytes of one buffer to another, each with its taint: `copy` at 4 without its loop, since a scatter writes nothing but dwords.
 pub fn copy_dword(from: View<'_>, source_at: usize, to: &mut Buffer<'_>, at: usize)
     ensures { Becomes to.old to.new (written_all (copy_writes (viewed from.entry) source_at at 4) (held to.old)) }
 {
