@@ -15,7 +15,7 @@ pub fn elements_needed(exec: u8, code: u8) -> u32
 
 // The number of enabled channels below one.
 #[tactic(auto, using(crate::proofs::ChannelLaws::enabled_turn), unfolding(crate::specs::Needed::enabled_below))]
-pub fn enabled_below(channels: u8, channel: u8) -> u8
+fn enabled_below(channels: u8, channel: u8) -> u8
     requires { channel ≤ 8 }
     ensures { result ≡ enabled_below channels channel }
 {
