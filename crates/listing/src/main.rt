@@ -135,11 +135,7 @@ fn take_line(line: &[u8], begun: Begun, kernel: &mut [u8], out: &mut [u8], at: u
     requires line_len_bound { length line.now ≤ 2 * length kernel.old }
     ensures { (take result.out out.new ++ listed_from (take result.size kernel.new) 0 ≡ take at out.old ++ row_listed (row line.now begun.used begun.long)) × (result.out ≤ length out.new) }
 {
-    match load(
-        line_blocks::first(line, begun.used),
-        begun.long,
-        kernel,
-    ) {
+    match load(line_blocks::first(line, begun.used), begun.long, kernel) {
         Some(size) => Taken { size, out: at },
         None => Taken {
             size: 0,
