@@ -99,19 +99,6 @@ wrote_then l at t u e m d n p q =
     (written-end m (at + length t) u ∙ ap (λ (r : ℕ). within r (at + length t + length u)) k ∙ ap (within (length l)) a ∙ sym (written-end l at (t ++ u)))
     (written-buffer m (at + length t) u ∙ ap (λ (b : List ℕ). placed b (at + length t) u) y ∙ sym (placed-append l at t u) ∙ sym (written-buffer l at (t ++ u)))
 
--- the pieces of a text, written one after another
-pub wrote-two : (l : List ℕ) (at : ℕ) (t u v : List ℕ) (e : ℕ) (m : List ℕ) (d : ℕ) (n : List ℕ) → wrote e m ≡ written l at t → wrote d n ≡ written m e u → v ≡ t ++ u → wrote d n ≡ written l at v
-wrote-two l at t u v e m d n p q k = wrote_then l at t u e m d n p q ∙ ap (written l at) (sym k)
-
-pub wrote-three : (l : List ℕ) (at : ℕ) (t u w v : List ℕ) (e : ℕ) (m : List ℕ) (d : ℕ) (n : List ℕ) (f : ℕ) (o : List ℕ) → wrote e m ≡ written l at t → wrote d n ≡ written m e u → wrote f o ≡ written n d w → v ≡ t ++ (u ++ w) → wrote f o ≡ written l at v
-wrote-three l at t u w v e m d n f o p q r k = wrote-two l at t (u ++ w) v e m f o p (wrote_then m e u w d n f o q r) k
-
-pub wrote-four : (l : List ℕ) (at : ℕ) (t u w x v : List ℕ) (e : ℕ) (m : List ℕ) (d : ℕ) (n : List ℕ) (f : ℕ) (o : List ℕ) (g : ℕ) (p : List ℕ) → wrote e m ≡ written l at t → wrote d n ≡ written m e u → wrote f o ≡ written n d w → wrote g p ≡ written o f x → v ≡ t ++ (u ++ (w ++ x)) → wrote g p ≡ written l at v
-wrote-four l at t u w x v e m d n f o g p q r s h k = wrote-three l at t u (w ++ x) v e m d n g p q r (wrote_then n d w x f o g p s h) k
-
-pub wrote-five : (l : List ℕ) (at : ℕ) (t u w x y v : List ℕ) (e : ℕ) (m : List ℕ) (d : ℕ) (n : List ℕ) (f : ℕ) (o : List ℕ) (g : ℕ) (p : List ℕ) (a : ℕ) (b : List ℕ) → wrote e m ≡ written l at t → wrote d n ≡ written m e u → wrote f o ≡ written n d w → wrote g p ≡ written o f x → wrote a b ≡ written p g y → v ≡ t ++ (u ++ (w ++ (x ++ y))) → wrote a b ≡ written l at v
-wrote-five l at t u w x y v e m d n f o g p a b q r s h i k = wrote-four l at t u w (x ++ y) v e m d n f o a b q r s (wrote_then o f x y g p a b h i) k
-
 -- nothing is written
 pub wrote_none : (l t : List ℕ) (at : ℕ) → at ≤ length l → t ≡ [] → wrote at l ≡ written l at t
 unfolding written placed
@@ -119,10 +106,6 @@ wrote_none l t at h e = rw e (both-are (wrote at l) (written l at []) (sym (ap (
   where
     zeros : (n : ℕ) → n + 0 ≡ n
     zeros n = omega arith
-
--- the next character of a text
-pub wrote-turn : (l t u : List ℕ) (at c e : ℕ) (m : List ℕ) → wrote e m ≡ written l at (c ∷ []) → t ≡ c ∷ u → written m e u ≡ written l at t
-wrote-turn l t u at c e m p q = wrote_then l at (c ∷ []) u e m (written m e u).end (written m e u).buffer p refl ∙ ap (written l at) (sym q)
 
 -- one character: it stands at its place, if the buffer goes so far
 pub wrote_one : (l : List ℕ) (at c : ℕ) → at < length l → wrote (at + 1) (set l at c) ≡ written l at (c ∷ [])

@@ -45,7 +45,10 @@ fn put_destination_region(page: &mut Page<'_>, region: u16)
 {
     let word = u64::from(region);
     let first = region_opening(word);
-    page.word(b"<n;|<0;|<1;|<2;|<4;|<8;|<16;|<32;|<0>|<1>|<2>|<4>|<8>|<16>|<32>|", first);
+    page.word(
+        b"<n;|<0;|<1;|<2;|<4;|<8;|<16;|<32;|<0>|<1>|<2>|<4>|<8>|<16>|<32>|",
+        first,
+    );
     if first < 8 {
         page.word(b"n,|0,|1,|2,|4,|8,|16,|32,|", word / 16 % 16);
         page.word(b"n>|0>|1>|2>|4>|8>|16>|32>|", word / 256 % 16);
@@ -189,7 +192,10 @@ fn put_scatter(page: &mut Page<'_>, x: Scatter)
 {
     let address = x.address;
     let letters = u64::from(x.channels).saturating_sub(1);
-    page.word(b"R |G |RG |B |RB |GB |RGB |A |RA |GA |RGA |BA |RBA |GBA |RGBA |", letters);
+    page.word(
+        b"R |G |RG |B |RB |GB |RGB |A |RA |GA |RGA |BA |RBA |GBA |RGBA |",
+        letters,
+    );
     control_writers::put_scatter_exec(page, x.control.exec);
     put_scalar_and_raws(page, address, x.element_offset, x.source);
     put_scatter_braces(page, x.scale);

@@ -1,5 +1,5 @@
 -- One line more, the last one too.
-use Rattle.std.proofs.Common.{◌≡◌, ℕ, ◌+◌, refl, arith, ap, sym}
+use Rattle.std.proofs.Common.{◌≡◌, ◌+◌, refl, arith, ap, sym}
 use Rattle.format_writers.proofs.PageLaws.{writes_as}
 use Rattle.exec_table.specs.ExecLines.{lines_below}
 use Rattle.exec_table.proofs.LineLaws.{no_lines, one_more_line}
