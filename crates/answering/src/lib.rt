@@ -58,6 +58,7 @@ fn run_case(case: Case, kernel: &[u8], tables: TableViews<'_>, room: &mut Room<'
     ensures small { (result.completed ≤ 4096) × (result.position ≤ 4096) }
     ensures room { Goes room.old room.new (state_of room.new) }
 {
+    // by hand: a `From` would stand in `step` or in `tally`, and neither stands on the other
     let constants = Constants {
         base: case.settings.base,
         mask: case.settings.mask,

@@ -68,6 +68,7 @@ fn assemble_line(characters: &[u8], out: &mut [u8], at: usize) -> usize
     let mut bytes = [0u8; 64];
     match text::read_into(characters, &mut bytes) {
         Ok(count) => put_encoding(out, at, line_blocks::first(&bytes, count)),
+        // `as`: there is no `u64::from` of a `usize`
         Err(refusal) => put_column(out, at, refusal.column() as u64),
     }
 }

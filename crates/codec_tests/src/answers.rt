@@ -22,6 +22,7 @@ fn encode(rt: &impl Print, instruction: Instruction, room: usize) -> io::Result<
 }
 
 // The encoder's answers for exactly the right size, one less and one more.
+// As `print_again`, which prints: with the step as a closure neither would be shorter.
 fn encode_again(rt: &impl Print, instruction: Instruction, size: usize) -> io::Result<()> {
     if size == 0 {
         return Ok(());

@@ -2,7 +2,7 @@
 use std::io;
 
 pub(crate) fn wide(v: u8) -> usize {
-    v as usize
+    usize::from(v)
 }
 
 pub(crate) fn text(rt: &impl Print, s: &[u8]) -> io::Result<()> {

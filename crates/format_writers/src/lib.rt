@@ -92,6 +92,7 @@ impl Page<'_> {
         self.character(hex_text::character(d));
     }
 
+    // `as`, proved to keep the number: a `try_from` would have an Err that no value reaches.
     fn digits(&mut self, base: u64, n: u64)
         requires { (2 ≤ base) × (base ≤ 16) }
         ensures { Writes self.old self.new (digits_of base n) }

@@ -72,6 +72,7 @@ fn list_instruction(kernel: &[u8], at: usize, out: &mut [u8], used: usize) -> St
             next: cursor.at,
         },
         Err(refusal) => Step {
+            // `as`: there is no `u64::from` of a `usize`
             used: put_refusal(out, used, u64::from(refusal.number()), at as u64),
             next: kernel.len(),
         },

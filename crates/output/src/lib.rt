@@ -33,6 +33,8 @@ fn put(out: &mut [u8], at: usize, character: u8) -> usize
     }
 }
 
+// Here and below buffer and place go one by one, as `page` and `written` (specs/Mirror/Page.antt) take them; of a struct lent `&mut` each contract
+// would owe besides that the buffer stays the caller's.
 fn put_byte(out: &mut [u8], at: usize, byte: u8) -> usize
     ensures { page out.new result ≡ written (hex_of (byte ∷ [])) (page out.old at) }
 {

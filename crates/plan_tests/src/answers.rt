@@ -124,22 +124,14 @@ fn elements(rt: &impl Print, elements: Elements, lanes: usize) -> io::Result<()>
 }
 
 // The predicate's bits, the block's bytes, the channels with the dwords from one's data to the next one's, and where the surface lies.
-fn others(
-    rt: &impl Print,
-    bits: u32,
-    bytes: u8,
-    channels: u8,
-    stride: u8,
-    start: u32,
-    length: u32,
-) -> io::Result<()> {
+fn others(rt: &impl Print, plan: Plan) -> io::Result<()> {
     output::text(rt, b" |")?;
-    output::word(rt, bits)?;
-    output::number(rt, u64::from(bytes))?;
-    output::number(rt, u64::from(channels))?;
-    output::number(rt, u64::from(stride))?;
-    output::number(rt, u64::from(start))?;
-    output::number(rt, u64::from(length))
+    output::word(rt, plan.bits)?;
+    output::number(rt, u64::from(plan.bytes))?;
+    output::number(rt, u64::from(plan.channels))?;
+    output::number(rt, u64::from(plan.stride))?;
+    output::number(rt, u64::from(plan.start))?;
+    output::number(rt, u64::from(plan.length))
 }
 
 fn accepted(rt: &impl Print, plan: Plan) -> io::Result<()> {
@@ -147,15 +139,7 @@ fn accepted(rt: &impl Print, plan: Plan) -> io::Result<()> {
     elements(rt, plan.left, lanes)?;
     elements(rt, plan.right, lanes)?;
     elements(rt, plan.payload, lanes)?;
-    others(
-        rt,
-        plan.bits,
-        plan.bytes,
-        plan.channels,
-        plan.stride,
-        plan.start,
-        plan.length,
-    )
+    others(rt, plan)
 }
 
 // The operand's place; a pair, which nothing tells before data are read, would be seen too.

@@ -25,6 +25,7 @@ pub(crate) fn byte(line: &[u8], at: usize) -> u8
     16 * digit_at(line, 2 * at) + digit_at(line, 2 * at + 1)
 }
 
+// Here and below by sums: an array for `from_le_bytes` would be no plainer.
 pub(crate) fn word(line: &[u8], at: usize) -> u16
     requires { at ≤ 1048575 }
 {
