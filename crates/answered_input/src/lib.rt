@@ -77,7 +77,11 @@ pub fn answer_input<R: Read>(reader: &mut R, form: Form, out: &mut [u8]) -> Resu
 }
 
 // The answer to an input, in a buffer that has room for all of it: what is handed on to be written.
-pub fn output_bytes<'a, R: Read>(reader: &mut R, form: Form, out: &'a mut [u8]) -> Result<&'a [u8], Failure>
+pub fn output_bytes<'a, R: Read>(
+    reader: &mut R,
+    form: Form,
+    out: &'a mut [u8],
+) -> Result<&'a [u8], Failure>
     requires { 32813 ≤ length out.old }
     ensures some_calls { Answers (case_file_text form) (bytes_of result) }
     ensures known_bytes { PartKnown (R.remaining reader.old) (case_file_text form) (bytes_of result) }

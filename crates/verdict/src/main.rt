@@ -23,8 +23,9 @@ fn output_bytes<'a, R: Read>(reader: &mut R, out: &'a mut [u8]) -> Result<&'a [u
 
 fn main(rt: HostRuntime) {
     let mut out = [0u8; 32813];
-    let written = output_bytes(&mut rt.stdin(), &mut out)
-        .and_then(|bytes| rt.write_all(bytes).map_err(|_| Failure::Unwritten));
+    let written = output_bytes(&mut rt.stdin(), &mut out).and_then(|bytes| rt
+        .write_all(bytes)
+        .map_err(|_| Failure::Unwritten));
     if let Err(failure) = written {
         let _ = eprintln!(rt; "verdict: {failure}");
     }
