@@ -71,12 +71,8 @@ fn answer_line(rt: &impl Print, line: &[u8]) -> io::Result<()> {
 }
 
 fn answer_lines(rt: &impl Print, text: &[u8]) -> io::Result<()> {
-    let mut at = 0;
-    // from line to line: std splits no slice
-    while at < text.len() {
-        let next = streams::next_line(text, at);
-        answer_line(rt, &text[at..next])?;
-        at = next;
+    for line in text.split_inclusive(|byte| *byte == b'\n') {
+        answer_line(rt, line)?;
     }
     Ok(())
 }

@@ -57,7 +57,7 @@ fn answer_lines(rt: &impl Print, text: &[u8]) -> io::Result<()> {
     let mut variables = 0;
     let mut predicates = 0;
     let mut surfaces = 0;
-    // from line to line: std splits no slice
+    // from line to line: the latest line of each table is kept by its place
     while at < text.len() {
         let next = streams::next_line(text, at);
         variables = latest(text, at, b'v', variables);

@@ -102,13 +102,13 @@ pub(crate) fn bits_of(line: &[u8]) -> [u32; 257]
 }
 
 // A word of each entry: the first entry's at `first`, the others' `stride` bytes apart, and `past` behind the last one.
-pub(crate) fn words_of(line: &[u8], first: usize, stride: u8, past: u16) -> [u16; 257]
-    requires { (first ≤ 16) × (stride ≤ 15) }
+pub(crate) fn words_of(line: &[u8], first: usize, stride: usize, past: u16) -> [u16; 257]
+    requires { (first ≤ 16) × (stride ≤ 16) }
     ensures { 257 ≡ length result }
 {
     table_of(
         word(line, 0),
         past,
-        |i| word(line, usize::from(stride) * usize::from(i) + first),
+        |i| word(line, stride * usize::from(i) + first),
     )
 }

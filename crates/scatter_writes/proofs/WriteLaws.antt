@@ -5,13 +5,18 @@ use mathlib.Core.Bool.{Bool, false}
 use mathlib.Core.List.{List}
 use lib.ListN.{get_or}
 use Rattle.cells.specs.Buffer.{Buffer}
+use Rattle.cells.specs.Writes.{written_all, copy_writes}
 use Rattle.cells.specs.Over.{among_from, each}
 use Rattle.cells.proofs.AmongLaws.{among-begun}
 use Rattle.bits.specs.Bits.{bit}
 use Rattle.payloads.specs.Needed.{enabled_below}
 use Rattle.scatter_pairs.specs.declared.Pairs.{Pairs}
-use Rattle.scatter_pairs.specs.Mirror.Search.{enabled_lanes}
+use Rattle.scatter_pairs.specs.Mirror.Search.{target_from, enabled_lanes}
 use Rattle.scatter_writes.specs.Mirror.Writes.{row_place, pair_writes, row_writes, all_writes}
+
+pub pair-written : (base : ℕ) (room : Buffer) (begin sum asked c lane address to : ℕ) (b b' : Buffer) → b' ≡ written_all (copy_writes room (begin + 4 * lane) to 4) b → asked ≡ sum → address ≡ target_from asked c → to ≡ address - base → b' ≡ written_all (pair_writes base room begin sum c lane) b
+unfolding pair_writes
+pair-written base room begin sum asked c lane address to b b' made told a t = rw (← told, ← a, ← t) made
 
 module _ (base : ℕ) (room : Buffer) where
   pub row-begun : (begin : ℕ) (on : List Bool) (sums : List ℕ) (lanes c : ℕ) → each (λ i. pair_writes base room begin (get_or sums i 0) c i) (among_from (λ k. get_or on k false) 0 (lanes - 0)) ≡ row_writes base room begin on sums lanes c
