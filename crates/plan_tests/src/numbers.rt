@@ -20,39 +20,39 @@ fn digit_at(line: &[u8], at: usize) -> u8
 }
 
 pub(crate) fn byte(line: &[u8], at: usize) -> u8
-    requires { at ≤ 1048576 }
+    requires { at ≤ 2097152 }
 {
     16 * digit_at(line, 2 * at) + digit_at(line, 2 * at + 1)
 }
 
 // Here and below by sums: an array for `from_le_bytes` would be no plainer.
 pub(crate) fn word(line: &[u8], at: usize) -> u16
-    requires { at ≤ 1048575 }
+    requires { at ≤ 2097151 }
 {
     u16::from(byte(line, at)) + 256 * u16::from(byte(line, at + 1))
 }
 
 pub(crate) fn dword(line: &[u8], at: usize) -> u32
-    requires { at ≤ 1048573 }
+    requires { at ≤ 2097149 }
 {
     u32::from(word(line, at)) + 65536 * u32::from(word(line, at + 2))
 }
 
 pub(crate) fn qword(line: &[u8], at: usize) -> u64
-    requires { at ≤ 1048569 }
+    requires { at ≤ 2097145 }
 {
     u64::from(dword(line, at)) + 4294967296 * u64::from(dword(line, at + 4))
 }
 
 pub(crate) fn size(line: &[u8], at: usize) -> usize
-    requires { at ≤ 1048575 }
+    requires { at ≤ 2097151 }
 {
     usize::from(word(line, at))
 }
 
 // A number of entries that a table of 257 can have.
 pub(crate) fn entries(line: &[u8], at: usize) -> usize
-    requires { at ≤ 1048575 }
+    requires { at ≤ 2097151 }
     ensures { result ≤ 257 }
 {
     size(line, at) % 258
