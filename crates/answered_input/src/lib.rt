@@ -76,17 +76,16 @@ pub fn answer_input<R: Read>(reader: &mut R, form: Form, out: &mut [u8]) -> Resu
     ))
 }
 
-// The answer to an input, in a buffer that has room for all of it: what is handed on to be written.
+// The answer to an input, in a buffer: what is handed on to be written. 32,813 bytes have room for all of it; what does not fit is lost.
 pub fn output_bytes<'a, R: Read>(
     reader: &mut R,
     form: Form,
     out: &'a mut [u8],
 ) -> Result<&'a [u8], Failure>
-    requires { 32813 ≤ length out.old }
-    ensures some_calls { Answers (case_file_text form) (bytes_of result) }
-    ensures known_bytes { PartKnown (R.remaining reader.old) (case_file_text form) (bytes_of result) }
-    ensures never_empty { IfOk result (λ bytes. 0 < length bytes.now) }
+    ensures some_calls { 32813 ≤ length out.old → Answers (case_file_text form) (bytes_of result) }
+    ensures known_bytes { 32813 ≤ length out.old → PartKnown (R.remaining reader.old) (case_file_text form) (bytes_of result) }
+    ensures never_empty { 32813 ≤ length out.old → IfOk result (λ bytes. 0 < length bytes.now) }
 {
     let used = answer_input(reader, form, out)?;
-    Ok(&out[..used])
+    Ok(line_blocks::first(out, used))
 }
