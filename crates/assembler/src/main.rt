@@ -14,7 +14,7 @@ use format_writers::Page;
 use formats::Base;
 use line_blocks::Begun;
 use std::io::{Read, Write};
-use streams::Failure;
+use streams::{BlockStep, Failure};
 
 // The line of a refusal.
 fn write_column(page: &mut Page<'_>, column: u64)
@@ -150,23 +150,32 @@ fn assemble_block<W: Write>(
     Err(Failure::Unwritten)
 }
 
+// Where encodings are written, and the buffers that they need from block to block.
+#[derive(Drop)]
+struct Assembler<'a, W> {
+    writer: &'a mut W,
+    line: &'a mut [u8],
+    out: &'a mut [u8],
+}
+
+impl<W: Write> BlockStep for Assembler<'_, W> {
+    type State = Begun;
+
+    fn take(&mut self, block: &[u8], begun: Begun) -> Result<Begun, Failure> {
+        assemble_block(self.writer, block, self.line, self.out, begun)
+    }
+}
+
 // Block by block to the input's end, or to a read or a write that fails.
 fn assemble_input<R: Read, W: Write>(
     reader: &mut R,
-    writer: &mut W,
     block: &mut [u8],
-    line: &mut [u8],
-    out: &mut [u8],
+    assembler: &mut Assembler<'_, W>,
 ) -> Result<(), Failure> {
-    let begun = streams::each_block(
-        reader,
-        block,
-        Begun::nothing(),
-        |block: &[u8], begun: Begun| { assemble_block(writer, block, line, out, begun) },
-    )?;
+    let begun = streams::each_block(reader, block, Begun::nothing(), assembler)?;
     // the last line may lack its 0x0a
     let end = line_blocks::last_end(b"\n", begun);
-    assemble_block(writer, end, line, out, begun)?;
+    assembler.take(end, begun)?;
     Ok(())
 }
 
@@ -174,13 +183,12 @@ fn main(rt: HostRuntime) {
     let mut block = [0u8; 65536];
     let mut line = [0u8; 128];
     let mut out = [0u8; 65536];
-    let assembled = assemble_input(
-        &mut rt.stdin(),
-        &mut rt.stdout(),
-        &mut block,
-        &mut line,
-        &mut out,
-    );
+    let mut assembler = Assembler {
+        writer: &mut rt.stdout(),
+        line: &mut line,
+        out: &mut out,
+    };
+    let assembled = assemble_input(&mut rt.stdin(), &mut block, &mut assembler);
     if let Err(failure) = assembled {
         let _ = eprintln!(rt; "assembler: {failure}");
     }

@@ -16,7 +16,7 @@ use format_writers::Page;
 use formats::Base;
 use line_blocks::Begun;
 use std::io::{Read, Write};
-use streams::Failure;
+use streams::{BlockStep, Failure};
 
 // The line of a refusal.
 fn write_refusal(page: &mut Page<'_>, number: u64, position: u64)
@@ -253,28 +253,33 @@ fn list_block<W: Write>(
     Err(Failure::Unwritten)
 }
 
+// Where a listing is written, and the buffers that it needs from block to block.
+#[derive(Drop)]
+struct Lister<'a, W> {
+    writer: &'a mut W,
+    line: &'a mut [u8; 131072],
+    kernel: &'a mut [u8; 65536],
+    out: &'a mut [u8],
+}
+
+impl<W: Write> BlockStep for Lister<'_, W> {
+    type State = Begun;
+
+    fn take(&mut self, block: &[u8], begun: Begun) -> Result<Begun, Failure> {
+        list_block(self.writer, block, self.line, self.kernel, self.out, begun)
+    }
+}
+
 // Block by block to the input's end, or to a read or a write that fails.
 fn list_input<R: Read, W: Write>(
     reader: &mut R,
-    writer: &mut W,
     block: &mut [u8],
-    line: &mut [u8],
-    kernel: &mut [u8],
-    out: &mut [u8],
-) -> Result<(), Failure>
-    requires { length line.old ≤ 2 * length kernel.old }
-{
-    let begun = streams::each_block(
-        reader,
-        block,
-        Begun::nothing(),
-        |block: &[u8], begun: Begun|
-            requires { length line.now ≤ 2 * length kernel.now }
-        { list_block(writer, block, line, kernel, out, begun) },
-    )?;
+    lister: &mut Lister<'_, W>,
+) -> Result<(), Failure> {
+    let begun = streams::each_block(reader, block, Begun::nothing(), lister)?;
     // the last line may lack its 0x0a
     let end = line_blocks::last_end(b"\n", begun);
-    list_block(writer, end, line, kernel, out, begun)?;
+    lister.take(end, begun)?;
     Ok(())
 }
 
@@ -283,14 +288,13 @@ fn main(rt: HostRuntime) {
     let mut line = [0u8; 131072];
     let mut kernel = [0u8; 65536];
     let mut out = [0u8; 65536];
-    let listed = list_input(
-        &mut rt.stdin(),
-        &mut rt.stdout(),
-        &mut block,
-        &mut line,
-        &mut kernel,
-        &mut out,
-    );
+    let mut lister = Lister {
+        writer: &mut rt.stdout(),
+        line: &mut line,
+        kernel: &mut kernel,
+        out: &mut out,
+    };
+    let listed = list_input(&mut rt.stdin(), &mut block, &mut lister);
     if let Err(failure) = listed {
         let _ = eprintln!(rt; "listing: {failure}");
     }

@@ -50,14 +50,21 @@ pub fn read_full<R: Read>(reader: &mut R, buffer: &mut [u8]) -> io::Result<usize
     Ok(done)
 }
 
-// Hands a reader's bytes block by block to a step, which goes on from what the step before it gave, until the input ends or a read or a step fails.
-pub fn each_block<R: Read, S: Copy, F: FnMut(&[u8], S) -> Result<S, Failure>>(
+// What is done with the blocks of an input, one after the other: each step goes on from what the step before it gave.
+pub trait BlockStep {
+    type State: Copy;
+
+    fn take(&mut self, block: &[u8], state: Self::State) -> Result<Self::State, Failure>;
+}
+
+// Hands a reader's bytes block by block to a step, until the input ends or a read or a step fails.
+// A trait and no closure: a function that calls a closure asks its caller that it can be called.
+pub fn each_block<R: Read, T: BlockStep>(
     reader: &mut R,
     block: &mut [u8],
-    start: S,
-    mut step: F,
-) -> Result<S, Failure>
-    requires { F.IsAlwaysCallable step }
+    start: T::State,
+    step: &mut T,
+) -> Result<T::State, Failure>
     ensures { IfOk result (λ _. 0 < length block.new → IsAtEnd (R.remaining reader.new)) }
 {
     let mut state = start;
@@ -66,7 +73,7 @@ pub fn each_block<R: Read, S: Copy, F: FnMut(&[u8], S) -> Result<S, Failure>>(
         if count == 0 {
             return Ok(state);
         }
-        state = step(&block[..count], state)?;
+        state = step.take(&block[..count], state)?;
     }
     Err(Failure::Unread)
 }
