@@ -2,14 +2,16 @@
 use Rattle.std.proofs.Common.{◌≡◌, refl, sym, ap, ◌∙◌, subst, Bool, true, false, cond, not, List, [], ℕ, ◌≤◌, ◌<◌, arith, length, take, Option, None, Some, ◌⊎◌, inl, inr}
 use Rattle.std.proofs.KnownBytes.{Consumes-whole}
 use borrow.Author.Tests.{not-true, not-false}
-use Rattle.std.specs.Prelude.{Result, Ok, Err, IsErrAnd}
+use Rattle.std.specs.Prelude.{Result, Ok, Err, is_ok, IfOk, IsErrAnd}
 use Rattle.std.specs.Borrow.{Bor}
 use Rattle.streams.specs.declared.Failure.{Failure}
 use Rattle.tally.specs.Mirror.Reading.{Reading}
+use Rattle.feeding.specs.declared.State.{State}
 use Rattle.feeding.specs.Mirror.Feeding.{Machine, fed, finished}
 use Rattle.output.specs.Mirror.Page.{written}
 use Rattle.input.specs.Calls.{text_of, ended_by}
-use Rattle.input.specs.Mirror.Reads.{Reads, ReadsKnown}
+use Rattle.input.specs.declared.Unended.{Unended}
+use Rattle.input.specs.Mirror.Reads.{has_ended, Reads, ReadsKnown}
 use Rattle.answering.specs.declared.Form.{Form}
 use Rattle.answering.specs.Mirror.Puts.{Puts}
 use Rattle.answering.specs.Mirror.Bench.{case_output}
@@ -18,7 +20,7 @@ use Rattle.answering.proofs.BenchLaws.{begun, text-output}
 use Rattle.case_file.specs.Forms.{case_file_text}
 use Rattle.case_file.proofs.Whole.{case-file-output}
 use Rattle.answered_input.specs.Program.{program_output, Answers, PartKnown}
-use Rattle.answered_input.specs.Results.{bytes_of}
+use Rattle.answered_input.specs.Results.{count_of, bytes_of}
 use Rattle.answered_input.specs.Mirror.Ended.{ended_output}
 use Rattle.answered_input.specs.Mirror.PutsAnswer.{PutsAnswer, PutsKnown}
 use Rattle.answered_input.proofs.NoneLaws.{output-some}
@@ -109,3 +111,18 @@ module _ (output : List ℕ → List ℕ) (out after : List ℕ) (used : ℕ) (r
         told None h = tt
         told (Some text) (inl h) = inl (puts_whole _ out after used room h)
         told (Some text) (inr h) = inr (puts_whole _ out after used room h)
+
+-- reading that gives its state has met the input's end
+pub ok-ended : (r : Result State Unended) → is_ok r ≡ has_ended r
+ok-ended (Ok s) = refl
+ok-ended (Err u) = refl
+
+-- an answer that is given is never empty
+pub input-some : (f : Form) (line : List ℕ) (read done : Machine) (ended asked : Bool) (out after : List ℕ) (r : Result ℕ Failure) → length line ≡ 16386 →
+    Reads ended (begun line) read → done ≡ finished read → Puts (ended_output asked f done.reading) out after (count_of r) → asked ≡ ended → is_ok r ≡ asked → 32813 ≤ length out → IfOk r (λ used. 0 < used)
+unfolding ended_output
+input-some f line read done ended asked out after (Err e) l h k p same ok room = tt
+input-some f line read done ended asked out after (Ok used) l h k p same ok room =
+    let q : Puts (case_output f done.reading) out after used = subst (λ (b : Bool). Puts (ended_output b f done.reading) out after used) (sym ok) p in
+    let r : Reads true (begun line) read = subst (λ (b : Bool). Reads b (begun line) read) (sym same ∙ sym ok) h in
+    read-some f line read done out after used l k q r room

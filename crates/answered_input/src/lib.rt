@@ -2,16 +2,52 @@
 
 #![tactic(auto)]
 
-ghost use Rattle.std.specs.Prelude.{◌≤◌, ◌<◌, length, IfOk};
+ghost use Rattle.std.specs.Prelude.{◌≡◌, ◌≤◌, ◌<◌, length, is_ok, IfOk};
+ghost use Rattle.tally.specs.Mirror.Lent.{tables_seen};
+ghost use Rattle.tally.specs.Mirror.Reading.{contents, reading};
+ghost use Rattle.input.specs.Mirror.Reads.{stopped_at};
+ghost use Rattle.answering.specs.Mirror.Puts.{Puts};
 ghost use Rattle.case_file.specs.Forms.{case_file_text};
 ghost use Rattle.answered_input.specs.Program.{Answers, PartKnown};
 ghost use Rattle.answered_input.specs.Results.{count_of, bytes_of};
+ghost use Rattle.answered_input.specs.Mirror.Ended.{ended_output};
 ghost use Rattle.answered_input.specs.Mirror.PutsAnswer.{PutsAnswer, PutsKnown};
 
 use answering::{Form, Storage};
+use feeding::State;
+use input::Unended;
 use std::io::Read;
 use streams::Failure;
-use tally::{ContentBuffers, TableBuffers, TableViews};
+use tally::{Case, ContentBuffers, TableBuffers, TableViews};
+
+// Where reading stopped, at the input's end or before it.
+fn stopped_at(read: Result<State, Unended>) -> State
+    ensures { result ≡ stopped_at read }
+{
+    match read {
+        Ok(state) => state,
+        Err(unended) => unended.state,
+    }
+}
+
+// The answer to a case, to the output buffer's start, and how many bytes it has; none if the input was not read to its end.
+fn answer_ended(
+    ended: bool,
+    case: Case,
+    storage: Storage,
+    kernel: &[u8],
+    tables: TableViews<'_>,
+    form: Form,
+    out: &mut [u8],
+) -> Result<usize, Failure>
+    ensures answer { let b = contents storage.registers storage.memory kernel.now storage.register_taint storage.surface_taint storage.memory_taint in Puts (ended_output ended form (reading case b (tables_seen tables.entry))) out.old out.new (count_of result) }
+    ensures ended { is_ok result ≡ ended }
+{
+    if !ended {
+        return Err(Failure::Unread);
+    }
+    Ok(answering::answer(case, storage, kernel, tables, form, out))
+}
 
 // The answer to an input that was read to its end, to the output buffer's start, and how many bytes it has. What does not fit is lost; 32,813 bytes hold
 // all of it.
@@ -53,12 +89,11 @@ pub fn answer_input<R: Read>(reader: &mut R, form: Form, out: &mut [u8]) -> Resu
         surface_bytes: &mut surface_bytes,
         surface_lengths: &mut surface_lengths,
     };
-    let read = match input::read_all(reader, &mut line, &mut contents, &mut tables) {
-        Ok(state) => state,
-        Err(_) => return Err(Failure::Unread),
-    };
-    let state = feeding::finish(&line, &mut contents, &mut tables, read);
-    Ok(answering::answer(
+    let read = input::read_all(reader, &mut line, &mut contents, &mut tables);
+    let stopped = stopped_at(read);
+    let state = feeding::finish(&line, &mut contents, &mut tables, stopped);
+    answer_ended(
+        read.is_ok(),
         state.case,
         storage,
         &kernel,
@@ -73,7 +108,7 @@ pub fn answer_input<R: Read>(reader: &mut R, form: Form, out: &mut [u8]) -> Resu
         },
         form,
         out,
-    ))
+    )
 }
 
 // The answer to an input, in a buffer: what is handed on to be written. 32,813 bytes have room for all of it; what does not fit is lost.

@@ -2,7 +2,7 @@
 
 #![tactic(auto)]
 
-ghost use Rattle.std.specs.Prelude.{◌≡◌, ◌+◌, ◌%◌, ◌≤◌, length, set};
+ghost use Rattle.std.specs.Prelude.{◌≡◌, ◌+◌, ◌%◌, ◌≤◌, [], ◌∷◌, length, set};
 ghost use Rattle.cells.specs.Buffer.{mark_of};
 ghost use Rattle.cells.specs.Writes.{written, written_all, number_writes, copy_writes};
 ghost use Rattle.cells.specs.Lent.{viewed, held, Becomes};
@@ -35,6 +35,18 @@ fn set_four(bytes: &mut [u8], at: usize, four: [u8; 4])
     bytes[at + 1] = four[1];
     bytes[at + 2] = four[2];
     bytes[at + 3] = four[3];
+}
+
+// Four marks that are there. Four numbers and no array: an array is put together in a register before it is stored, which costs a scatter a quarter
+// more.
+fn set_four_marks(taint: &mut [u8], at: usize, first: u8, second: u8, third: u8, fourth: u8)
+    requires { at + 4 ≤ length taint.old }
+    ensures { taint.new ≡ four_set taint.old at (first ∷ second ∷ third ∷ fourth ∷ []) }
+{
+    taint[at] = first;
+    taint[at + 1] = second;
+    taint[at + 2] = third;
+    taint[at + 3] = fourth;
 }
 
 // `as`, proved to keep the number: `try_from` would have an Err that no value reaches.
@@ -100,7 +112,7 @@ fn copy_four(from: View<'_>, source_at: usize, to: &mut Buffer<'_>, at: usize)
     let second = u8::from(cell_reads::is_tainted(taint[source_at + 1]));
     let third = u8::from(cell_reads::is_tainted(taint[source_at + 2]));
     let fourth = u8::from(cell_reads::is_tainted(taint[source_at + 3]));
-    set_four(to.taint, at, [first, second, third, fourth]);
+    set_four_marks(to.taint, at, first, second, third, fourth);
 }
 
 fn copy_fours(from: View<'_>, source_at: usize, to: &mut Buffer<'_>, at: usize, count: usize)

@@ -8,7 +8,7 @@ use lib.ListN.{length, get_or-eq_default}
 use Rattle.predicate_table.specs.Borrowed.{found, record_of}
 use Rattle.predicate_table.specs.Predicates.{Predicates, predicate_at}
 use borrow.Author.Tests.{ltb-false, le-ltb, not-false}
-use Rattle.predicate_table.specs.PredicateRecord.{PredicateRecord}
+use Rattle.predicate_table.specs.declared.PredicateRecord.{PredicateRecord}
 use Rattle.predicate_field.specs.Predicate.{has_predicate}
 use Rattle.field_groups.specs.declared.Control.{Control}
 use Rattle.controls.specs.Control.{lanes_end, predicate_refusal, control_refusal, bits_named}

@@ -1,7 +1,7 @@
 -- Exec byte and pred word, which every instruction has: its lanes fit the mask (refusal 8), and the predicate that is named is in the table
 -- (refusal 5) and has that many elements (refusal 17).
 use Rattle.std.specs.Prelude.{ℕ, ◌+◌, cond, not, ltb}
-use Rattle.predicate_table.specs.PredicateRecord.{PredicateRecord}
+use Rattle.predicate_table.specs.declared.PredicateRecord.{PredicateRecord}
 use Rattle.predicate_table.specs.Predicates.{Predicates, predicate_at}
 use Rattle.exec_byte.specs.Exec.{exec_size, exec_offset}
 use Rattle.predicate_field.specs.Predicate.{has_predicate, predicate_id}

@@ -5,11 +5,10 @@
 ghost use Rattle.std.specs.Prelude.{◌≡◌};
 ghost use Rattle.refusal.specs.Numbers.{number_given, detail_given};
 ghost use Rattle.refusal.specs.declared.Detail.TheVariants as detail;
-ghost use Rattle.predicate_table.specs.Borrowed.{record_of};
 ghost use Rattle.controls.specs.Control.{lanes_end, predicate_refusal, control_refusal, bits_named};
 
 use field_groups::Control;
-use predicate_table::Predicate;
+use predicate_table::PredicateRecord;
 use refusal::Refusal;
 
 // Offset plus ExecSize.
@@ -22,12 +21,14 @@ fn lanes_end(exec: u8) -> u16
 
 // 5, then 17, of the predicate that a pred word names.
 #[tactic(auto, unfolding(crate::specs::Control::predicate_refusal))]
-fn predicate_refusal(predicate: Option<Predicate>, exec: u8) -> Result<(), Refusal>
-    ensures number { number_given result ≡ predicate_refusal (record_of predicate) exec }
+fn predicate_refusal(predicate: PredicateRecord, exec: u8) -> Result<(), Refusal>
+    ensures number { number_given result ≡ predicate_refusal predicate exec }
     ensures detail { detail_given result ≡ detail.None }
 {
-    let named = predicate.ok_or(Refusal::Missing)?;
-    if u16::from(named.count) < lanes_end(exec) {
+    if !predicate.present {
+        return Err(Refusal::Missing);
+    }
+    if u16::from(predicate.count) < lanes_end(exec) {
         return Err(Refusal::Predicate);
     }
     Ok(())
@@ -35,8 +36,8 @@ fn predicate_refusal(predicate: Option<Predicate>, exec: u8) -> Result<(), Refus
 
 // 8, then those of the predicate, if one is named.
 #[tactic(auto, unfolding(crate::specs::Control::control_refusal))]
-pub fn control_refusal(predicate: Option<Predicate>, control: Control) -> Result<(), Refusal>
-    ensures number { number_given result ≡ control_refusal (record_of predicate) control }
+pub fn control_refusal(predicate: PredicateRecord, control: Control) -> Result<(), Refusal>
+    ensures number { number_given result ≡ control_refusal predicate control }
     ensures detail { detail_given result ≡ detail.None }
 {
     if 32 < lanes_end(control.exec) {
@@ -50,11 +51,12 @@ pub fn control_refusal(predicate: Option<Predicate>, control: Control) -> Result
 
 // The bits of the predicate that the pred word names.
 #[tactic(auto, unfolding(crate::specs::Control::bits_named))]
-pub fn bits_named(predicate: Option<Predicate>, pred: u16) -> u32
-    ensures { result ≡ bits_named (record_of predicate) pred }
+pub fn bits_named(predicate: PredicateRecord, pred: u16) -> u32
+    ensures { result ≡ bits_named predicate pred }
 {
-    match predicate {
-        Some(named) if predicate_field::has_predicate(pred) => named.bits,
-        _ => 0,
+    if predicate_field::has_predicate(pred) {
+        predicate.bits
+    } else {
+        0
     }
 }

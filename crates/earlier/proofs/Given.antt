@@ -13,7 +13,7 @@ use Rattle.element_types.specs.Types.{size_of}
 use Rattle.exec_byte.specs.Exec.{exec_size}
 use Rattle.predicate_field.specs.Predicate.{has_predicate}
 use Rattle.tables.specs.Tables.{Tables}
-use Rattle.predicate_table.specs.PredicateRecord.{PredicateRecord}
+use Rattle.predicate_table.specs.declared.PredicateRecord.{PredicateRecord}
 use Rattle.tables.specs.Variables.{Variables}
 use Rattle.field_groups.specs.declared.Control.{Control}
 use Rattle.operand_fields.specs.declared.Immediate.{Immediate}

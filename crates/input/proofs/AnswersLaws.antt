@@ -1,7 +1,8 @@
 -- What a read's answer says.
 use Rattle.std.proofs.Common.{◌≡◌, refl, ℕ, zero, suc, ◌≤◌, arith, Result, Ok, Err}
 use Rattle.std.specs.declared.io.Error.{Error}
-use Rattle.input.specs.Answers.{Bytes, End, answer_of}
+use Rattle.input.specs.declared.Answer.TheVariants.{Bytes, End}
+use Rattle.input.specs.Answers.{answer_of}
 use Rattle.input.specs.Calls.{Moved}
 
 -- only 0 says that the input has ended

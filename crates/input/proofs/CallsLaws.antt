@@ -4,7 +4,9 @@ use mathlib.Core.Bool.{true≢false}
 use mathlib.Core.List.{append-nil, flatten}
 use Rattle.std.proofs.Math.ListN.{length-append}
 use Rattle.std.specs.declared.io.Error.{Error}
-use Rattle.input.specs.Answers.{Answer, Bytes, End, Failed, answer_of, on_answer, gave_bytes, met_end}
+use Rattle.input.specs.declared.Answer.{Answer}
+use Rattle.input.specs.declared.Answer.TheVariants.{Bytes, End, Failed}
+use Rattle.input.specs.Answers.{answer_of, on_answer, gave_bytes, met_end}
 use Rattle.input.specs.Calls.{Call, bytes_of, Moved, Possible, text_of, ended_by}
 use Rattle.input.proofs.AnswersLaws.{end-zero}
 

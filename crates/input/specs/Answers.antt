@@ -2,12 +2,8 @@
 -- block's start.
 use Rattle.std.specs.Prelude.{ℕ, zero, suc, Bool, true, false, Result, Ok, Err}
 use Rattle.std.specs.declared.io.Error.{Error}
-
--- a number of bytes, the end of the input, or that it failed
-pub data Answer : Type 0 where
-  Bytes : ℕ → Answer
-  End : Answer
-  Failed : Answer
+use Rattle.input.specs.declared.Answer.{Answer}
+use Rattle.input.specs.declared.Answer.TheVariants.{Bytes, End, Failed}
 
 unfoldable pub answer_of : Result ℕ Error → Answer
 answer_of (Err e) = Failed

@@ -11,7 +11,7 @@ use Rattle.refusal.specs.declared.Detail.TheVariants as detail
 use Rattle.refusal.specs.Details.{names_operand, operand_detail}
 use Rattle.tables.specs.Tables.{Tables}
 use Rattle.tables.specs.Variables.{Variables}
-use Rattle.predicate_table.specs.PredicateRecord.{PredicateRecord}
+use Rattle.predicate_table.specs.declared.PredicateRecord.{PredicateRecord}
 use Rattle.predicate_field.specs.Predicate.{has_predicate}
 use Rattle.field_groups.specs.declared.Control.{Control}
 use Rattle.decoder.specs.declared.Instruction.{Instruction}

@@ -212,7 +212,7 @@ fn check_send(tests: Tests<'_>, instruction: RawSend) -> Result<Plan, Refusal>
 }
 
 // What is left to run of an instruction, by registers of this size, or its refusal.
-#[tactic(auto, using(refusal::proofs::RuleLaws::number_some, controls::proofs::PassedLaws::found_refusal, controls::proofs::PassedLaws::found_bits), unfolding(crate::specs::Checked::checked, crate::specs::Checked::checked_operands, crate::specs::Plans::tested, crate::specs::Control::control_of))]
+#[tactic(auto, using(refusal::proofs::RuleLaws::number_some), unfolding(crate::specs::Checked::checked, crate::specs::Checked::checked_operands, crate::specs::Plans::tested, crate::specs::Control::control_of))]
 pub fn check(
     register_size: u8,
     tables: Tables<'_>,
@@ -223,7 +223,7 @@ pub fn check(
     let control = control_of(instruction);
     let predicate = tables
         .predicates
-        .at(predicate_field::predicate_id(control.pred));
+        .record_at(predicate_field::predicate_id(control.pred));
     controls::control_refusal(predicate, control)?;
     let tests = Tests {
         register_size,

@@ -2,7 +2,7 @@
 use Rattle.std.specs.Prelude.{true, false, Option, None, Some, cond}
 use Rattle.predicate_table.specs.declared.Predicate.{Predicate}
 use Rattle.predicate_table.specs.declared.Predicates as code
-use Rattle.predicate_table.specs.PredicateRecord.{PredicateRecord}
+use Rattle.predicate_table.specs.declared.PredicateRecord.{PredicateRecord}
 use Rattle.predicate_table.specs.Predicates.{Predicates, predicates}
 
 abbrev pub predicates_of : code.Predicates → Predicates

@@ -1,3 +1,2 @@
-pub mod PredicateRecord
 pub mod Predicates
 pub mod Borrowed

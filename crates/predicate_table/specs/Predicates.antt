@@ -2,7 +2,7 @@
 -- "Each predicate's record gains a count from 1 to 32".
 use Rattle.std.specs.Prelude.{ℕ, Bool, ◌&&◌, List, ltb, leb, eqb, length, get_or}
 use Rattle.bits.specs.Below.{every_below}
-use Rattle.predicate_table.specs.PredicateRecord.{PredicateRecord}
+use Rattle.predicate_table.specs.declared.PredicateRecord.{PredicateRecord}
 
 -- predicate k has the k-th bits and count
 pub record Predicates : Type 0 where

@@ -22,6 +22,15 @@ pub struct Predicate {
     pub count: u8,
 }
 
+// What is known of an id: whether the table has the predicate, its bits, and its count. A record that is not present may have bits and a count
+// all the same: whoever is given one is asked of any such numbers.
+#[derive(Clone, Copy)]
+pub struct PredicateRecord {
+    pub present: bool,
+    pub bits: u32,
+    pub count: u8,
+}
+
 #[tactic(auto, unfolding(crate::specs::Predicates::count_good))]
 fn count_good(count: u8) -> bool
     ensures { result ≡ count_good count }
@@ -53,6 +62,19 @@ impl Predicates<'_> {
         ensures { result ≡ (predicate_at (predicates_of self.entry) id).count }
     {
         self.counts.get(usize::from(id)).copied().unwrap_or(0)
+    }
+
+    // What is known of an id: a count may stand past the end of the bits.
+    #[tactic(auto, unfolding(crate::specs::Predicates::predicate_at))]
+    pub fn record_at(self, id: u16) -> PredicateRecord
+        ensures { result ≡ predicate_at (predicates_of self.entry) id }
+    {
+        let bits = self.bits.get(usize::from(id)).copied();
+        PredicateRecord {
+            present: bits.is_some(),
+            bits: bits.unwrap_or(0),
+            count: self.count(id),
+        }
     }
 
     // Whether the table keeps the sizes.

@@ -1,2 +1,3 @@
+pub mod AlikeLaws
 pub mod OperandLaws
 pub mod RuleLaws

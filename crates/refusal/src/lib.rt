@@ -5,7 +5,7 @@
 
 ghost use Rattle.std.specs.Prelude.{◌≡◌};
 ghost use Rattle.refusal.specs.declared.OperandRefusal.TheVariants as operand;
-ghost use Rattle.refusal.specs.Details.{operand_detail};
+ghost use Rattle.refusal.specs.Details.{is_some, operand_detail};
 ghost use Rattle.refusal.specs.Numbers.{rule_number, operand_number, number_of, detail_of};
 
 // An operand by its place in field order, from 1; a pair by channel and lane.
@@ -15,6 +15,31 @@ pub enum Detail {
     None,
     Operand(u8),
     Pair(u8, u8),
+}
+
+impl Detail {
+    // Whether anything is told.
+    #[tactic(auto, unfolding(crate::specs::Details::is_some))]
+    pub fn is_some(self) -> bool
+        ensures { result ≡ is_some self }
+    {
+        match self {
+            Detail::None => false,
+            Detail::Operand(_) | Detail::Pair(_, _) => true,
+        }
+    }
+
+    // What the refusal of the operand at a place tells, by its number, of any number: 20 to 25 name the operand.
+    #[tactic(auto, unfolding(crate::specs::Details::operand_detail, crate::specs::Details::names_operand))]
+    pub fn of_operand(number: u8, place: u8) -> Detail
+        ensures { result ≡ operand_detail number place }
+    {
+        if 20 <= number && number <= 25 {
+            Detail::Operand(place)
+        } else {
+            Detail::None
+        }
+    }
 }
 
 // The rule that a region word breaks.

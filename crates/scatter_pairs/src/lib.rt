@@ -19,12 +19,19 @@ pub enum Rule {
     Inside { base: u64, length: u64 },
 }
 
-// Whether the four bytes at an address are not all in the window. A sum that could wrap is never taken.
+// Whether the four bytes at an address are not all in the window. A sum that could wrap is never taken. One test after the other, and no `||`: what
+// does not go by the address is then tested once and not for each pair.
 #[tactic(auto, unfolding(scatter_effect::specs::Scatter::outside))]
 fn outside(base: u64, length: u64, address: u64) -> bool
     ensures { result ≡ outside (record { base = base; length = length }) address }
 {
-    length < 4 || address < base || length - 4 < address - base
+    if length < 4 {
+        return true;
+    }
+    if address < base {
+        return true;
+    }
+    length - 4 < address - base
 }
 
 fn breaks(rule: Rule, address: u64) -> bool
