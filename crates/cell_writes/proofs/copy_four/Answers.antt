@@ -8,7 +8,7 @@ returns c = record {
   bytes = refl;
   taint = refl;
   content =
-      four-marked _ _ _ _ _ _ _ _ _ _ _ _ _ _ _ c.set_four.ensures c.set_four-2.ensures
+      four-marked _ _ _ _ _ _ _ _ _ _ _ _ _ _ _ c.set_four.ensures c.set_four_marks.ensures
       (c.from-first.ensures ∙ marked_byte _) c.is_tainted.ensures
       (c.from-second.ensures ∙ marked_byte _) c.is_tainted-2.ensures
       (c.from-third.ensures ∙ marked_byte _) c.is_tainted-3.ensures
