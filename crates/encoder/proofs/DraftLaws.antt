@@ -86,3 +86,7 @@ fields-draft (f ∷ fs) d bs h p =
 -- fields that have room
 pub drafted-drafts : (fs : List Field) → length (layout_bytes fs) ≤ 64 → Drafts (with_fields fs empty_draft) (layout_refusal fs) (layout_bytes fs)
 drafted-drafts fs h = fields-draft fs empty_draft [] (omega arith) empty_holds
+
+-- the draft of all their bytes holds them, refused or not, and the refusal is the first among them
+pub drafted-holds : (fs : List Field) → length (layout_bytes fs) ≤ 64 → Holds (with_bytes (layout_bytes fs) empty_draft) (layout_bytes fs) × Drafts (with_fields fs empty_draft) (layout_refusal fs) (layout_bytes fs)
+drafted-holds fs h = (bytes-holds (layout_bytes fs) empty_draft [] (omega arith) empty_holds, drafted-drafts fs h)

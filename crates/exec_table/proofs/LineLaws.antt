@@ -1,5 +1,5 @@
 -- The lines of the exec bytes: written piece by piece, and how long they are.
-use mathlib.Core.Path.{◌≡◌, refl}
+use mathlib.Core.Path.{◌≡◌, refl, ap, ◌∙◌}
 use mathlib.Core.List.{List, [], ◌∷◌, ◌++◌}
 use mathlib.Core.Bool.{true, false}
 use Prim.Native.Nat.{ℕ, zero, suc, ◌+◌, ◌*◌, ◌≤◌, ◌<◌}
@@ -57,6 +57,9 @@ no_lines l = wrote_none l [] 0 (omega arith) refl
 pub one_more_line : {a b c : Page} (byte : ℕ) → Writes a b (lines_below byte) → Writes b c (entry_line byte) → Writes a c (lines_below (byte + 1))
 unfolding lines_below
 one_more_line byte p q = rw (add-one byte) (writes_then p q)
+
+pub all_lines : (l m : List ℕ) (to byte : ℕ) → byte ≤ 256 → 256 ≤ byte → wrote to m ≡ written l 0 (lines_below byte) → wrote to m ≡ written l 0 exec_lines
+all_lines l m to byte h g p = let e : byte ≡ 256 = omega (arith, h, g) in p ∙ ap (λ (n : ℕ). written l 0 (lines_below n)) e
 
 -- ---- how long
 

@@ -19,6 +19,7 @@ use Rattle.line_blocks.proofs.PartLaws.{part-inside}
 use Rattle.feeding.specs.Mirror.Feeding.{Machine, ended, byte_fed, read_on, fed}
 use Rattle.feeding.proofs.EndLaws.{over_nothing, line-ended}
 use Rattle.feeding.proofs.PartLaws.{line-pushed}
+use Rattle.feeding.proofs.KeptLaws.{KeptAll, fed-alike}
 
 -- the place after one inside a block
 pub next_fits : (i n : ℕ) → i < n → n < 2 ^ 64 → Fits w64 (i + 1)
@@ -62,6 +63,10 @@ pub record Fed (block : List ℕ) (i : ℕ) (m n : Machine) : Type 0 where
   pub inside : i ≤ length block
   pub rest : fed (drop i block) n ≡ fed block m
   pub good : i < length block → ltb 0 n.reading.case.bad ≡ false
+
+-- and no buffer has another length
+pub fed-keeps : (block : List ℕ) (i : ℕ) (m n : Machine) → Fed block i m n → KeptAll m n
+fed-keeps block i m n f = fed-alike (drop i block) block m n f.rest
 
 -- feeding goes on at i, or at the block's end if a line was bad
 on-fed : (block : List ℕ) (i j : ℕ) (m n : Machine) → i ≤ length block → fed (drop i block) n ≡ fed block m → j ≡ read_on n.reading.case.bad i (length block) → Fed block j m n

@@ -1,4 +1,5 @@
 pub mod EndLaws
+pub mod KeptLaws
 pub mod StayLaws
 pub mod PartLaws
 pub mod FeedingLaws

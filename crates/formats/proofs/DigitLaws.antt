@@ -4,12 +4,12 @@ use mathlib.Core.List.{List, ◌∷◌}
 use mathlib.Core.Bool.{Bool, true, false, cond}
 use Prim.Native.Nat.{ℕ, suc, ◌+◌, ◌*◌, ◌/◌, ◌%◌, ◌≤◌, ◌<◌}
 use native.Mathlib.Omega.{arith}
-use native.Mathlib.Nat.{div-add-mod'}
+use native.Mathlib.Nat.{div-add-mod', mul-le-mul_right}
 use native.Mathlib.Numerals.{add-one}
 use lib.Dec.{ltb, leb, eqb}
 use lib.ListN.{length, get_or, drop, drop_of_length-le}
 use lib.Seq.{drop-cons}
-use borrow.Author.Tests.{leb-true, eq-eqb, ne_eqb}
+use borrow.Author.Tests.{leb-true, leb-false, le-leb, lt-leb, eq-eqb, ne_eqb}
 use Rattle.formats.specs.Format.{got, stop}
 use Rattle.formats.specs.Numbers.{number, radix_of}
 use Rattle.formats.specs.Mirror.Digits.{value_of, goes_on, more_digits, begins, number_in}
@@ -26,6 +26,26 @@ radix-between base.Hexadecimal r e = (omega (arith, e), omega (arith, e))
 pub goes-top : (b high v d : ℕ) → goes_on b high v d ≡ true → v * b + d ≤ high
 unfolding goes_on
 goes-top b high v d g = leb-true (v * b + d) high (both_right (ltb d b) (leb (v * b + d) high) g)
+
+-- the largest number over the base decides, and at that number the last digit
+pub goes-below : (b most last v d : ℕ) → d < b → v < most → leb (v * b + d) (most * b + last) ≡ true
+goes-below b most last v d h k = let x : suc v * b ≤ most * b = mul-le-mul_right b k in le-leb (v * b + d) (most * b + last) (omega (arith, x))
+
+pub goes-level : (b most last v d : ℕ) → v ≡ most → leb (v * b + d) (most * b + last) ≡ leb d last
+goes-level b most last v d e = told (leb d last) refl
+  where
+    x : v * b ≡ most * b
+    x = ap (λ (n : ℕ). n * b) e
+
+    told : (a : Bool) → leb d last ≡ a → leb (v * b + d) (most * b + last) ≡ a
+    told true f = le-leb (v * b + d) (most * b + last) (omega (arith, x, leb-true d last f))
+    told false f = lt-leb (v * b + d) (most * b + last) (omega (arith, x, leb-false d last f))
+
+pub goes_above : (b most last v d : ℕ) → last < b → most ≤ v → (v ≡ most → ⊥) → leb (v * b + d) (most * b + last) ≡ false
+goes_above b most last v d h k n = let x : suc most * b ≤ v * b = mul-le-mul_right b (above k n) in lt-leb (v * b + d) (most * b + last) (omega (arith, x))
+  where
+    above : most ≤ v → (v ≡ most → ⊥) → most < v
+    above k n = omega (arith, k, n)
 
 pub parts : (b high : ℕ) → high / b * b + high % b ≡ high
 parts b high = div-add-mod' high b

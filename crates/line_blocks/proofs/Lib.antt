@@ -1,3 +1,4 @@
+pub mod TakeLaws
 pub mod PushLaws
 pub mod PartLaws
 pub mod RowLaws

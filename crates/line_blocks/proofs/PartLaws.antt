@@ -4,10 +4,11 @@ use mathlib.Core.Bool.{Bool, true, false, cond}
 use mathlib.Core.List.{List, [], ◌∷◌}
 use Prim.Native.Nat.{ℕ, suc, ◌+◌, ◌≤◌, ◌<◌}
 use native.Mathlib.Omega.{arith}
+use native.Mathlib.Numerals.{add-one}
 use lib.ListN.{length, get_or, drop, length-drop, drop_of_length-le}
-use lib.Seq.{get_or-drop}
+use lib.Seq.{drop-cons, get_or-drop}
 use lib.Dec.{eqb, ltb}
-use borrow.Author.Tests.{eqb-true, ltb-false}
+use borrow.Author.Tests.{ne_eqb, eqb-true, ltb-false}
 use Rattle.std.specs.List.{position, position_or_len}
 use Rattle.std.specs.Option.{unwrap_or}
 use Rattle.std.specs.Prelude.{Some, None}
@@ -24,6 +25,14 @@ is_position = is_position_or_len line_length (λ b. eqb b 10) length_none length
 
     length_more : (b : ℕ) (bs : List ℕ) → line_length (b ∷ bs) ≡ cond (eqb b 10) 0 (1 + line_length bs)
     length_more b bs = let e : suc (line_length bs) ≡ 1 + line_length bs = omega arith in ap (cond (eqb b 10) 0) e
+
+pub end-here : (block : List ℕ) (i : ℕ) → i < length block → get_or block i 0 ≡ 10 → line_length (drop i block) ≡ 0
+unfolding line_length
+end-here block i h e = rw (drop-cons block i 0 h, e)
+
+pub end_on : (block : List ℕ) (i : ℕ) → i < length block → (get_or block i 0 ≡ 10 → ⊥) → i + 1 + line_length (drop (i + 1) block) ≡ i + line_length (drop i block)
+unfolding line_length
+end_on block i h n = rw (add-one i, drop-cons block i 0 h, ne_eqb (get_or block i 0) 10 n) (omega arith)
 
 pub end_past : (block : List ℕ) (i : ℕ) → length block ≤ i → line_length (drop i block) ≡ 0
 unfolding line_length
@@ -68,3 +77,7 @@ part-inside block i end h e = omega (arith, e, h, line_inside (drop i block), le
 
 pub part-after : (block : List ℕ) (i end : ℕ) → end ≡ i + line_length (drop i block) → i ≤ end
 part-after block i end e = omega (arith, e)
+
+-- where no character is left, the search has come to the end
+pub end_is : (i : ℕ) (rest : List ℕ) → line_length rest ≡ 0 → i ≡ i + line_length rest
+end_is i rest e = omega (arith, e)

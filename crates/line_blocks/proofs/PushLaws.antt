@@ -4,7 +4,9 @@ use mathlib.Core.Bool.{Bool}
 use mathlib.Core.List.{List, [], ◌∷◌, ◌++◌}
 use Prim.Native.Nat.{ℕ, suc, ◌+◌, ◌-◌, ◌≤◌, ◌<◌}
 use native.Mathlib.Omega.{arith}
-use lib.ListN.{length, get_or, set, take, length-set}
+use native.Mathlib.Numerals.{add-one}
+use lib.ListN.{length, get_or, set, take, drop, length-set, drop_of_length-le}
+use lib.Seq.{drop-cons}
 use borrow.Author.Tests.{lt-ltb}
 use Rattle.hex_text.specs.Storing.{placed}
 use Rattle.hex_text.proofs.StoringLaws.{copied, placed-none, placed-more}
@@ -12,7 +14,16 @@ use Rattle.std.proofs.lemmas.List.{take_more}
 use borrow.Rule.Slice.PartMut.{put_mid}
 use Rattle.line_blocks.specs.Mirror.Rows.{Row, row, pushed, all_pushed}
 
--- one character more
+-- one character more of those from i on
+pub each_turn : (characters : List ℕ) (i : ℕ) (w v : Row) → i < length characters → v ≡ pushed (get_or characters i 0) w → all_pushed (drop (i + 1) characters) v ≡ all_pushed (drop i characters) w
+unfolding all_pushed
+each_turn characters i w v h e = rw (add-one i, drop-cons characters i 0 h, e)
+
+pub each_over : (characters : List ℕ) (i : ℕ) (w : Row) → length characters ≤ i → all_pushed (drop i characters) w ≡ w
+unfolding all_pushed
+each_over characters i w h = rw (drop_of_length-le characters h)
+
+-- one character more of those before i
 pub each_none : (w : Row) → all_pushed [] w ≡ w
 unfolding all_pushed
 each_none w = refl

@@ -1,9 +1,10 @@
 -- Numbers, written byte by byte.
-use mathlib.Core.Path.{◌≡◌, sym}
+use mathlib.Core.Path.{◌≡◌, sym, ap, ◌∙◌}
 use mathlib.Core.List.{List, [], ◌∷◌, ◌++◌}
 use Prim.Native.Nat.{ℕ, ◌/◌, ◌%◌, ◌^◌, ◌<◌}
 use native.Mathlib.Omega.{arith}
 use Rattle.little_endian.specs.LittleEndian.{bytes_of}
+use Rattle.little_endian.proofs.Laws.{bytes_one, bytes-more}
 use Rattle.hex_text.specs.Digits.{character_of}
 use Rattle.hex_text.specs.Bytes.{hex_of}
 use Rattle.hex_text.proofs.ByteLaws.{hex-none, hex-more, hex-append}
@@ -42,3 +43,10 @@ eight_bytes v h =
     let f : v / 281474976710656 % 256 ≡ v / 256 / 256 / 256 / 256 / 256 / 256 % 256 = omega arith in
     let g : v / 72057594037927936 % 256 ≡ v / 256 / 256 / 256 / 256 / 256 / 256 / 256 = omega arith in
     rw (b, c, d, e, f, g)
+
+-- the same of the bytes, one by one
+pub four_bytes_lem : (v : ℕ) → v < 4294967296 → v % 256 ∷ v / 256 % 256 ∷ v / 65536 % 256 ∷ v / 16777216 % 256 ∷ [] ≡ bytes_of 4 v
+four_bytes_lem v h =
+    let e : v / 65536 % 256 ≡ v / 256 / 256 % 256 = omega arith in
+    let f : v / 16777216 % 256 ≡ v / 256 / 256 / 256 = omega arith in
+    rw (bytes-more 2 v, bytes-more 1 (v / 256), bytes-more 0 (v / 256 / 256), bytes_one (v / 256 / 256 / 256), e, f)

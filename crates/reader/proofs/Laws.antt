@@ -2,13 +2,14 @@
 use mathlib.Core.Path.{◌≡◌, refl, sym, ap, ◌∙◌}
 use mathlib.Core.List.{List, ◌++◌, append_assoc}
 use mathlib.Core.Bool.{Bool, true, false, cond}
-use Prim.Native.Nat.{ℕ, suc, ◌+◌, ◌-◌, ◌≤◌}
+use Prim.Native.Nat.{ℕ, suc, ◌+◌, ◌*◌, ◌-◌, ◌≤◌, ◌<◌}
 use native.Mathlib.Omega.{arith}
 use lib.ListN.{length, drop, length-append, length-drop}
 use lib.Seq.{drop-drop, drop-append_seam}
-use borrow.Author.Tests.{leb-true, le-leb}
+use lib.Dec.{leb}
+use borrow.Author.Tests.{leb-true, leb-false, le-leb, lt-leb}
 use Rattle.little_endian.specs.LittleEndian.{number_at, bytes_of, Bytes}
-use Rattle.little_endian.proofs.Laws.{length-bytes, number-there, bytes-there}
+use Rattle.little_endian.proofs.Laws.{length-bytes, number_more, number-there, bytes-there}
 use Rattle.reader.specs.Reply.{Reply, refused, Read, got}
 use Rattle.reader.specs.Reading.{whole_at, read_at}
 
@@ -36,6 +37,19 @@ pub whole_room : (n : ℕ) (s : List ℕ) (at : ℕ) → whole_at n s at ≡ tru
 unfolding whole_at
 whole_room n s at w = leb-true (at + n) (length s) w
 
+-- the test of the code, which forms no sum
+pub room_whole : (n : ℕ) (s : List ℕ) (at : ℕ) → at ≤ length s → leb n (length s - at) ≡ whole_at n s at
+unfolding whole_at
+room_whole n s at h = told (leb (at + n) (length s)) refl
+  where
+    told : (b : Bool) → leb (at + n) (length s) ≡ b → leb n (length s - at) ≡ b
+    told true e = le-leb n (length s - at) (omega (arith, leb-true (at + n) (length s) e))
+    told false e = lt-leb n (length s - at) (omega (arith, leb-false (at + n) (length s) e))
+
+pub past-whole : (n : ℕ) (s : List ℕ) (at : ℕ) → length s < at → whole_at n s at ≡ false
+unfolding whole_at
+past-whole n s at h = lt-leb (at + n) (length s) (omega arith)
+
 number_passed : (n : ℕ) (s : List ℕ) (at : ℕ) → Bytes s → whole_at (suc n) s at ≡ true → Passed s at (at + suc n) (bytes_of (suc n) (number_at (suc n) s at))
 number_passed n s at b w =
     let h : at + suc n ≤ length s = whole_room (suc n) s at w in
@@ -46,6 +60,9 @@ unfolding whole_at
 whole-there n s at v t e =
     let l : length s - at ≡ length (bytes_of (suc n) v) + length t = sym (length-drop at s) ∙ ap length e ∙ length-append (bytes_of (suc n) v) t in
     le-leb (at + suc n) (length s) (omega (arith, l, length-bytes (suc n) v))
+
+pub dword-words : (s : List ℕ) (at : ℕ) → number_at 4 s at ≡ number_at 2 s at + 65536 * number_at 2 s (at + 2)
+dword-words s at = number_more 2 2 s at
 
 -- a test and what follows it: what holds of both ways on, holds
 pub cond-then : {X : Type 0} (P : X → Type 0) (b : Bool) {x y : X} → (b ≡ true → P x) → (b ≡ false → P y) → P (cond b x y)

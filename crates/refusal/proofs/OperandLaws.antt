@@ -1,11 +1,21 @@
--- The values of a detail are all that it tells.
+-- What an operand's number tells, by the test of the number; and that the values of a detail are all that it tells.
 use Prim.Native.Nat.{ℕ}
 use mathlib.Core.Path.{◌≡◌, refl, ap}
+use mathlib.Core.Bool.{true, false, ◌&&◌}
 use mathlib.Core.List.{List}
+use lib.Dec.{leb}
 use lib.ListN.{get_or}
 use Rattle.refusal.specs.declared.Detail.{Detail}
 use Rattle.refusal.specs.declared.Detail.TheVariants as detail
-use Rattle.refusal.specs.Details.{values_of}
+use Rattle.refusal.specs.Details.{values_of, names_operand, operand_detail}
+
+pub operand-named : (number place : ℕ) → (leb 20 number && leb number 25) ≡ true → detail.Operand place ≡ operand_detail number place
+unfolding operand_detail names_operand
+operand-named number place e = rw e
+
+pub operand-unnamed : (number place : ℕ) → (leb 20 number && leb number 25) ≡ false → detail.None ≡ operand_detail number place
+unfolding operand_detail names_operand
+operand-unnamed number place e = rw e
 
 -- equal values, equal refusal
 pub values-tell : (d e : Detail) → values_of d ≡ values_of e → d ≡ e

@@ -1,4 +1,4 @@
--- The positions of the lanes: each of them, and the byte that it is.
+-- The positions of the lanes: one more, each of them, and the byte that it is.
 use mathlib.Core.Path.{◌≡◌, refl, ◌∙◌}
 use mathlib.Core.List.{List}
 use Prim.Native.Nat.{ℕ, zero, suc, ◌+◌, ◌*◌, ◌≤◌, ◌<◌}
@@ -9,6 +9,10 @@ use lib.ListN.{length, get_or, set, length-set, replicate, length-replicate}
 use lib.Seq.{get_or-set_same, get_or-set_other}
 use borrow.Author.Count.{below_more}
 use Rattle.regions.specs.Positions.{filled, lane_positions, element_byte}
+
+pub filled_next : (l : List ℕ) (f : ℕ → ℕ) (n value : ℕ) (m : List ℕ) → value ≡ f n → m ≡ filled l f n → set m n value ≡ filled l f (n + 1)
+unfolding filled
+filled_next l f n value m e h = rw (add-one n, e, h)
 
 length-filled : (l : List ℕ) (f : ℕ → ℕ) (n : ℕ) → length (filled l f n) ≡ length l
 unfolding filled

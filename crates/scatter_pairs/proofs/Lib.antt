@@ -1,1 +1,2 @@
+pub mod WindowLaws
 pub mod SearchLaws

@@ -1,6 +1,7 @@
 pub mod LanesOnLaws
 pub mod Products
 pub mod StageLaws
+pub mod ReadLaws
 pub mod StagedLaws
 pub mod FitLaws
 pub mod RoomLaws
