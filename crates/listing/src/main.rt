@@ -266,7 +266,10 @@ impl<W: Write> BlockStep for Lister<'_, W> {
     type State = Begun;
 
     fn take(&mut self, block: &[u8], begun: Begun) -> Result<Begun, Failure> {
-        list_block(self.writer, block, self.line, self.kernel, self.out, begun)
+        // two steps: the arrays become slices once each reference is lent alone
+        let line = &mut *self.line;
+        let kernel = &mut *self.kernel;
+        list_block(self.writer, block, line, kernel, self.out, begun)
     }
 }
 
