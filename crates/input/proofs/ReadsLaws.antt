@@ -1,10 +1,11 @@
 -- What reading has come to, call by call.
 use Rattle.std.proofs.Common.{◌≡◌, refl, sym, ap, ◌∙◌, subst, Bool, true, false, List, [], ◌∷◌, ◌++◌, ℕ, zero, suc, arith, length, take, Result, Ok, Err, Option, ◌≤◌}
+use Rattle.std.proofs.lemmas.Bool.{false≢true}
 use Rattle.std.proofs.lemmas.List.{length-take-le}
-use mathlib.Core.List.{flatten}
+use mathlib.Core.List.{append-nil, flatten}
 use Rattle.std.specs.declared.io.Error.{Error}
 use Rattle.std.specs.Io.{ReadsAtMost}
-use Rattle.std.specs.Io.KnownBytes.{Consumes, ReadConsumes}
+use Rattle.std.specs.Io.KnownBytes.{Consumes, IsAtEnd, ReadConsumes}
 use Rattle.std.proofs.KnownBytes.{Consumes-nil, Consumes-trans, Consumes-kept}
 use Rattle.tally.specs.Mirror.Reading.{Contents, Tables}
 use Rattle.feeding.specs.declared.State.{State}
@@ -12,7 +13,7 @@ use Rattle.feeding.specs.Mirror.Feeding.{Machine, machine, fresh, fed}
 use Rattle.feeding.proofs.FeedingLaws.{fed-none, fed-append}
 use Rattle.input.specs.Answers.{answer_of, met_end}
 use Rattle.input.specs.Calls.{Call, call, Moved, bytes_of, Possible, text_of, ended_by}
-use Rattle.input.specs.Mirror.Reads.{Reads}
+use Rattle.input.specs.Mirror.Reads.{Reads, ReadsKnown}
 use Rattle.input.proofs.CallsLaws.{AllGave, some-gave, one-text, one_end, text-append, end-append, gave-append, possible-append}
 
 -- a read takes what it gives
@@ -21,6 +22,13 @@ unfolding bytes_of answer_of
 read_given before after (Ok zero) block h = h.0
 read_given before after (Ok (suc n)) block h = h.0
 read_given before after (Err e) block h = Consumes-kept before before after [] (Consumes-nil before) h
+
+-- a read that met the end left nothing
+read_end : (before after : Option (List ℕ)) (got : Result ℕ Error) (block : List ℕ) → ReadConsumes before after got block → length block ≡ 65536 → met_end got ≡ true → IsAtEnd after
+unfolding met_end answer_of
+read_end before after (Ok zero) block h l e = h.1 refl (omega (arith, l))
+read_end before after (Ok (suc n)) block h l e = cc
+read_end before after (Err x) block h l e = cc
 
 read_moved : (got : Result ℕ Error) (block : List ℕ) → ReadsAtMost got block → Moved (length block) got
 read_moved (Ok n) block h = h.0
@@ -85,6 +93,9 @@ module _ (before mid : Option (List ℕ)) (m n : Machine) (f : SoFar before mid 
   unfolding text_of ended_by flatten
   none_left = reads_then [] n false tt (sym (fed-none n)) refl
 
+  pub none_left_known : ReadsKnown before mid false m n
+  none_left_known = record { text = text_of f.calls; fed = f.text; taken = f.taken; end = λ t. absurd (false≢true t) }
+
   -- one call more: what it answered, the block as it left it, and its bytes
   module _ (after : Option (List ℕ)) (got : Result ℕ Error) (block bytes : List ℕ) (most : ReadsAtMost got block) (took : ReadConsumes mid after got block) (room : length block ≡ 65536) (b : bytes ≡ bytes_of (call got block)) where
     within : Moved 65536 got
@@ -110,6 +121,17 @@ module _ (before mid : Option (List ℕ)) (m n : Machine) (f : SoFar before mid 
         reads_then (call got block ∷ []) n ended (within, (room, ((λ _. refl), tt)))
         (was_fed n (sym (fed-none n) ∙ ap (λ (t : List ℕ). fed t n) (sym (is-empty bytes h))))
         (e ∙ sym (one_end (call got block)))
+
+    pub call_last_known : (ended : Bool) → length bytes ≡ 0 → ended ≡ met_end got → ReadsKnown before after ended m n
+    call_last_known ended h e =
+        record {
+          text = text_of f.calls;
+          fed = f.text;
+          taken =
+              subst (λ (t : List ℕ). Consumes before after t) (append-nil (text_of f.calls))
+              (Consumes-trans before mid after (text_of f.calls) [] f.taken (subst (λ (t : List ℕ). Consumes mid after t) (sym b ∙ is-empty bytes h) (read_given mid after got block took)));
+          end = λ t. read_end mid after got block took room (sym e ∙ t);
+        }
 
   -- one call more, by what it answered
   module _ (after : Option (List ℕ)) (got : Result ℕ Error) (block : List ℕ) (most : ReadsAtMost got block) (took : ReadConsumes mid after got block) (room : length block ≡ 65536) where
