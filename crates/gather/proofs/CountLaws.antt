@@ -32,3 +32,16 @@ unfolding is_read bytes_read
 read_below p address j h =
     let four : ltb j (min p.bytes 4) ≡ ltb j p.bytes = below_both p.bytes 4 j ∙ rw (lt-ltb j 4 h) (and-true (ltb j p.bytes)) in
     sym (below_both (min p.bytes 4) (p.length - address) j ∙ ap₂ ◌&&◌ four (past-address p.length address j))
+
+-- the count, as code works it out
+module _ (s : Shape) (address block : ℕ) (four : block ≡ min s.block 4) where
+  pub count-told : (r : ℕ) → r ≡ min block (s.length - address) → r ≡ bytes_read s address
+  unfolding bytes_read
+  count-told r e = rw (← four) e
+
+  pub none_told : s.length ≤ address → 0 ≡ bytes_read s address
+  unfolding bytes_read
+  none_told over = omega arith
+
+  pub count_fits : (r : ℕ) → r ≡ min block (s.length - address) → r < 256
+  count_fits r e = omega (arith, count_small s address, count-told r e)

@@ -1,5 +1,5 @@
 -- A plan that does not fit writes nothing, and one that fits has the effect of its definition.
-use Rattle.std.proofs.Common.{◌≡◌, ℕ, Bool, true, false, not, sym, refl, ap, ◌∙◌}
+use Rattle.std.proofs.Common.{◌≡◌, ℕ, Bool, true, false, not, ◌&&◌, sym, refl, ap, ◌∙◌}
 use borrow.Author.Tests.{not-true, not-false}
 use Rattle.little_endian.specs.LittleEndian.{Bytes}
 use Rattle.cells.specs.declared.Buffer as lent
@@ -13,13 +13,14 @@ use Rattle.refusal.specs.declared.Refusal.TheVariants as refusal
 use Rattle.cells.specs.Effect.{refused, RegistersDone}
 use Rattle.cells.proofs.EffectLaws.{unless-refused, unless-passed, registers-refused}
 use Rattle.cells.proofs.LaneLaws.{lanes-alike}
-use Rattle.exec_byte.specs.Exec.{exec_size}
+use Rattle.exec_byte.specs.Exec.{exec_size, exec_of}
+use Rattle.exec_byte.specs.declared.Exec.{Exec}
 use Rattle.channels.specs.Lanes.{lane_on}
 use Rattle.channels.specs.declared.Lanes.{Lanes}
 use Rattle.channels.specs.Mirror.Prepared.{lanes_of, is_on}
 use Rattle.plan.specs.Plan.{Plan}
 use Rattle.staging.specs.Lanes.{lanes_on}
-use Rattle.staging.specs.Mirror.Room.{both_staged}
+use Rattle.staging.specs.Mirror.Room.{elements_fit, both_staged}
 use Rattle.staging.proofs.LanesOnLaws.{lanes-on-are, prepared-lanes-are}
 use Rattle.gather.specs.declared.Shape.{Shape}
 use Rattle.gather_effect.specs.Gather.{gather_lane, gather_effect}
@@ -27,6 +28,11 @@ use Rattle.gather_effect.proofs.Refusal.{gather-number, gather-detail}
 use Rattle.gather.specs.Mirror.Guarded.{gather_fits, gather_guarded}
 use Rattle.gather.specs.Mirror.FromRoom.{shape_of, room_lane}
 use Rattle.gather.proofs.RoomLaws.{room-lane-is}
+
+-- the test as code asks it
+pub fits_told : (p : Plan) (exec : Exec) (l r : Bool) → exec ≡ exec_of p.control.exec → l ≡ elements_fit 4 p.left exec.size → r ≡ elements_fit 4 p.right exec.size → (l && r) ≡ gather_fits p
+unfolding gather_fits
+fits_told p exec l r e f g = rw (f, g, e)
 
 module _ (mask : ℕ) (p : Plan) (b surfaces : Buffer) where
   pub guard-refuses : gather_fits p ≡ false → gather_guarded mask p b surfaces ≡ refused 7 detail.None

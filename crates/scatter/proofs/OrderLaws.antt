@@ -1,5 +1,6 @@
 -- "10 over all lanes; 11 over all; 12 over all", then the writes: what each test's answer leaves of the effect from the room.
 use Rattle.std.proofs.Common.{◌≡◌, ℕ, Bool, true, false, List, [], sym, refl, ap, ◌∙◌}
+use Rattle.refusal.specs.declared.Detail.{Detail}
 use Rattle.refusal.specs.declared.Detail.TheVariants as detail
 use Rattle.std.specs.Prelude.{Result, Ok, Err}
 use Rattle.refusal.specs.declared.Refusal.{Refusal}
@@ -9,8 +10,8 @@ use Rattle.cells.specs.Buffer.{Buffer}
 use Rattle.cells.specs.Lent.{held, Becomes}
 use Rattle.cells.proofs.LentLaws.{becomes-is}
 use Rattle.cells.specs.Writes.{written_all}
-use Rattle.cells.specs.Effect.{Effect, writing, MemoryDone}
-use Rattle.cells.proofs.EffectLaws.{unless-refused, unless-passed, memory-refused, found-refused, none-passed}
+use Rattle.cells.specs.Effect.{Effect, refused, writing, MemoryDone}
+use Rattle.cells.proofs.EffectLaws.{unless-refused, unless-passed, memory-refused, found-refused, none-passed, nothing_written}
 use Rattle.staging.specs.declared.Layout.{Layout}
 use Rattle.scatter_pairs.specs.declared.Rule.TheVariants as rule
 use Rattle.scatter_pairs.specs.declared.Pairs.{Pairs}
@@ -18,6 +19,11 @@ use Rattle.scatter_effect.specs.Scatter.{Window}
 use Rattle.scatter_pairs.specs.Mirror.Search.{first_breaking, some_tainted}
 use Rattle.scatter_writes.specs.Mirror.Writes.{all_writes}
 use Rattle.scatter.specs.Mirror.FromRoom.{room_effect}
+
+-- a refusal's number, what it tells, and a memory that stays as it was
+pub refusal-done : (e : Effect) (n : ℕ) (d : Detail) (b : Buffer) → e ≡ refused n d → (n ≡ e.number) × (d ≡ e.detail) × (b ≡ written_all e.memory b)
+refusal-done e n d b is =
+    (sym (ap (λ (x : Effect). x.number) is), sym (ap (λ (x : Effect). x.detail) is), sym (ap (λ (x : Effect). written_all x.memory b) is ∙ nothing_written b))
 
 pub same-done : (e f : Effect) (r : Result (Unit {0}) Refusal) (b b' : lent.Buffer) → e ≡ f → MemoryDone e r b b' → MemoryDone f r b b'
 same-done e f r b b' is a =

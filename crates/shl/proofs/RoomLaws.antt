@@ -1,14 +1,15 @@
 -- A lane worked out from the room, where both sources are staged and fit, is the lane worked out from the registers.
 use Prim.Native.Nat.{ℕ, ◌≤◌, ◌<◌}
 use mathlib.Core.Path.{◌≡◌, ap, ap₂}
-use mathlib.Core.Bool.{true}
+use mathlib.Core.Bool.{Bool, true, ◌&&◌}
 use native.Mathlib.Omega.{arith}
 use lib.Dec.{leb}
 use lib.ListN.{get_or}
 use borrow.Author.Tests.{leb-true}
 use Rattle.cells.specs.Buffer.{Buffer, mark_of}
 use Rattle.cells.specs.Writes.{number_writes}
-use Rattle.exec_byte.specs.Exec.{exec_size}
+use Rattle.exec_byte.specs.Exec.{exec_size, exec_of}
+use Rattle.exec_byte.specs.declared.Exec.{Exec}
 use Rattle.shift.proofs.ShiftLaws.{total-is}
 use Rattle.plan.specs.Plan.{Plan}
 use Rattle.staging.specs.Sources.{element_value}
@@ -19,6 +20,11 @@ use Rattle.shl.specs.declared.Shape.{Shape}
 use Rattle.shl_effect.specs.Shl.{shl_value, shl_mark, shl_lane}
 use Rattle.shl.specs.Mirror.FromRoom.{shape_of, room_value, room_writes, room_lane}
 use Rattle.shl.specs.Mirror.Guarded.{shl_fits}
+
+-- the test as code asks it
+pub fits_told : (p : Plan) (exec : Exec) (l r : Bool) → exec ≡ exec_of p.control.exec → l ≡ elements_fit 4 p.left exec.size → r ≡ elements_fit 4 p.right exec.size → (l && r && leb p.payload.size 4) ≡ shl_fits p
+unfolding shl_fits
+fits_told p exec l r e f g = rw (f, g, e)
 
 module _ (p : Plan) (fit : shl_fits p ≡ true) where
   parts : (elements_fit 4 p.left (exec_size p.control.exec) ≡ true) × (elements_fit 4 p.right (exec_size p.control.exec) ≡ true) × (leb p.payload.size 4 ≡ true)

@@ -1,8 +1,16 @@
--- Answers to reading a text that are the same, and those that never are.
-use mathlib.Core.Path.{◌≡◌, ap}
+-- What reading a text and encoding what it says come to: an encoding, no room for it, or no line; and answers that are the same, and those that never are.
+use mathlib.Core.Path.{◌≡◌, refl, ap}
+use mathlib.Core.List.{List}
 use Prim.Native.Nat.{ℕ}
 use native.Mathlib.Omega.{arith}
-use Rattle.text.specs.Assembling.{Assembly, wrote, refused as not-read}
+use lib.ListN.{length}
+use Rattle.reader.specs.Reply.{refused, done}
+use Rattle.decoder.specs.declared.Instruction.{Instruction}
+use Rattle.encoder.specs.Encoding.{encoded_in, encoded_into}
+use Rattle.lines.specs.Reading.{is_line, no_line, reading_of}
+use Rattle.text.specs.Assembling.{Assembly, wrote, refused as not-read, assembled_in, assembled_into}
+
+-- ---- answers that are the same, and those that never are
 
 pub same_count : (n k : ℕ) → wrote n ≡ wrote k → n ≡ k
 same_count n k e = ap count e
@@ -28,3 +36,18 @@ wrote-not-refused m n c e = absurd (let z : ◌≡◌ {A = ℕ} 0 1 = ap is e in
     is : Assembly → ℕ
     is (wrote m) = 0
     is (not-read m x) = 1
+
+-- ---- the three answers
+
+module _ (t l : List ℕ) where
+  pub line-encoded : (i : Instruction) (n : ℕ) (m : List ℕ) → is_line i ≡ reading_of t → done n ≡ encoded_in (length l) i → m ≡ encoded_into l i → (wrote n ≡ assembled_in (length l) t) × (m ≡ assembled_into l t)
+  unfolding assembled_in assembled_into
+  line-encoded i n m p q e = rw (← p, ← q) (refl, e)
+
+  pub line_refused : (i : Instruction) (n : ℕ) (m : List ℕ) → is_line i ≡ reading_of t → refused n ≡ encoded_in (length l) i → m ≡ encoded_into l i → (not-read n 0 ≡ assembled_in (length l) t) × (m ≡ assembled_into l t)
+  unfolding assembled_in assembled_into
+  line_refused i n m p q e = rw (← p, ← q) (refl, e)
+
+  pub no_line_lem : (column : ℕ) → no_line column ≡ reading_of t → (not-read 16 column ≡ assembled_in (length l) t) × (l ≡ assembled_into l t)
+  unfolding assembled_in assembled_into
+  no_line_lem column p = rw (← p) (refl, refl)
