@@ -1,13 +1,17 @@
 -- What performing a plan that fits leaves: what the executor of its operation left.
 use mathlib.Core.Path.{◌≡◌, refl, sym, ap, subst, ◌∙◌}
 use mathlib.Core.Bool.{true}
+use mathlib.Core.List.{[]}
+use Prim.Native.Nat.{◌≤◌}
+use native.Mathlib.Omega.{arith}
 use lib.ListN.{length}
 use Rattle.std.specs.Prelude.{Result}
+use Rattle.refusal.specs.declared.Detail.TheVariants as detail
 use Rattle.refusal.specs.declared.Refusal.{Refusal}
 use Rattle.refusal.specs.Numbers.{number_given, detail_given}
 use Rattle.cells.specs.Buffer.{Buffer}
 use Rattle.cells.specs.Writes.{written_all}
-use Rattle.cells.specs.Effect.{Effect}
+use Rattle.cells.specs.Effect.{Effect, refused}
 use Rattle.plan.specs.declared.Plan as code
 use Rattle.plan.specs.declared.Operation.TheVariants as left
 use Rattle.plan.specs.Plan.{Plan}
@@ -89,3 +93,11 @@ module _ (k : Constants) (q : code.Plan) (s : State) (fits : Fits (plan_of q)) w
       performs (scatter_guarded window k.mask p s.registers) r s.registers m (g ∙ sym (acts _ o)) done.0 done.1
       (sym (unwritten _ _ (ap (λ (e : Effect). e.registers) g ∙ scatter-spares-registers window p (lanes_on k.mask p) s.registers)))
       done.2
+
+-- an accepted plan of no operation is refused with 9, and nothing is written
+pub none-performs : (k : Constants) (p : Plan) (s : State) → Fits p → p.number ≤ 0 → p.operation ≡ operation.Refused →
+    (9 ≡ (plan_effect k p s).number) × (detail.None ≡ (plan_effect k p s).detail) × (s ≡ after (plan_effect k p s) s)
+unfolding plan_effect acted
+none-performs k p s fits accepted is =
+    let e : plan_effect k p s ≡ refused 9 detail.None = plan-passes p _ (omega arith) ∙ ap (λ (o : Operation). acted k o p s) is in
+    (sym (ap (λ (x : Effect). x.number) e), sym (ap (λ (x : Effect). x.detail) e), sym (ap (λ (x : Effect). after x s) e ∙ (λ i. record { registers = unwritten [] s.registers refl i; surfaces = s.surfaces; memory = unwritten [] s.memory refl i })))
