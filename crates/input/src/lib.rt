@@ -14,7 +14,8 @@ use std::io;
 use std::io::Read;
 use tally::{ContentBuffers, TableBuffers};
 
-// What a read answers: a number of bytes, the end of the input, or that it failed.
+// What a read answers: a number of bytes, the end of the input, or that it failed. An enum of its own: what is said of calls goes by its cases
+// (`on_answer`).
 #[derive(Clone, Copy)]
 enum Answer {
     Bytes(usize),
