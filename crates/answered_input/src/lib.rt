@@ -31,7 +31,7 @@ fn stopped_at(read: Result<State, Unended>) -> State
 }
 
 // The answer to a case, to the output buffer's start, and how many bytes it has; none if the input was not read to its end. A flag, since
-// `ended_output` is over one.
+// `ended_output` is over one, beside what `answering::answer` takes.
 fn answer_ended(
     ended: bool,
     case: Case,
